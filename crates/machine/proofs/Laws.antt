@@ -1,0 +1,154 @@
+-- What document 01 says of distance and hops, as theorems about the definitions.
+use Prim.Native.Nat.{ℕ, zero, suc, _+_, _≤_, _<_}
+use mathlib.Core.Bool.{Bool, true, false, false≢true, cond, not, _&&_}
+use mathlib.Core.Path.{_≡_, refl, sym, ap, _∙_}
+use mathlib.Core.Logic.{_⊎_, ⊎-elim}
+use native.Mathlib.Omega.{arith}
+use lib.Dec.{leb, lit≤}
+use borrow.Author.Tests.{eqb-true, eqb-false, le-leb, leb-true}
+use Rattle.theory.proofs.Bools.{and-true}
+use Rattle.machine.specs.declared.shape.Shape.{Shape}
+use Rattle.machine.specs.declared.shape.Coords.{Coords}
+use Rattle.machine.specs.declared.shape.Dim.{Dim}
+use Rattle.machine.specs.declared.shape.Dim.the-variants.{X, Y, Z}
+use Rattle.machine.specs.Shape.{shapeError, nodeCount, numberOf, coordsOf, extentOf, coordOf, wrappedIn, put}
+use Rattle.machine.specs.Hop.{dirDim, dirPlus, plusDir, minusDir, halfRingDir, opposite, part, distance, link, neighbour, useful, toward, same, firstDirection}
+use Rattle.machine.specs.ByCoords.{linkAlong, movedAlong, movedAt}
+use Rattle.machine.proofs.Numbers.{number-coords, inside}
+use Rattle.machine.proofs.AxisLaws.{axis-symmetric, axis-zero, axis-self, axis-some, back-place, back-link}
+use Rattle.machine.proofs.ByCoords.{inside-at, along-small, neighbour-coords, plus-of, minus-of}
+
+pub useful-link : (s : Shape) (n t dir : ℕ) → useful s n t dir ≡ true → link s n dir ≡ true
+unfolding useful
+useful-link s n t dir e = and-true (link s n dir) _ e .0
+
+-- a useful hop lowers the distance by exactly one
+pub useful-lowers : (s : Shape) (n t dir : ℕ) → useful s n t dir ≡ true → distance s (neighbour s n dir) t + 1 ≡ distance s n t
+unfolding useful
+useful-lowers s n t dir e = eqb-true _ _ (and-true (link s n dir) _ e .1)
+
+pub distance-symmetric : (s : Shape) (n t : ℕ) → distance s n t ≡ distance s t n
+unfolding distance
+distance-symmetric s n t = rw (one X, one Y, one Z)
+  where
+    one : (d : Dim) → part s n t d ≡ part s t n d
+    one d = axis-symmetric (extentOf s d) (wrappedIn s d) (coordOf (coordsOf s n) d) (coordOf (coordsOf s t) d)
+
+pub distance-self : (s : Shape) (n : ℕ) → distance s n n ≡ 0
+unfolding distance
+distance-self s n = rw (one X, one Y, one Z)
+  where
+    one : (d : Dim) → part s n n d ≡ 0
+    one d = axis-self (extentOf s d) (wrappedIn s d) (coordOf (coordsOf s n) d)
+
+same-coords : (c t : Coords) → ((d : Dim) → coordOf c d ≡ coordOf t d) → c ≡ t
+same-coords c t e = λ i. record { x = e X i; y = e Y i; z = e Z i }
+
+module _ (s : Shape) (h : shapeError s ≡ 0) (n t : ℕ) (hn : n < nodeCount s) (ht : t < nodeCount s) where
+  pub distance-most : distance s n t ≤ 45
+  unfolding distance
+  distance-most =
+      let i = inside s h n hn in
+      let j = inside s h t ht in
+      omega (arith, along-small s h (coordsOf s n) (coordsOf s t) i j X, along-small s h (coordsOf s n) (coordsOf s t) i j Y, along-small s h (coordsOf s n) (coordsOf s t) i j Z)
+
+  pub same-node : ((d : Dim) → coordOf (coordsOf s n) d ≡ coordOf (coordsOf s t) d) → n ≡ t
+  same-node e = sym (number-coords s h n) ∙ ap (numberOf s) (same-coords (coordsOf s n) (coordsOf s t) e) ∙ number-coords s h t
+
+  pub distance-zero : distance s n t ≡ 0 → n ≡ t
+  unfolding distance
+  distance-zero e = same-node one
+    where
+      none : (d : Dim) → part s n t d ≡ 0
+      none X = omega arith
+      none Y = omega arith
+      none Z = omega arith
+
+      one : (d : Dim) → coordOf (coordsOf s n) d ≡ coordOf (coordsOf s t) d
+      one d = axis-zero (extentOf s d) (wrappedIn s d) _ _ (inside-at s _ (inside s h n hn) d) (inside-at s _ (inside s h t ht) d) (none d)
+
+  -- ---- a dimension where the coordinates differ has a useful direction
+  some-useful : (d : Dim) → same s n t d ≡ false → (useful s n t (plusDir d) ≡ true) ⊎ (useful s n t (minusDir d) ≡ true)
+  some-useful d e =
+      rw (plus-of s h n hn t d, minus-of s h n hn t d)
+      (axis-some (extentOf s d) (wrappedIn s d) _ _ (inside-at s _ (inside s h n hn) d) (inside-at s _ (inside s h t ht) d) (eqb-false _ _ e))
+
+  -- In the useful direction of that dimension; where both are useful, at half a ring, in either.
+  way-useful : (d : Dim) (p m : Bool) → useful s n t (plusDir d) ≡ p → useful s n t (minusDir d) ≡ m → (p ≡ true) ⊎ (m ≡ true) → useful s n t (cond (p && m) (halfRingDir d) (cond p (plusDir d) (minusDir d))) ≡ true
+  way-useful d true true ep em some = ep
+  way-useful d true false ep em some = ep
+  way-useful d false m ep em some = ⊎-elim (λ u. absurd (false≢true u)) (λ u. em ∙ u) some
+
+  toward-useful : (d : Dim) → same s n t d ≡ false → useful s n t (toward s n t d) ≡ true
+  unfolding toward
+  toward-useful d e = way-useful d (useful s n t (plusDir d)) (useful s n t (minusDir d)) refl refl (some-useful d e)
+
+  -- toward another node the deterministic direction is useful, so some direction is
+  pub first-useful : (n ≡ t → ⊥) → useful s n t (firstDirection s n t) ≡ true
+  unfolding firstDirection
+  first-useful ne = go (same s n t X) (same s n t Y) (same s n t Z) refl refl refl
+    where
+      go : (a b c : Bool) → same s n t X ≡ a → same s n t Y ≡ b → same s n t Z ≡ c → useful s n t (cond (not a) (toward s n t X) (cond (not b) (toward s n t Y) (cond (not c) (toward s n t Z) 6))) ≡ true
+      go false b c ea eb ec = toward-useful X ea
+      go true false c ea eb ec = toward-useful Y eb
+      go true true false ea eb ec = toward-useful Z ec
+      go true true true ea eb ec = absurd (ne (same-node all))
+        where
+          all : (d : Dim) → coordOf (coordsOf s n) d ≡ coordOf (coordsOf s t) d
+          all X = eqb-true _ _ ea
+          all Y = eqb-true _ _ eb
+          all Z = eqb-true _ _ ec
+
+-- ---- back over the same link
+opposite-is : (dir : ℕ) → dir ≤ 5 → (opposite dir ≤ 5) × (dirDim (opposite dir) ≡ dirDim dir) × (dirPlus (opposite dir) ≡ not (dirPlus dir))
+unfolding opposite dirDim
+opposite-is zero h = (lit≤ tt, refl, refl)
+opposite-is (suc zero) h = (lit≤ tt, refl, refl)
+opposite-is (suc (suc zero)) h = (lit≤ tt, refl, refl)
+opposite-is (suc (suc (suc zero))) h = (lit≤ tt, refl, refl)
+opposite-is (suc (suc (suc (suc zero)))) h = (lit≤ tt, refl, refl)
+opposite-is (suc (suc (suc (suc (suc zero))))) h = (lit≤ tt, refl, refl)
+opposite-is (suc (suc (suc (suc (suc (suc n)))))) h = absurd (omega arith)
+
+put-at : (c : Coords) (d : Dim) (v : ℕ) → coordOf (put c d v) d ≡ v
+put-at c X v = refl
+put-at c Y v = refl
+put-at c Z v = refl
+
+put-back : (c : Coords) (d : Dim) (v : ℕ) → put (put c d v) d (coordOf c d) ≡ c
+put-back c X v = refl
+put-back c Y v = refl
+put-back c Z v = refl
+
+neighbour-from : (s : Shape) (n dir : ℕ) → neighbour s n dir ≡ numberOf s (movedAlong s (coordsOf s n) (dirDim dir) (dirPlus dir))
+unfolding neighbour
+neighbour-from s n dir = refl
+
+module _ (s : Shape) (h : shapeError s ≡ 0) (n dir : ℕ) (hn : n < nodeCount s) (l : link s n dir ≡ true) where
+  low : dir ≤ 5
+  unfolding link
+  low = leb-true dir 5 (and-true (leb dir 5) _ l .0)
+
+  held : linkAlong s (coordsOf s n) (dirDim dir) (dirPlus dir) ≡ true
+  unfolding link
+  held = and-true (leb dir 5) _ l .1
+
+  pub link-back : link s (neighbour s n dir) (opposite dir) ≡ true
+  unfolding link movedAt
+  link-back =
+      let o = opposite-is dir low in
+      let d = dirDim dir in
+      rw (neighbour-coords s h n hn dir, o .1, o .2, le-leb (opposite dir) 5 (o .0), put-at (coordsOf s n) d _)
+      (back-link (extentOf s d) (wrappedIn s d) _ (dirPlus dir) (inside-at s _ (inside s h n hn) d) held)
+
+  back-coords : movedAlong s (movedAlong s (coordsOf s n) (dirDim dir) (dirPlus dir)) (dirDim dir) (not (dirPlus dir)) ≡ coordsOf s n
+  back-coords =
+      let d = dirDim dir in
+      rw (put-at (coordsOf s n) d _, back-place (extentOf s d) (coordOf (coordsOf s n) d) (dirPlus dir) (inside-at s _ (inside s h n hn) d))
+      (put-back (coordsOf s n) d _)
+
+  pub neighbour-back : neighbour s (neighbour s n dir) (opposite dir) ≡ n
+  unfolding movedAt
+  neighbour-back =
+      let o = opposite-is dir low in
+      neighbour-from s (neighbour s n dir) (opposite dir) ∙ rw (neighbour-coords s h n hn dir, o .1, o .2, back-coords) (number-coords s h n)

@@ -1,0 +1,37 @@
+use native.Mathlib.Omega.{arith}
+use borrow.Author.Needs.{needs}
+use Rattle.machine.proofs.hop.distance_along.Statement.{statement}
+use Rattle.machine.proofs.hop.distance_along.Tie as tie
+
+extent-requires : tie.Need-extent-requires
+extent-requires c κs = search needs
+
+wrapped-requires : tie.Need-wrapped-requires
+wrapped-requires c κs = search needs
+
+coord-requires : tie.Need-coord-requires
+coord-requires c κs = search needs
+
+coord-requires-2 : tie.Need-coord-requires-2
+coord-requires-2 c κs = search needs
+
+distance-requires : tie.Need-distance-requires
+distance-requires c κs = search needs
+
+cast-result : tie.Need-cast-result
+cast-result c = search needs
+
+returns : tie.Need-returns
+returns c = (cc, omega arith)
+
+pub distance-along-spec : {M : Type 1} → statement M
+distance-along-spec =
+    tie.close
+    (tie.spec
+    extent-requires
+    wrapped-requires
+    coord-requires
+    coord-requires-2
+    distance-requires
+    cast-result
+    returns)

@@ -1,0 +1,26 @@
+use Rattle.theory.proofs.Checks.{then-cond}
+use Rattle.machine.specs.Shape.{badExtents, badWraps, shapeError}
+use borrow.Author.Needs.{needs}
+use Rattle.machine.proofs.shape.shape_error.Statement.{statement}
+use Rattle.machine.proofs.shape.shape_error.Tie as tie
+
+bad-extents-requires : tie.Need-bad-extents-requires
+bad-extents-requires c κs = search needs
+
+bad-wraps-requires : tie.Need-bad-wraps-requires
+bad-wraps-requires c κs = search needs
+
+pick-requires : tie.Need-pick-requires
+pick-requires c κs = search needs
+
+pick-requires-2 : tie.Need-pick-requires-2
+pick-requires-2 c κs = search needs
+
+returns : tie.Need-returns
+unfolding shapeError
+returns c = rw (then-cond (badExtents _) 4 _, then-cond (badWraps _) 5 _) (cc)
+
+pub shape-error-spec : {M : Type 1} → statement M
+shape-error-spec =
+    tie.close
+    (tie.spec bad-extents-requires bad-wraps-requires pick-requires pick-requires-2 returns)

@@ -1,0 +1,79 @@
+-- Directions, links, distance and useful hops, of nodes by their numbers.
+use Prim.Native.Nat.{ℕ, _+_, _-_, _%_}
+use mathlib.Core.Bool.{Bool, true, false, cond, not, _&&_}
+use lib.Dec.{ltb, leb, eqb}
+use Rattle.machine.specs.declared.shape.Shape.{Shape}
+use Rattle.machine.specs.declared.shape.Dim.{Dim}
+use Rattle.machine.specs.declared.shape.Dim.the-variants.{X, Y, Z}
+use Rattle.machine.specs.Shape.{extentOf, wrappedIn, coordOf, put, numberOf, coordsOf}
+use Rattle.machine.specs.Axis.{axisDistance, hasLink, place}
+
+-- Directions: 0 X+, 1 X-, 2 Y+, 3 Y-, 4 Z+, 5 Z-.
+abbrev pub plusDir : Dim → ℕ
+plusDir X = 0
+plusDir Y = 2
+plusDir Z = 4
+
+abbrev pub minusDir : Dim → ℕ
+minusDir X = 1
+minusDir Y = 3
+minusDir Z = 5
+
+abbrev pub pickDim : Bool → Dim → Dim → Dim
+pickDim true a b = a
+pickDim false a b = b
+
+unfoldable pub dirDim : ℕ → Dim
+dirDim dir = pickDim (ltb dir 2) X (pickDim (ltb dir 4) Y Z)
+
+abbrev pub dirPlus : ℕ → Bool
+dirPlus dir = eqb (dir % 2) 0
+
+-- The direction back over the same link.
+unfoldable pub opposite : ℕ → ℕ
+opposite dir = cond (dirPlus dir) (dir + 1) (dir - 1)
+
+-- The coordinate of node n in dimension d.
+abbrev pub along : Shape → ℕ → Dim → ℕ
+along s n d = coordOf (coordsOf s n) d
+
+-- A link leaves node n in this direction.
+unfoldable pub link : Shape → ℕ → ℕ → Bool
+link s n dir =
+    let d = dirDim dir in
+    leb dir 5 && hasLink (extentOf s d) (wrappedIn s d) (along s n d) (dirPlus dir)
+
+-- The node at the other end of that link.
+unfoldable pub neighbour : Shape → ℕ → ℕ → ℕ
+neighbour s n dir =
+    let d = dirDim dir in
+    numberOf s (put (coordsOf s n) d (place (extentOf s d) (along s n d) (dirPlus dir)))
+
+-- Distance: the sum over dimensions.
+abbrev pub part : Shape → ℕ → ℕ → Dim → ℕ
+part s n t d = axisDistance (extentOf s d) (wrappedIn s d) (along s n d) (along s t d)
+
+unfoldable pub distance : Shape → ℕ → ℕ → ℕ
+distance s n t = part s n t X + part s n t Y + part s n t Z
+
+-- A hop is useful toward a target if it lowers the distance by one.
+unfoldable pub useful : Shape → ℕ → ℕ → ℕ → Bool
+useful s n t dir = link s n dir && eqb (distance s (neighbour s n dir) t + 1) (distance s n t)
+
+-- At half a ring a deterministic leg goes plus.
+abbrev pub halfRingDir : Dim → ℕ
+halfRingDir d = plusDir d
+
+-- In the useful direction of a dimension; at exactly half of a wrapped ring both directions are useful.
+unfoldable pub toward : Shape → ℕ → ℕ → Dim → ℕ
+toward s n t d =
+    let plus = useful s n t (plusDir d) in
+    cond (plus && useful s n t (minusDir d)) (halfRingDir d) (cond plus (plusDir d) (minusDir d))
+
+abbrev pub same : Shape → ℕ → ℕ → Dim → Bool
+same s n t d = eqb (along s n d) (along s t d)
+
+-- A deterministic leg takes the first dimension of X, Y, Z where the coordinates differ; 6, no direction, where none does.
+unfoldable pub firstDirection : Shape → ℕ → ℕ → ℕ
+firstDirection s n t =
+    cond (not (same s n t X)) (toward s n t X) (cond (not (same s n t Y)) (toward s n t Y) (cond (not (same s n t Z)) (toward s n t Z) 6))

@@ -1,0 +1,37 @@
+-- What is answered of nodes, for every shape and every number.
+use Prim.Native.Nat.{ℕ}
+use mathlib.Core.Bool.{Bool, cond, _&&_}
+use lib.Dec.{ltb, eqb}
+use Rattle.machine.specs.declared.shape.Shape.{Shape}
+use Rattle.machine.specs.declared.shape.Coords.{Coords}
+use Rattle.machine.specs.Shape.{shapeError, nodeCount, coordsOf}
+use Rattle.machine.specs.Hop.{distance, link, neighbour, useful, firstDirection}
+
+-- The number is a node's, of a shape that no check declines.
+unfoldable pub isNode : Shape → ℕ → Bool
+isNode s n = eqb (shapeError s) 0 && ltb n (nodeCount s)
+
+unfoldable pub arePair : Shape → ℕ → ℕ → Bool
+arePair s n t = isNode s n && isNode s t
+
+abbrev pub countAnswer : Shape → ℕ
+countAnswer s = cond (eqb (shapeError s) 0) (nodeCount s) 0
+
+abbrev pub coordsAnswer : Shape → ℕ → Coords
+coordsAnswer s n = cond (isNode s n) (coordsOf s n) (record { x = 0; y = 0; z = 0 })
+
+abbrev pub distanceAnswer : Shape → ℕ → ℕ → ℕ
+distanceAnswer s n t = cond (arePair s n t) (distance s n t) 0
+
+abbrev pub linkAnswer : Shape → ℕ → ℕ → Bool
+linkAnswer s n dir = isNode s n && link s n dir
+
+abbrev pub neighbourAnswer : Shape → ℕ → ℕ → ℕ
+neighbourAnswer s n dir = cond (isNode s n) (neighbour s n dir) 0
+
+abbrev pub usefulAnswer : Shape → ℕ → ℕ → ℕ → Bool
+usefulAnswer s n t dir = arePair s n t && useful s n t dir
+
+-- 6, no direction, where there is no such pair.
+abbrev pub directionAnswer : Shape → ℕ → ℕ → ℕ
+directionAnswer s n t = cond (arePair s n t) (firstDirection s n t) 6

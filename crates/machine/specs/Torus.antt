@@ -1,0 +1,26 @@
+-- The machine of document 01 as a machine of the theory: directions that a leg's mode allows, hops by distance.
+use Prim.Native.Nat.{ℕ}
+use mathlib.Core.Bool.{Bool, _&&_}
+use lib.Dec.{leb, eqb}
+use Rattle.theory.specs.Machine.{Machine}
+use Rattle.machine.specs.declared.shape.Shape.{Shape}
+use Rattle.machine.specs.declared.leg.Mode.{Mode}
+use Rattle.machine.specs.declared.leg.Mode.the-variants.{Adaptive, Deterministic}
+use Rattle.machine.specs.declared.leg.Leg.{Leg}
+use Rattle.machine.specs.Shape.{nodeCount}
+use Rattle.machine.specs.Hop.{distance, neighbour, useful, firstDirection}
+
+-- An adaptive leg may take any useful hop at each node, a deterministic leg its one direction.
+unfoldable pub allowedBy : Mode → Shape → ℕ → ℕ → ℕ → Bool
+allowedBy Adaptive s n t dir = useful s n t dir
+allowedBy Deterministic s n t dir = leb dir 5 && eqb dir (firstDirection s n t)
+
+abbrev pub torus : Shape → Machine Leg
+torus s = record {
+  size = nodeCount s;
+  ways = 6;
+  next = neighbour s;
+  hops = distance s;
+  target = λ l. l .target;
+  allowed = λ l n dir. allowedBy (l .mode) s n (l .target) dir;
+}

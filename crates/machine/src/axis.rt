@@ -1,0 +1,66 @@
+// One dimension: `len` places from 0 on, a ring (wrapped) or open. Defined for all numbers, also for places that do not exist.
+use logic::both;
+use logic::either;
+ghost use mathlib.Core.Path.{_≡_};
+ghost use Prim.Native.Nat.{_≤_, _<_};
+ghost use Rattle.machine.specs.Axis.{gap, axisDistance, hasLink, place, axisUseful};
+
+fn difference(p: u8, q: u8) -> u8
+    ensures { λ r. ⌜ r ≡ gap p q ⌝ }
+{
+    if p < q { q - p } else { p - q }
+}
+
+// The distance of two places.
+pub fn distance(len: u8, ring: bool, p: u8, q: u8) -> u8
+    ensures { λ r. ⌜ r ≡ axisDistance len ring p q ⌝ }
+{
+    let d = difference(p, q);
+    if !ring {
+        return d;
+    }
+    if len <= d {
+        return 0;
+    }
+    if len - d < d { len - d } else { d }
+}
+
+// Whether a link leaves the place p, plus or minus.
+pub fn has_link(len: u8, ring: bool, p: u8, plus: bool) -> bool
+    ensures { λ r. ⌜ r ≡ hasLink len ring p plus ⌝ }
+{
+    if plus {
+        either(ring, (p as u16) + 1 < (len as u16))
+    } else {
+        either(ring, 0 < p)
+    }
+}
+
+// The place on the other side of that link.
+pub fn next_place(len: u8, p: u8, plus: bool) -> u8
+    ensures { λ r. ⌜ r ≡ place len p plus ⌝ }
+{
+    if plus {
+        if (p as u16) + 1 < (len as u16) {
+            p + 1
+        } else {
+            0
+        }
+    } else if 0 < p {
+        p - 1
+    } else if 0 < len {
+        len - 1
+    } else {
+        0
+    }
+}
+
+// Whether the hop from p, plus or minus, is useful toward q.
+pub fn useful(len: u8, ring: bool, p: u8, q: u8, plus: bool) -> bool
+    ensures { λ r. ⌜ r ≡ axisUseful len ring p q plus ⌝ }
+{
+    let next = next_place(len, p, plus);
+    let after = distance(len, ring, next, q) as u16;
+    let before = distance(len, ring, p, q) as u16;
+    both(has_link(len, ring, p, plus), after + 1 == before)
+}

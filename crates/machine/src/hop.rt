@@ -1,0 +1,182 @@
+// Hops by coordinates: from the place `at` toward the place `to`. Defined for all coordinates, also for those outside the shape.
+use crate::axis;
+use crate::leg::Mode;
+use crate::shape::Coords;
+use crate::shape::Dim;
+use crate::shape::Shape;
+use crate::shape::coord;
+use crate::shape::extent;
+use crate::shape::with_coord;
+use crate::shape::wrapped;
+use logic::both;
+use logic::pick;
+ghost use mathlib.Core.Path.{_≡_};
+ghost use Prim.Native.Nat.{_+_, _*_, _%_, _≤_, _<_};
+ghost use Rattle.machine.specs.Shape.{numberOf};
+ghost use Rattle.machine.specs.Hop.{dirDim, dirPlus, plusDir, minusDir, halfRingDir};
+ghost use Rattle.machine.specs.ByCoords.{distanceAlong, usefulAlong, distanceAt, linkAt, movedAt, usefulAt, towardAt, firstAt, allowedAt};
+
+fn dim_of(dir: u8) -> Dim
+    ensures { λ r. ⌜ r ≡ dirDim dir ⌝ }
+{
+    if dir < 2 {
+        Dim::X
+    } else if dir < 4 {
+        Dim::Y
+    } else {
+        Dim::Z
+    }
+}
+
+fn is_plus(dir: u8) -> bool
+    ensures { λ r. ⌜ r ≡ dirPlus dir ⌝ }
+{
+    dir % 2 == 0
+}
+
+fn plus_dir(d: Dim) -> u8
+    ensures { λ r. ⌜ r ≡ plusDir d ⌝ }
+{
+    match d {
+        Dim::X => 0,
+        Dim::Y => 2,
+        Dim::Z => 4,
+    }
+}
+
+fn minus_dir(d: Dim) -> u8
+    ensures { λ r. ⌜ r ≡ minusDir d ⌝ }
+{
+    match d {
+        Dim::X => 1,
+        Dim::Y => 3,
+        Dim::Z => 5,
+    }
+}
+
+// The way that a deterministic leg goes at half a ring.
+fn half_ring_dir(d: Dim) -> u8
+    ensures { λ r. ⌜ r ≡ halfRingDir d ⌝ }
+{
+    plus_dir(d)
+}
+
+// The node number of coordinates, of any size: modulo 65,536.
+pub fn number_at(shape: Shape, c: Coords) -> u16
+    ensures { λ r. ⌜ r ≡ numberOf shape c % 65536 ⌝ }
+{
+    let a = shape.x as u32;
+    let b = shape.y as u32;
+    let x = c.x as u32;
+    let y = c.y as u32;
+    let z = c.z as u32;
+    ((x + a * (y + b * z)) % 65536) as u16
+}
+
+fn distance_along(shape: Shape, at: Coords, to: Coords, d: Dim) -> u16
+    ensures { λ r. ⌜ r ≡ distanceAlong shape at to d ⌝ }
+    ensures { λ r. ⌜ r < 256 ⌝ }
+{
+    axis::distance(
+        extent(shape, d),
+        wrapped(shape, d),
+        coord(at, d),
+        coord(to, d),
+    ) as u16
+}
+
+pub fn distance_at(shape: Shape, at: Coords, to: Coords) -> u16
+    ensures { λ r. ⌜ r ≡ distanceAt shape at to ⌝ }
+{
+    distance_along(shape, at, to, Dim::X)
+        + distance_along(shape, at, to, Dim::Y)
+        + distance_along(shape, at, to, Dim::Z)
+}
+
+// Whether a link leaves that place in a direction.
+pub fn link_at(shape: Shape, at: Coords, dir: u8) -> bool
+    ensures { λ r. ⌜ r ≡ linkAt shape at dir ⌝ }
+{
+    let d = dim_of(dir);
+    both(
+        dir <= 5,
+        axis::has_link(
+            extent(shape, d),
+            wrapped(shape, d),
+            coord(at, d),
+            is_plus(dir),
+        ),
+    )
+}
+
+// The place on the other side of that link.
+pub fn moved_at(shape: Shape, at: Coords, dir: u8) -> Coords
+    ensures { λ r. ⌜ r ≡ movedAt shape at dir ⌝ }
+{
+    let d = dim_of(dir);
+    with_coord(
+        at,
+        d,
+        axis::next_place(extent(shape, d), coord(at, d), is_plus(dir)),
+    )
+}
+
+fn useful_along(shape: Shape, at: Coords, to: Coords, d: Dim, plus: bool) -> bool
+    ensures { λ r. ⌜ r ≡ usefulAlong shape at to d plus ⌝ }
+{
+    axis::useful(
+        extent(shape, d),
+        wrapped(shape, d),
+        coord(at, d),
+        coord(to, d),
+        plus,
+    )
+}
+
+// Whether the hop in a direction is useful.
+pub fn useful_at(shape: Shape, at: Coords, to: Coords, dir: u8) -> bool
+    ensures { λ r. ⌜ r ≡ usefulAt shape at to dir ⌝ }
+{
+    both(
+        dir <= 5,
+        useful_along(shape, at, to, dim_of(dir), is_plus(dir)),
+    )
+}
+
+fn toward_at(shape: Shape, at: Coords, to: Coords, d: Dim) -> u8
+    ensures { λ r. ⌜ r ≡ towardAt shape at to d ⌝ }
+{
+    let plus = useful_along(shape, at, to, d, true);
+    let minus = useful_along(shape, at, to, d, false);
+    pick(
+        both(plus, minus),
+        half_ring_dir(d),
+        pick(plus, plus_dir(d), minus_dir(d)),
+    )
+}
+
+// The direction of a deterministic leg; 6, no direction, where the coordinates are the same.
+pub fn first_at(shape: Shape, at: Coords, to: Coords) -> u8
+    ensures { λ r. ⌜ r ≡ firstAt shape at to ⌝ }
+{
+    if at.x != to.x {
+        return toward_at(shape, at, to, Dim::X);
+    }
+    if at.y != to.y {
+        return toward_at(shape, at, to, Dim::Y);
+    }
+    if at.z != to.z {
+        return toward_at(shape, at, to, Dim::Z);
+    }
+    6
+}
+
+// Whether a leg's mode allows the direction.
+pub fn allowed_at(mode: Mode, shape: Shape, at: Coords, to: Coords, dir: u8) -> bool
+    ensures { λ r. ⌜ r ≡ allowedAt mode shape at to dir ⌝ }
+{
+    match mode {
+        Mode::Adaptive => useful_at(shape, at, to, dir),
+        Mode::Deterministic => both(dir <= 5, dir == first_at(shape, at, to)),
+    }
+}

@@ -1,0 +1,7 @@
+// The machine of document 01: its shape, its nodes and links, distances, useful hops and the legs of a route.
+pub mod axis;
+pub mod hop;
+pub mod leg;
+pub mod node;
+mod number;
+pub mod shape;

@@ -1,0 +1,114 @@
+// Nodes by their numbers. Every call is total: where a check declines the shape, or a node does not exist, the answer is defined too.
+use crate::hop::distance_at;
+use crate::hop::first_at;
+use crate::hop::link_at;
+use crate::hop::moved_at;
+use crate::hop::number_at;
+use crate::hop::useful_at;
+use crate::number::coords_of;
+use crate::number::node_count;
+use crate::shape::Coords;
+use crate::shape::Shape;
+use crate::shape::shape_error;
+ghost use mathlib.Core.Path.{_≡_};
+ghost use Prim.Native.Nat.{_≤_, _<_};
+ghost use Rattle.machine.specs.Node.{isNode, arePair, countAnswer, coordsAnswer, distanceAnswer, linkAnswer, neighbourAnswer, usefulAnswer, directionAnswer};
+
+// The number of nodes; 0 of a shape that a check declines.
+pub fn count(shape: Shape) -> u16
+    ensures { λ r. ⌜ r ≡ countAnswer shape ⌝ }
+{
+    if shape_error(shape) == 0 {
+        node_count(shape)
+    } else {
+        0
+    }
+}
+
+// Whether there is such a node.
+pub fn is_node(shape: Shape, node: u16) -> bool
+    ensures { λ r. ⌜ r ≡ isNode shape node ⌝ }
+{
+    if shape_error(shape) == 0 {
+        node < node_count(shape)
+    } else {
+        false
+    }
+}
+
+fn are_pair(shape: Shape, node: u16, target: u16) -> bool
+    ensures { λ r. ⌜ r ≡ arePair shape node target ⌝ }
+{
+    if is_node(shape, node) {
+        is_node(shape, target)
+    } else {
+        false
+    }
+}
+
+// The coordinates of a node; all 0 where there is no such node.
+pub fn coords(shape: Shape, node: u16) -> Coords
+    ensures { λ r. ⌜ r ≡ coordsAnswer shape node ⌝ }
+{
+    if is_node(shape, node) {
+        coords_of(shape, node)
+    } else {
+        Coords { x: 0, y: 0, z: 0 }
+    }
+}
+
+// The distance of two nodes; 0 where there is no such node.
+pub fn distance(shape: Shape, node: u16, target: u16) -> u8
+    ensures { λ r. ⌜ r ≡ distanceAnswer shape node target ⌝ }
+    ensures { λ r. ⌜ r ≤ 45 ⌝ }
+{
+    if are_pair(shape, node, target) {
+        distance_at(shape, coords_of(shape, node), coords_of(shape, target)) as u8
+    } else {
+        0
+    }
+}
+
+// Whether a link leaves a node in a direction.
+pub fn has_link(shape: Shape, node: u16, dir: u8) -> bool
+    ensures { λ r. ⌜ r ≡ linkAnswer shape node dir ⌝ }
+{
+    if is_node(shape, node) {
+        link_at(shape, coords_of(shape, node), dir)
+    } else {
+        false
+    }
+}
+
+// The node at the other end of that link; 0 where there is no such node.
+pub fn neighbour(shape: Shape, node: u16, dir: u8) -> u16
+    ensures { λ r. ⌜ r ≡ neighbourAnswer shape node dir ⌝ }
+{
+    if is_node(shape, node) {
+        number_at(shape, moved_at(shape, coords_of(shape, node), dir))
+    } else {
+        0
+    }
+}
+
+// Whether the hop in a direction is useful toward a target.
+pub fn useful(shape: Shape, node: u16, target: u16, dir: u8) -> bool
+    ensures { λ r. ⌜ r ≡ usefulAnswer shape node target dir ⌝ }
+{
+    if are_pair(shape, node, target) {
+        useful_at(shape, coords_of(shape, node), coords_of(shape, target), dir)
+    } else {
+        false
+    }
+}
+
+// The direction that a deterministic leg takes; 6 where there is none.
+pub fn direction(shape: Shape, node: u16, target: u16) -> u8
+    ensures { λ r. ⌜ r ≡ directionAnswer shape node target ⌝ }
+{
+    if are_pair(shape, node, target) {
+        first_at(shape, coords_of(shape, node), coords_of(shape, target))
+    } else {
+        6
+    }
+}

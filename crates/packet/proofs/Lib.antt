@@ -1,0 +1,4 @@
+pub mod Stored
+pub mod Drops
+pub mod Courses
+pub mod Walks

@@ -1,0 +1,35 @@
+use Rattle.packet.proofs.Courses.{on-course, packet-of}
+use mathlib.Core.Path.{sym, _∙_}
+use borrow.Author.Tests.{not-true, not-false}
+use Rattle.packet.proofs.Walks.{step-refused, step-hopped, step-stays}
+use Rattle.packet.proofs.Drops.{fine-settled}
+use Rattle.packet.proofs.Stored.{fine-of}
+use borrow.Author.Needs.{needs}
+use Rattle.packet.proofs.packet.Packet.step.Statement.{statement}
+use Rattle.packet.proofs.packet.Packet.step.Tie as tie
+
+check-requires : tie.Need-check-requires
+check-requires c κs = search needs
+
+returns : tie.Need-returns
+returns c = step-refused _ _ _ _ (c .before .check .ensures) (c .if1 .taken)
+
+of-requires : tie.Need-of-requires
+of-requires c κs = fine-of _ _ (sym (c .before .check .ensures) ∙ c .if1 .left)
+
+allows-requires : tie.Need-allows-requires
+allows-requires c κs = rw (c .of .ensures) (on-course _ _ (fine-settled _ _ (fine-of _ _ (sym (c .before .before .check .ensures) ∙ c .before .if1 .left))))
+
+returns-2 : tie.Need-returns-2
+returns-2 c = step-stays _ _ _ _ (fine-of _ _ (sym (c .before .before .before .before .check .ensures) ∙ c .before .before .before .if1 .left)) (packet-of _ _ _ (c .before .before .of .ensures)) (sym (c .before .allows .ensures) ∙ not-true _ (c .if2 .taken))
+
+hop-requires : tie.Need-hop-requires
+hop-requires c κs = rw (c .before .before .of .ensures) (on-course _ _ (fine-settled _ _ (fine-of _ _ (sym (c .before .before .before .before .check .ensures) ∙ c .before .before .before .if1 .left))))
+
+returns-3 : tie.Need-returns-3
+returns-3 c = step-hopped _ _ _ _ (fine-of _ _ (sym (c .before .before .before .before .before .before .check .ensures) ∙ c .before .before .before .before .before .if1 .left)) (packet-of _ _ _ (c .before .before .before .before .of .ensures)) _ (packet-of _ _ _ (c .before .hop .ensures)) (sym (c .before .before .before .allows .ensures) ∙ not-false _ (c .before .before .if2 .left))
+
+pub step-spec : {M : Type 1} → statement M
+step-spec =
+    tie.close
+    (tie.spec check-requires returns of-requires allows-requires returns-2 hop-requires returns-3)

@@ -1,0 +1,15 @@
+use borrow.Author.Tests.{eq-eqb, ne-eqb}
+use Rattle.packet.specs.Steps.{keptOf}
+use Rattle.packet.proofs.stepper.kept.Statement.{statement}
+use Rattle.packet.proofs.stepper.kept.Tie as tie
+
+returns : tie.Need-returns
+unfolding keptOf
+returns c = rw (eq-eqb _ _ (c .if1 .taken))
+
+returns-2 : tie.Need-returns-2
+unfolding keptOf
+returns-2 c = rw (ne-eqb _ _ (c .before .if1 .left))
+
+pub kept-spec : {M : Type 1} → statement M
+kept-spec = tie.close (tie.spec returns returns-2)

@@ -1,0 +1,93 @@
+use borrow.Author.Tests.{not-true, not-false}
+use mathlib.Core.Path.{sym, _∙_}
+use native.Mathlib.Omega.{arith}
+use Prim.Native.Nat.{_-_}
+use lib.ListN.{length}
+use Rattle.packet.proofs.Walks.{Going, begin, has-arrived, used-up, refused, onward}
+use Rattle.packet.proofs.stepper.walk_on.Statement.{statement}
+use Rattle.packet.proofs.stepper.walk_on.Tie as tie
+
+abbrev Inv-loop : tie.InvT-loop
+Inv-loop lent shape dirs course₀ hops₀ course hops = Going shape dirs lent course hops
+
+abbrev μ-loop : tie.MeasureT-loop
+μ-loop lent shape dirs course₀ hops₀ course hops = length dirs - hops
+
+of-requires : tie.Need-of-requires Inv-loop μ-loop
+of-requires c κs = c .before .pre
+
+loop-holds : tie.Need-loop-holds Inv-loop μ-loop
+loop-holds c = rw (c .of .ensures) (begin _ _ _ (c .before .before .pre))
+
+has-arrived-requires : tie.Need-has-arrived-requires Inv-loop μ-loop
+has-arrived-requires c κs = tt
+
+kept-requires : tie.Need-kept-requires Inv-loop μ-loop
+kept-requires c κs = tt
+
+returns : tie.Need-returns Inv-loop μ-loop
+returns c = rw (c .kept .ensures) (has-arrived _ _ _ _ _ (c .before .before .before .before .loop .inv) (sym (c .before .before .has-arrived .ensures) ∙ c .before .if1 .taken))
+
+shared-slice-read-dir : tie.Need-shared-slice-read-dir Inv-loop μ-loop
+shared-slice-read-dir c = omega arith
+
+allows-requires : tie.Need-allows-requires Inv-loop μ-loop
+allows-requires c κs = c .before .before .before .before .loop .inv .on
+
+kept-requires-2 : tie.Need-kept-requires-2 Inv-loop μ-loop
+kept-requires-2 c κs = tt
+
+returns-2 : tie.Need-returns-2 Inv-loop μ-loop
+returns-2 c = rw (c .kept2 .ensures) (refused _ _ _ _ _ (c .before .before .before .before .before .before .before .loop .inv) (c .before .before .before .before .before .before .loop-test .taken) (sym (c .before .before .before .before .before .has-arrived .ensures) ∙ c .before .before .before .before .if1 .left) (sym (c .before .before .allows .ensures) ∙ not-true _ (c .before .if2 .taken)))
+
+hop-requires : tie.Need-hop-requires Inv-loop μ-loop
+hop-requires c κs = c .before .before .before .before .before .before .loop .inv .on
+
+add-hops : tie.Need-add-hops Inv-loop μ-loop
+add-hops c = omega arith
+
+loop-less : tie.Need-loop-less Inv-loop μ-loop
+loop-less c = omega arith
+
+loop-again : tie.Need-loop-again Inv-loop μ-loop
+loop-again c = rw (c .hop .ensures) (onward _ _ _ _ _ (c .before .before .before .before .before .before .before .loop .inv) (c .before .before .before .before .before .before .loop-test .taken) (sym (c .before .before .before .before .before .has-arrived .ensures) ∙ c .before .before .before .before .if1 .left) (sym (c .before .before .allows .ensures) ∙ not-false _ (c .before .if2 .left)))
+
+has-arrived-requires-2 : tie.Need-has-arrived-requires-2 Inv-loop μ-loop
+has-arrived-requires-2 c κs = tt
+
+kept-requires-3 : tie.Need-kept-requires-3 Inv-loop μ-loop
+kept-requires-3 c κs = tt
+
+returns-3 : tie.Need-returns-3 Inv-loop μ-loop
+returns-3 c = rw (c .kept3 .ensures) (has-arrived _ _ _ _ _ (c .before .before .before .before .loop .inv) (sym (c .before .before .has-arrived2 .ensures) ∙ c .before .if3 .taken))
+
+kept-requires-4 : tie.Need-kept-requires-4 Inv-loop μ-loop
+kept-requires-4 c κs = tt
+
+returns-4 : tie.Need-returns-4 Inv-loop μ-loop
+returns-4 c = rw (c .kept4 .ensures) (used-up _ _ _ _ _ (c .before .before .before .before .loop .inv) (c .before .before .before .loop-test .left) (sym (c .before .before .has-arrived2 .ensures) ∙ c .before .if3 .left))
+
+pub walk-on-spec : {M : Type 1} → statement M
+walk-on-spec =
+    tie.close
+    (tie.spec
+    Inv-loop
+    μ-loop
+    of-requires
+    loop-holds
+    has-arrived-requires
+    kept-requires
+    returns
+    shared-slice-read-dir
+    allows-requires
+    kept-requires-2
+    returns-2
+    hop-requires
+    add-hops
+    loop-less
+    loop-again
+    has-arrived-requires-2
+    kept-requires-3
+    returns-3
+    kept-requires-4
+    returns-4)

@@ -1,0 +1,3 @@
+pub mod Packet
+pub mod Answers
+pub mod Steps

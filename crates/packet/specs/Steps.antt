@@ -1,0 +1,62 @@
+-- The code's own steps: drops one at a time, and the coordinates that a walk carries.
+use Prim.Native.Nat.{ℕ, _-_, _≤_, _<_}
+use mathlib.Core.Path.{_≡_}
+use mathlib.Core.Bool.{Bool, false, cond, _&&_}
+use lib.ListN.{length, getD}
+use lib.Dec.{ltb, leb, eqb}
+use Rattle.theory.specs.Machine.{Inside, dropped}
+use Rattle.machine.specs.declared.shape.Shape.{Shape}
+use Rattle.machine.specs.declared.shape.Coords.{Coords}
+use Rattle.machine.specs.declared.leg.Leg.{Leg}
+use Rattle.machine.specs.Shape.{shapeError, nodeCount, coordsOf}
+use Rattle.machine.specs.Hop.{neighbour}
+use Rattle.machine.specs.Torus.{torus}
+use Rattle.packet.specs.declared.packet.Packet.{Packet}
+use Rattle.packet.specs.declared.course.Course.{Course}
+use Rattle.packet.specs.Packet.{mostLegs, noLeg, legsLeft}
+
+abbrev pub legAt : Packet → ℕ → Leg
+legAt q i = getD (q .legs) i noLeg
+
+-- The front leg, where one is left.
+abbrev pub frontOf : Packet → Leg
+frontOf q = legAt q (mostLegs - q .left)
+
+unfoldable pub dropOne : Packet → Packet
+dropOne q = cond (ltb 0 (q .left) && eqb (frontOf q .target) (q .node)) (record { node = q .node; legs = q .legs; left = q .left - 1 }) q
+
+-- The packet with the drops stored.
+unfoldable pub settled : Packet → Packet
+settled q = record { node = q .node; legs = q .legs; left = length (dropped (λ l. l .target) (q .node) (legsLeft q)) }
+
+-- Leg i is left and names no node below count.
+abbrev pub legOutside : ℕ → Packet → ℕ → Bool
+legOutside count q i = cond (ltb i (mostLegs - q .left)) false (leb count (legAt q i .target))
+
+-- A packet that neither 5, 6 nor 14 declines.
+pub record Fine (s : Shape) (q : Packet) : Type 0 where
+  pub sound : shapeError s ≡ 0
+  pub few : q .left ≤ mostLegs
+  pub node : q .node < nodeCount s
+  pub legs : Inside (torus s) (legsLeft q)
+
+-- The packet at the other end of a link.
+abbrev pub moved : Shape → Packet → ℕ → Packet
+moved s q d = record { node = neighbour s (q .node) d; legs = q .legs; left = q .left }
+
+-- The coordinates of the front leg's target.
+unfoldable pub aimOf : Shape → Packet → Coords
+aimOf s q = cond (eqb (q .left) 0) (record { x = 0; y = 0; z = 0 }) (coordsOf s (frontOf q .target))
+
+unfoldable pub courseOf : Shape → Packet → Course
+courseOf s q = record { packet = q; at = coordsOf s (q .node); to = aimOf s q }
+
+-- A course with the coordinates of its packet.
+pub record On (s : Shape) (c : Course) : Type 0 where
+  pub fine : Fine s (c .packet)
+  pub at : c .at ≡ coordsOf s (c .packet .node)
+  pub to : c .to ≡ aimOf s (c .packet)
+
+-- The packet of a walk after some hops: as it was lent, drops not stored, while there are none.
+unfoldable pub keptOf : Packet → ℕ → Packet → Packet
+keptOf lent hops q = cond (eqb hops 0) lent q

@@ -1,0 +1,10 @@
+// The packet and its stepper: with `machine`, what a board links.
+mod course;
+pub mod packet;
+pub mod stepper;
+
+pub use packet::Packet;
+pub use stepper::Answer;
+pub use stepper::Ending;
+pub use stepper::Stepped;
+pub use stepper::Walked;

@@ -1,0 +1,10 @@
+pub mod Cases
+pub mod Checks
+pub mod Bools
+pub mod Drops
+pub mod Clear
+pub mod Steps
+pub mod Claim
+pub mod Choice
+pub mod Plan
+pub mod Grow
