@@ -5,20 +5,21 @@ use mathlib.Core.Path.{_≡_, refl, sym, _∙_}
 use native.Mathlib.Omega.{arith}
 use lib.Dec.{leb, eqb}
 use Rattle.theory.proofs.Bools.{eqb-same}
-use Rattle.machine.specs.declared.shape.Shape.{Shape}
-use Rattle.machine.specs.declared.shape.Coords.{Coords}
-use Rattle.machine.specs.declared.shape.Dim.{Dim}
-use Rattle.machine.specs.declared.shape.Dim.the-variants.{X, Y, Z}
+use Rattle.shape.specs.declared.shape.Shape.{Shape}
+use Rattle.shape.specs.declared.shape.Coords.{Coords}
+use Rattle.shape.specs.declared.shape.Dim.{Dim}
+use Rattle.shape.specs.declared.shape.Dim.the-variants.{X, Y, Z}
 use Rattle.machine.specs.declared.leg.Mode.{Mode}
 use Rattle.machine.specs.declared.leg.Mode.the-variants.{Adaptive, Deterministic}
-use Rattle.machine.specs.Shape.{shapeError, nodeCount, numberOf, coordsOf, Inside, extentOf, coordOf, wrappedIn, put}
-use Rattle.machine.specs.Axis.{axisDistance, place, axisUseful}
+use Rattle.shape.specs.Shape.{shapeError, extentOf, coordOf, wrappedIn, put}
+use Rattle.machine.specs.Number.{nodeCount, numberOf, coordsOf, Inside}
+use Rattle.shape.specs.Axis.{axisDistance, place, axisUseful}
 use Rattle.machine.specs.Hop.{dirDim, dirPlus, plusDir, minusDir, part, distance, link, neighbour, useful, toward, firstDirection}
 use Rattle.machine.specs.Torus.{allowedBy}
 use Rattle.machine.specs.ByCoords.{distanceAlong, linkAlong, usefulAlong, distanceAt, linkAt, movedAt, usefulAt, towardAt, firstAt, allowedAt}
-use Rattle.machine.proofs.Shapes.{sound}
+use Rattle.shape.proofs.Shapes.{sound}
 use Rattle.machine.proofs.Numbers.{number-below, coords-number, number-fits, inside}
-use Rattle.machine.proofs.AxisLaws.{place-below, axis-below}
+use Rattle.shape.proofs.AxisLaws.{place-below, axis-below}
 
 -- ---- coordinates within the extents
 pub inside-at : (s : Shape) (c : Coords) → Inside s c → (d : Dim) → coordOf c d < extentOf s d

@@ -7,15 +7,16 @@ use native.Mathlib.Omega.{arith}
 use lib.Dec.{leb, lit≤}
 use borrow.Author.Tests.{eqb-true, eqb-false, le-leb, leb-true}
 use Rattle.theory.proofs.Bools.{and-true}
-use Rattle.machine.specs.declared.shape.Shape.{Shape}
-use Rattle.machine.specs.declared.shape.Coords.{Coords}
-use Rattle.machine.specs.declared.shape.Dim.{Dim}
-use Rattle.machine.specs.declared.shape.Dim.the-variants.{X, Y, Z}
-use Rattle.machine.specs.Shape.{shapeError, nodeCount, numberOf, coordsOf, extentOf, coordOf, wrappedIn, put}
+use Rattle.shape.specs.declared.shape.Shape.{Shape}
+use Rattle.shape.specs.declared.shape.Coords.{Coords}
+use Rattle.shape.specs.declared.shape.Dim.{Dim}
+use Rattle.shape.specs.declared.shape.Dim.the-variants.{X, Y, Z}
+use Rattle.shape.specs.Shape.{shapeError, extentOf, coordOf, wrappedIn, put}
+use Rattle.machine.specs.Number.{nodeCount, numberOf, coordsOf}
 use Rattle.machine.specs.Hop.{dirDim, dirPlus, plusDir, minusDir, halfRingDir, opposite, part, distance, link, neighbour, useful, toward, same, firstDirection}
 use Rattle.machine.specs.ByCoords.{linkAlong, movedAlong, movedAt}
 use Rattle.machine.proofs.Numbers.{number-coords, inside}
-use Rattle.machine.proofs.AxisLaws.{axis-symmetric, axis-zero, axis-self, axis-some, back-place, back-link}
+use Rattle.shape.proofs.AxisLaws.{axis-symmetric, axis-zero, axis-self, axis-some, back-place, back-link}
 use Rattle.machine.proofs.ByCoords.{inside-at, along-small, neighbour-coords, plus-of, minus-of}
 
 pub useful-link : (s : Shape) (n t dir : ℕ) → useful s n t dir ≡ true → link s n dir ≡ true

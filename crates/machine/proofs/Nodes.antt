@@ -6,8 +6,9 @@ use native.Mathlib.Omega.{arith}
 use lib.Dec.{eqb}
 use borrow.Author.Tests.{ltb-true, eqb-true}
 use Rattle.theory.proofs.Bools.{and-true}
-use Rattle.machine.specs.declared.shape.Shape.{Shape}
-use Rattle.machine.specs.Shape.{shapeError, nodeCount, coordsOf}
+use Rattle.shape.specs.declared.shape.Shape.{Shape}
+use Rattle.shape.specs.Shape.{shapeError}
+use Rattle.machine.specs.Number.{nodeCount, coordsOf}
 use Rattle.machine.specs.Hop.{distance}
 use Rattle.machine.specs.ByCoords.{distanceAt}
 use Rattle.machine.specs.Node.{isNode, arePair}

@@ -4,11 +4,12 @@ use mathlib.Core.Path.{_≡_, _∙_}
 use native.Mathlib.Nat.{mul-comm, mul-assoc, mul-left-comm, mul-pos, mul-le-mul, mul-le-mul-left, mod-lt, mod-eq-of-lt, div-eq-of-lt, mod-add-div, div-lt-iff-lt-mul, div-div-eq-div-mul, add-mul-mod-self-left, add-mul-div-left, zero-add}
 use native.Mathlib.Omega.{arith}
 use lib.Arith.{digits-lt, digits-div, digits-mod, mod-mul}
-use Rattle.machine.specs.declared.shape.Shape.{Shape}
-use Rattle.machine.specs.declared.shape.Coords.{Coords}
-use Rattle.machine.specs.declared.shape.Dim.the-variants.{X, Y, Z}
-use Rattle.machine.specs.Shape.{shapeError, nodeCount, numberOf, coordsOf, Inside}
-use Rattle.machine.proofs.Shapes.{sound, count-most}
+use Rattle.shape.specs.declared.shape.Shape.{Shape}
+use Rattle.shape.specs.declared.shape.Coords.{Coords}
+use Rattle.shape.specs.declared.shape.Dim.the-variants.{X, Y, Z}
+use Rattle.shape.specs.Shape.{shapeError}
+use Rattle.machine.specs.Number.{nodeCount, numberOf, coordsOf, Inside}
+use Rattle.shape.proofs.Shapes.{sound, count-most}
 
 -- ---- the sums and products of a node number, of bytes of any size
 pub inner-product : (b z : ℕ) → b ≤ 255 → z ≤ 255 → b * z ≤ 65025
@@ -42,7 +43,7 @@ module _ (n a b : ℕ) (ha : 0 < a) (hb : 0 < b) where
   rest-below = mod-lt n (mul-pos ha hb)
 
 reversed : (x y z : ℕ) → x * y * z ≡ z * y * x
-reversed x y z = simp (mul-comm, mul-assoc, mul-left-comm)
+reversed x y z = simp (mul-comm, mul-left-comm)
 
 module _ (s : Shape) (h : shapeError s ≡ 0) where
   pub number-below : (c : Coords) → Inside s c → numberOf s c < nodeCount s

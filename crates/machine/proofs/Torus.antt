@@ -7,11 +7,14 @@ use lib.Dec.{eqb, leb}
 use borrow.Author.Tests.{leb-true, le-leb, eqb-true, eqb-false, eq-eqb}
 use Rattle.theory.specs.Machine.{Laws}
 use Rattle.theory.proofs.Cases.{test}
-use Rattle.machine.specs.declared.shape.Shape.{Shape}
+use Rattle.shape.specs.declared.shape.Shape.{Shape}
 use Rattle.machine.specs.declared.leg.Mode.{Mode}
 use Rattle.machine.specs.declared.leg.Mode.the-variants.{Adaptive, Deterministic}
-use Rattle.machine.specs.Shape.{shapeError, nodeCount}
-use Rattle.machine.specs.Hop.{link, useful, firstDirection}
+use Rattle.shape.specs.Shape.{shapeError}
+use Rattle.machine.specs.Number.{nodeCount}
+use Rattle.machine.specs.Hop.{link, useful, along, same, firstDirection}
+use Rattle.shape.specs.declared.shape.Dim.{Dim}
+use Rattle.shape.specs.declared.shape.Dim.the-variants.{X, Y, Z}
 use Rattle.machine.specs.Torus.{allowedBy, torus}
 use Rattle.theory.proofs.Bools.{and-true}
 use Rattle.machine.proofs.ByCoords.{neighbour-below}
@@ -20,7 +23,10 @@ use Rattle.machine.proofs.Laws.{useful-link, useful-lowers, distance-se
 -- To itself a deterministic leg has no direction.
 first-same : (s : Shape) (n : ℕ) → firstDirection s n n ≡ 6
 unfolding firstDirection
-first-same s n = rw (eq-eqb _ _ refl, eq-eqb _ _ refl, eq-eqb _ _ refl)
+first-same s n = rw (same-at X, same-at Y, same-at Z)
+  where
+    same-at : (d : Dim) → same s n n d ≡ true
+    same-at d = eq-eqb (along s n d) (along s n d) refl
 
 link-named : (s : Shape) (n dir : ℕ) → link s n dir ≡ true → dir < 6
 unfolding link

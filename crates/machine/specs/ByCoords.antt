@@ -2,14 +2,14 @@
 use Prim.Native.Nat.{ℕ, _+_}
 use mathlib.Core.Bool.{Bool, true, false, cond, not, _&&_}
 use lib.Dec.{leb, eqb}
-use Rattle.machine.specs.declared.shape.Shape.{Shape}
-use Rattle.machine.specs.declared.shape.Coords.{Coords}
-use Rattle.machine.specs.declared.shape.Dim.{Dim}
-use Rattle.machine.specs.declared.shape.Dim.the-variants.{X, Y, Z}
+use Rattle.shape.specs.declared.shape.Shape.{Shape}
+use Rattle.shape.specs.declared.shape.Coords.{Coords}
+use Rattle.shape.specs.declared.shape.Dim.{Dim}
+use Rattle.shape.specs.declared.shape.Dim.the-variants.{X, Y, Z}
 use Rattle.machine.specs.declared.leg.Mode.{Mode}
 use Rattle.machine.specs.declared.leg.Mode.the-variants.{Adaptive, Deterministic}
-use Rattle.machine.specs.Shape.{extentOf, wrappedIn, coordOf, put}
-use Rattle.machine.specs.Axis.{axisDistance, hasLink, place, axisUseful}
+use Rattle.shape.specs.Shape.{extentOf, wrappedIn, coordOf, put}
+use Rattle.shape.specs.Axis.{axisDistance, hasLink, place, axisUseful}
 use Rattle.machine.specs.Hop.{dirDim, dirPlus, plusDir, minusDir, halfRingDir}
 
 abbrev pub distanceAlong : Shape → Coords → Coords → Dim → ℕ

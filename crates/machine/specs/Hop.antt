@@ -2,11 +2,12 @@
 use Prim.Native.Nat.{ℕ, _+_, _-_, _%_}
 use mathlib.Core.Bool.{Bool, true, false, cond, not, _&&_}
 use lib.Dec.{ltb, leb, eqb}
-use Rattle.machine.specs.declared.shape.Shape.{Shape}
-use Rattle.machine.specs.declared.shape.Dim.{Dim}
-use Rattle.machine.specs.declared.shape.Dim.the-variants.{X, Y, Z}
-use Rattle.machine.specs.Shape.{extentOf, wrappedIn, coordOf, put, numberOf, coordsOf}
-use Rattle.machine.specs.Axis.{axisDistance, hasLink, place}
+use Rattle.shape.specs.declared.shape.Shape.{Shape}
+use Rattle.shape.specs.declared.shape.Dim.{Dim}
+use Rattle.shape.specs.declared.shape.Dim.the-variants.{X, Y, Z}
+use Rattle.shape.specs.Shape.{extentOf, wrappedIn, coordOf, put}
+use Rattle.machine.specs.Number.{numberOf, coordsOf}
+use Rattle.shape.specs.Axis.{axisDistance, hasLink, place}
 
 -- Directions: 0 X+, 1 X-, 2 Y+, 3 Y-, 4 Z+, 5 Z-.
 abbrev pub plusDir : Dim → ℕ

@@ -1,5 +1,4 @@
-pub mod Shape
-pub mod Axis
+pub mod Number
 pub mod Hop
 pub mod Torus
 pub mod ByCoords

@@ -3,11 +3,11 @@ use Prim.Native.Nat.{ℕ}
 use mathlib.Core.Bool.{Bool, _&&_}
 use lib.Dec.{leb, eqb}
 use Rattle.theory.specs.Machine.{Machine}
-use Rattle.machine.specs.declared.shape.Shape.{Shape}
+use Rattle.shape.specs.declared.shape.Shape.{Shape}
 use Rattle.machine.specs.declared.leg.Mode.{Mode}
 use Rattle.machine.specs.declared.leg.Mode.the-variants.{Adaptive, Deterministic}
 use Rattle.machine.specs.declared.leg.Leg.{Leg}
-use Rattle.machine.specs.Shape.{nodeCount}
+use Rattle.machine.specs.Number.{nodeCount}
 use Rattle.machine.specs.Hop.{distance, neighbour, useful, firstDirection}
 
 -- An adaptive leg may take any useful hop at each node, a deterministic leg its one direction.

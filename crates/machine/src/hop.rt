@@ -1,18 +1,18 @@
 // Hops by coordinates: from the place `at` toward the place `to`. Defined for all coordinates, also for those outside the shape.
-use crate::axis;
 use crate::leg::Mode;
-use crate::shape::Coords;
-use crate::shape::Dim;
-use crate::shape::Shape;
-use crate::shape::coord;
-use crate::shape::extent;
-use crate::shape::with_coord;
-use crate::shape::wrapped;
 use logic::both;
 use logic::pick;
+use shape::Coords;
+use shape::Dim;
+use shape::Shape;
+use shape::axis;
+use shape::shape::coord;
+use shape::shape::extent;
+use shape::shape::with_coord;
+use shape::shape::wrapped;
 ghost use mathlib.Core.Path.{_≡_};
 ghost use Prim.Native.Nat.{_+_, _*_, _%_, _≤_, _<_};
-ghost use Rattle.machine.specs.Shape.{numberOf};
+ghost use Rattle.machine.specs.Number.{numberOf};
 ghost use Rattle.machine.specs.Hop.{dirDim, dirPlus, plusDir, minusDir, halfRingDir};
 ghost use Rattle.machine.specs.ByCoords.{distanceAlong, usefulAlong, distanceAt, linkAt, movedAt, usefulAt, towardAt, firstAt, allowedAt};
 

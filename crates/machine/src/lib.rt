@@ -1,7 +1,5 @@
-// The machine of document 01: its shape, its nodes and links, distances, useful hops and the legs of a route.
-pub mod axis;
+// The machine of document 01: its nodes and links, distances, useful hops and the legs of a route.
 pub mod hop;
 pub mod leg;
 pub mod node;
 mod number;
-pub mod shape;

@@ -1,9 +1,10 @@
 // Node numbers and coordinates of a shape that no check declines, with no division.
-use crate::shape::Coords;
-use crate::shape::Shape;
+use shape::Coords;
+use shape::Shape;
 ghost use mathlib.Core.Path.{_≡_};
 ghost use Prim.Native.Nat.{_+_, _*_, _/_, _%_, _≤_, _<_};
-ghost use Rattle.machine.specs.Shape.{shapeError, nodeCount, coordsOf};
+ghost use Rattle.shape.specs.Shape.{shapeError};
+ghost use Rattle.machine.specs.Number.{nodeCount, coordsOf};
 
 struct Quotient {
     times: u8,

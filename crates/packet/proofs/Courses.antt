@@ -4,9 +4,10 @@ use native.Mathlib.Omega.{arith}
 use mathlib.Core.Path.{_≡_, refl, sym, ap, _∙_}
 use borrow.Author.Tests.{eq-eqb, ne-eqb, lt-ltb}
 use Rattle.theory.specs.Machine.{allows}
-use Rattle.machine.specs.declared.shape.Shape.{Shape}
-use Rattle.machine.specs.declared.shape.Coords.{Coords}
-use Rattle.machine.specs.Shape.{shapeError, nodeCount, coordsOf, numberOf}
+use Rattle.shape.specs.declared.shape.Shape.{Shape}
+use Rattle.shape.specs.declared.shape.Coords.{Coords}
+use Rattle.shape.specs.Shape.{shapeError}
+use Rattle.machine.specs.Number.{nodeCount, coordsOf, numberOf}
 use Rattle.machine.specs.Hop.{neighbour}
 use Rattle.machine.specs.Torus.{torus}
 use Rattle.machine.specs.ByCoords.{movedAt, allowedAt}

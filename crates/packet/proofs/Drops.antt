@@ -11,9 +11,10 @@ use Rattle.theory.specs.Machine.{Inside, dropped, allows}
 use Rattle.theory.proofs.Cases.{test}
 use Rattle.theory.proofs.Checks.{then-cond}
 use Rattle.theory.proofs.Drops.{dropped-keeps, dropped-settled, settled-dropped}
-use Rattle.machine.specs.declared.shape.Shape.{Shape}
+use Rattle.shape.specs.declared.shape.Shape.{Shape}
 use Rattle.machine.specs.declared.leg.Leg.{Leg}
-use Rattle.machine.specs.Shape.{shapeError, nodeCount}
+use Rattle.shape.specs.Shape.{shapeError}
+use Rattle.machine.specs.Number.{nodeCount}
 use Rattle.machine.specs.Hop.{neighbour}
 use Rattle.machine.specs.Node.{countAnswer}
 use Rattle.machine.specs.Torus.{allowedBy, torus}

@@ -13,9 +13,10 @@ use Rattle.theory.specs.Packet.{PacketLaws}
 use Rattle.theory.proofs.Bools.{or-false}
 use Rattle.theory.proofs.Checks.{then-zero, declined-zero}
 use Rattle.theory.proofs.Drops.{dropped-keeps}
-use Rattle.machine.specs.declared.shape.Shape.{Shape}
+use Rattle.shape.specs.declared.shape.Shape.{Shape}
 use Rattle.machine.specs.declared.leg.Leg.{Leg}
-use Rattle.machine.specs.Shape.{shapeError, nodeCount}
+use Rattle.shape.specs.Shape.{shapeError}
+use Rattle.machine.specs.Number.{nodeCount}
 use Rattle.machine.specs.Hop.{neighbour}
 use Rattle.machine.specs.Torus.{torus}
 use Rattle.packet.specs.declared.packet.Packet.{Packet}

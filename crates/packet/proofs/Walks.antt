@@ -11,7 +11,7 @@ use lib.Dec.{eqb}
 use borrow.Author.Tests.{ne-eqb}
 use Rattle.theory.specs.Machine.{dropped, allows}
 use Rattle.theory.specs.Packet as T
-use Rattle.machine.specs.declared.shape.Shape.{Shape}
+use Rattle.shape.specs.declared.shape.Shape.{Shape}
 use Rattle.machine.specs.declared.leg.Leg.{Leg}
 use Rattle.machine.specs.Torus.{torus}
 use Rattle.packet.specs.declared.packet.Packet.{Packet}

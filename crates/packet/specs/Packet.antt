@@ -7,10 +7,11 @@ use lib.Dec.{ltb, leb}
 use Rattle.theory.specs.Checks.{declined, _then_}
 use Rattle.theory.specs.Machine.{dropped}
 use Rattle.theory.specs.Packet.{Packets}
-use Rattle.machine.specs.declared.shape.Shape.{Shape}
+use Rattle.shape.specs.declared.shape.Shape.{Shape}
 use Rattle.machine.specs.declared.leg.Leg.{Leg}
 use Rattle.machine.specs.declared.leg.Mode.the-variants.{Adaptive}
-use Rattle.machine.specs.Shape.{shapeError, nodeCount}
+use Rattle.shape.specs.Shape.{shapeError}
+use Rattle.machine.specs.Number.{nodeCount}
 use Rattle.machine.specs.Hop.{neighbour}
 use Rattle.packet.specs.declared.packet.Packet.{Packet}
 

@@ -1,7 +1,7 @@
 // The step and the walk.
 use crate::course::Course;
 use crate::packet::Packet;
-use machine::shape::Shape;
+use shape::Shape;
 ghost use mathlib.Core.Path.{_≡_};
 ghost use Prim.Native.Nat.{_≤_};
 ghost use Rattle.theory.specs.Packet.{step, walk, goes};

@@ -1,7 +1,7 @@
 use mathlib.Core.Path.{refl}
 use native.Mathlib.Omega.{arith}
 use Rattle.machine.proofs.Numbers.{inner-product, outer-product}
-use Rattle.machine.specs.Shape.{numberOf}
+use Rattle.machine.specs.Number.{numberOf}
 use borrow.Author.Needs.{needs}
 use Rattle.machine.proofs.hop.number_at.Statement.{statement}
 use Rattle.machine.proofs.hop.number_at.Tie as tie

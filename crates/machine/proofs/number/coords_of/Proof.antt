@@ -1,5 +1,5 @@
 use native.Mathlib.Omega.{arith}
-use Rattle.machine.proofs.Shapes.{plane-most}
+use Rattle.shape.proofs.Shapes.{plane-most}
 use Rattle.machine.proofs.Numbers.{plane-turns, row-turns, row-rest, two-divisions}
 use borrow.Author.Needs.{needs}
 use Rattle.machine.proofs.number.coords_of.Statement.{statement}

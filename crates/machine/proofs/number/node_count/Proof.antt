@@ -1,6 +1,6 @@
-use Rattle.machine.specs.Shape.{nodeCount}
+use Rattle.machine.specs.Number.{nodeCount}
 use native.Mathlib.Omega.{arith}
-use Rattle.machine.proofs.Shapes.{plane-most, count-most}
+use Rattle.shape.proofs.Shapes.{plane-most, count-most}
 use mathlib.Core.Path.{refl}
 use borrow.Author.Needs.{needs}
 use Rattle.machine.proofs.number.node_count.Statement.{statement}

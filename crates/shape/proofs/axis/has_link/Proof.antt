@@ -1,7 +1,7 @@
-use Rattle.machine.specs.Axis.{hasLink}
+use Rattle.shape.specs.Axis.{hasLink}
 use borrow.Author.Needs.{needs}
-use Rattle.machine.proofs.axis.has_link.Statement.{statement}
-use Rattle.machine.proofs.axis.has_link.Tie as tie
+use Rattle.shape.proofs.axis.has_link.Statement.{statement}
+use Rattle.shape.proofs.axis.has_link.Tie as tie
 
 add-either : tie.Need-add-either
 add-either c = search needs

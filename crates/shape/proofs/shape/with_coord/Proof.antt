@@ -1,6 +1,6 @@
 use borrow.Author.Needs.{needs}
-use Rattle.machine.proofs.shape.with_coord.Statement.{statement}
-use Rattle.machine.proofs.shape.with_coord.Tie as tie
+use Rattle.shape.proofs.shape.with_coord.Statement.{statement}
+use Rattle.shape.proofs.shape.with_coord.Tie as tie
 
 enum-told : tie.Need-enum-told
 enum-told c = search needs

@@ -1,9 +1,9 @@
 use borrow.Author.Tests.{not-true, not-false}
 use native.Mathlib.Omega.{arith}
-use Rattle.machine.specs.Axis.{axisDistance}
+use Rattle.shape.specs.Axis.{axisDistance}
 use borrow.Author.Needs.{needs}
-use Rattle.machine.proofs.axis.distance.Statement.{statement}
-use Rattle.machine.proofs.axis.distance.Tie as tie
+use Rattle.shape.proofs.axis.distance.Statement.{statement}
+use Rattle.shape.proofs.axis.distance.Tie as tie
 
 difference-requires : tie.Need-difference-requires
 difference-requires c κs = search needs

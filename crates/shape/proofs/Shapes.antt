@@ -8,10 +8,10 @@ use borrow.Author.Tests.{ltb-false}
 use Rattle.theory.specs.Checks.{declined, _then_}
 use Rattle.theory.proofs.Checks.{then-zero, declined-zero}
 use Rattle.theory.proofs.Bools.{or-false}
-use Rattle.machine.specs.declared.shape.Shape.{Shape}
-use Rattle.machine.specs.declared.shape.Dim.{Dim}
-use Rattle.machine.specs.declared.shape.Dim.the-variants.{X, Y, Z}
-use Rattle.machine.specs.Shape.{extentOf, wrappedIn, badExtent, badWrap, badExtents, badWraps, shapeError}
+use Rattle.shape.specs.declared.shape.Shape.{Shape}
+use Rattle.shape.specs.declared.shape.Dim.{Dim}
+use Rattle.shape.specs.declared.shape.Dim.the-variants.{X, Y, Z}
+use Rattle.shape.specs.Shape.{extentOf, wrappedIn, badExtent, badWrap, badExtents, badWraps, shapeError}
 
 -- One dimension of such a shape.
 pub record Axis (len : ℕ) (ring : Bool) : Type 0 where

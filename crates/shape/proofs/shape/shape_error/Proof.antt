@@ -1,8 +1,8 @@
 use Rattle.theory.proofs.Checks.{then-cond}
-use Rattle.machine.specs.Shape.{badExtents, badWraps, shapeError}
+use Rattle.shape.specs.Shape.{badExtents, badWraps, shapeError}
 use borrow.Author.Needs.{needs}
-use Rattle.machine.proofs.shape.shape_error.Statement.{statement}
-use Rattle.machine.proofs.shape.shape_error.Tie as tie
+use Rattle.shape.proofs.shape.shape_error.Statement.{statement}
+use Rattle.shape.proofs.shape.shape_error.Tie as tie
 
 bad-extents-requires : tie.Need-bad-extents-requires
 bad-extents-requires c κs = search needs

@@ -1,7 +1,7 @@
-use Rattle.machine.specs.Shape.{badWraps}
+use Rattle.shape.specs.Shape.{badWraps}
 use borrow.Author.Needs.{needs}
-use Rattle.machine.proofs.shape.bad_wraps.Statement.{statement}
-use Rattle.machine.proofs.shape.bad_wraps.Tie as tie
+use Rattle.shape.proofs.shape.bad_wraps.Statement.{statement}
+use Rattle.shape.proofs.shape.bad_wraps.Tie as tie
 
 wrapped-requires : tie.Need-wrapped-requires
 wrapped-requires c κs = search needs

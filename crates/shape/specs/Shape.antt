@@ -1,12 +1,12 @@
--- 'The machine': extents and wrap with checks 5 and 6, node numbers, coordinates.
-use Prim.Native.Nat.{ℕ, _+_, _*_, _/_, _%_, _<_}
+-- 'The machine': extents and wrap with checks 5 and 6, and coordinates.
+use Prim.Native.Nat.{ℕ, _/_, _%_}
 use mathlib.Core.Bool.{Bool, _&&_, _||_}
 use lib.Dec.{ltb, eqb}
 use Rattle.theory.specs.Checks.{declined, _then_}
-use Rattle.machine.specs.declared.shape.Shape.{Shape}
-use Rattle.machine.specs.declared.shape.Coords.{Coords}
-use Rattle.machine.specs.declared.shape.Dim.{Dim}
-use Rattle.machine.specs.declared.shape.Dim.the-variants.{X, Y, Z}
+use Rattle.shape.specs.declared.shape.Shape.{Shape}
+use Rattle.shape.specs.declared.shape.Coords.{Coords}
+use Rattle.shape.specs.declared.shape.Dim.{Dim}
+use Rattle.shape.specs.declared.shape.Dim.the-variants.{X, Y, Z}
 
 -- Three dimensions X, Y, Z with extents a, b, c.
 abbrev pub extentOf : Shape → Dim → ℕ
@@ -39,16 +39,6 @@ badWraps s = badWrap (s .x) (wrappedIn s X) || (badWrap (s .y) (wrappedIn s Y) |
 unfoldable pub shapeError : Shape → ℕ
 shapeError s = declined (badExtents s) 5 then declined (badWraps s) 6 then 0
 
-unfoldable pub nodeCount : Shape → ℕ
-nodeCount s = s .x * s .y * s .z
-
--- Node number = x + a × (y + b × z).
-unfoldable pub numberOf : Shape → Coords → ℕ
-numberOf s c = c .x + s .x * (c .y + s .y * c .z)
-
-unfoldable pub coordsOf : Shape → ℕ → Coords
-coordsOf s n = record { x = n % s .x; y = n / s .x % s .y; z = n / s .x / s .y }
-
 -- The coordinate in a dimension.
 abbrev pub coordOf : Coords → Dim → ℕ
 coordOf c X = c .x
@@ -60,9 +50,3 @@ abbrev pub put : Coords → Dim → ℕ → Coords
 put c X v = record { x = v; y = c .y; z = c .z }
 put c Y v = record { x = c .x; y = v; z = c .z }
 put c Z v = record { x = c .x; y = c .y; z = v }
-
--- Coordinates within the extents.
-pub record Inside (s : Shape) (c : Coords) : Type 0 where
-  pub x : c .x < s .x
-  pub y : c .y < s .y
-  pub z : c .z < s .z

@@ -1,7 +1,7 @@
-use Rattle.machine.specs.Axis.{axisUseful}
+use Rattle.shape.specs.Axis.{axisUseful}
 use borrow.Author.Needs.{needs}
-use Rattle.machine.proofs.axis.useful.Statement.{statement}
-use Rattle.machine.proofs.axis.useful.Tie as tie
+use Rattle.shape.proofs.axis.useful.Statement.{statement}
+use Rattle.shape.proofs.axis.useful.Tie as tie
 
 next-place-requires : tie.Need-next-place-requires
 next-place-requires c κs = search needs

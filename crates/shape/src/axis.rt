@@ -3,7 +3,7 @@ use logic::both;
 use logic::either;
 ghost use mathlib.Core.Path.{_≡_};
 ghost use Prim.Native.Nat.{_≤_, _<_};
-ghost use Rattle.machine.specs.Axis.{gap, axisDistance, hasLink, place, axisUseful};
+ghost use Rattle.shape.specs.Axis.{gap, axisDistance, hasLink, place, axisUseful};
 
 fn difference(p: u8, q: u8) -> u8
     ensures { λ r. ⌜ r ≡ gap p q ⌝ }

@@ -2,7 +2,7 @@
 use logic::either;
 use logic::pick;
 ghost use mathlib.Core.Path.{_≡_};
-ghost use Rattle.machine.specs.Shape.{badExtent, badWrap, badExtents, badWraps, shapeError, extentOf, wrappedIn, coordOf, put};
+ghost use Rattle.shape.specs.Shape.{badExtent, badWrap, badExtents, badWraps, shapeError, extentOf, wrappedIn, coordOf, put};
 
 pub struct Shape {
     pub x: u8,

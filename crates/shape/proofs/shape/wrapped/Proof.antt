@@ -1,6 +1,6 @@
 use borrow.Author.Needs.{needs}
-use Rattle.machine.proofs.shape.wrapped.Statement.{statement}
-use Rattle.machine.proofs.shape.wrapped.Tie as tie
+use Rattle.shape.proofs.shape.wrapped.Statement.{statement}
+use Rattle.shape.proofs.shape.wrapped.Tie as tie
 
 enum-told : tie.Need-enum-told
 enum-told c = search needs

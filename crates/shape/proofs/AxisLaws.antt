@@ -5,7 +5,7 @@ use mathlib.Core.Path.{_≡_, refl, _∙_}
 use mathlib.Core.Logic.{_⊎_, inl, inr}
 use native.Mathlib.Omega.{arith}
 use borrow.Author.Tests.{lt-ltb, le-ltb, eq-eqb, ltb-true}
-use Rattle.machine.specs.Axis.{axisDistance, hasLink, place, axisUseful}
+use Rattle.shape.specs.Axis.{axisDistance, hasLink, place, axisUseful}
 use Rattle.theory.proofs.Cases.{by-le}
 
 split-lt : {X : Type 0} (m n : ℕ) → (m < n → X) → (n ≤ m → X) → X

@@ -1,9 +1,9 @@
 use native.Mathlib.Omega.{arith}
 use borrow.Author.Tests.{lt-ltb, le-ltb}
-use Rattle.machine.specs.Axis.{place}
+use Rattle.shape.specs.Axis.{place}
 use borrow.Author.Needs.{needs}
-use Rattle.machine.proofs.axis.next_place.Statement.{statement}
-use Rattle.machine.proofs.axis.next_place.Tie as tie
+use Rattle.shape.proofs.axis.next_place.Statement.{statement}
+use Rattle.shape.proofs.axis.next_place.Tie as tie
 
 add-if2 : tie.Need-add-if2
 add-if2 c = search needs

@@ -1,7 +1,7 @@
-use Rattle.machine.specs.Shape.{badExtents}
+use Rattle.shape.specs.Shape.{badExtents}
 use borrow.Author.Needs.{needs}
-use Rattle.machine.proofs.shape.bad_extents.Statement.{statement}
-use Rattle.machine.proofs.shape.bad_extents.Tie as tie
+use Rattle.shape.proofs.shape.bad_extents.Statement.{statement}
+use Rattle.shape.proofs.shape.bad_extents.Tie as tie
 
 bad-extent-requires : tie.Need-bad-extent-requires
 bad-extent-requires c κs = search needs

@@ -1,6 +1,6 @@
 use borrow.Author.Needs.{needs}
-use Rattle.machine.proofs.shape.bad_wrap.Statement.{statement}
-use Rattle.machine.proofs.shape.bad_wrap.Tie as tie
+use Rattle.shape.proofs.shape.bad_wrap.Statement.{statement}
+use Rattle.shape.proofs.shape.bad_wrap.Tie as tie
 
 returns : tie.Need-returns
 returns c = rw (c .if1 .taken)
