@@ -6,7 +6,7 @@ use mathlib.Core.Bool.{Bool, true, false, cond, _||_}
 use mathlib.Core.List.{List, _∷_}
 use lib.ListN.{length, getD}
 use lib.Dec.{leb, eqb}
-use borrow.Author.Tests.{eq-eqb, le-ltb}
+use borrow.Author.Tests.{eq-eqb, ne-eqb, le-ltb}
 use Rattle.theory.specs.Machine.{Inside, dropped, allows}
 use Rattle.theory.proofs.Cases.{test}
 use Rattle.theory.proofs.Checks.{then-cond}
@@ -22,7 +22,7 @@ use Rattle.machine.proofs.ByCoords.{neighbour-below}
 use Rattle.packet.specs.declared.packet.Packet.{Packet}
 use Rattle.packet.specs.Packet.{mostLegs, noLeg, lastOf, legsLeft, anyOutside, badPacket, packetError, hopped}
 use Rattle.packet.specs.Steps.{frontOf, dropOne, settled, legOutside, Fine, moved}
-use Rattle.packet.proofs.Stored.{Last, last-all, last-dropped}
+use Rattle.packet.proofs.Stored.{Last, length-last, last-all, last-dropped}
 
 one-less : (k : ℕ) → k ≡ suc k - 1
 one-less k = omega arith
@@ -67,6 +67,14 @@ settled-node q = refl
 pub settled-array : (q : Packet) → settled q .legs ≡ q .legs
 unfolding settled
 settled-array q = refl
+
+-- Where the front leg's target is another node, nothing is dropped.
+pub settled-same : (q : Packet) → 0 < q .left → (frontOf q .target ≡ q .node → ⊥) → settled q ≡ q
+unfolding settled dropped
+settled-same q h ne = λ i. record { node = q .node; legs = q .legs; left = same i }
+  where
+    same : length (dropped (λ l. l .target) (q .node) (legsLeft q)) ≡ q .left
+    same = rw (last-front (q .legs) (q .left) h, ne-eqb (frontOf q .target) (q .node) ne) (omega (arith, length-last (q .legs) (q .left - 1)))
 
 -- Dropping again changes nothing.
 dropped-again : (q : Packet) → dropped (λ l. l .target) (q .node) (lastOf (q .legs) (length (dropped (λ l. l .target) (q .node) (legsLeft q)))) ≡ dropped (λ l. l .target) (q .node) (legsLeft q)

@@ -24,7 +24,7 @@ use Rattle.packet.specs.Packet.{mostLegs, lastOf, legsLeft, anyOutside, 
 use Rattle.packet.specs.Steps.{Fine}
 
 -- ---- the last of an array
-length-last : (a : List Leg) (n : ℕ) → length (lastOf a n) ≡ n
+pub length-last : (a : List Leg) (n : ℕ) → length (lastOf a n) ≡ n
 unfolding lastOf
 length-last a zero = refl
 length-last a (suc n) = cc (length-last a n)

@@ -15,6 +15,7 @@ use Rattle.shape.specs.declared.shape.Shape.{Shape}
 use Rattle.machine.specs.declared.leg.Leg.{Leg}
 use Rattle.machine.specs.Torus.{torus}
 use Rattle.packet.specs.declared.packet.Packet.{Packet}
+use Rattle.packet.specs.declared.course.Axes.{Axes}
 use Rattle.packet.specs.declared.course.Course.{Course}
 use Rattle.packet.specs.declared.stepper.Answer.{Answer}
 use Rattle.packet.specs.declared.stepper.Answer.the-variants.{Hopped}
@@ -24,10 +25,11 @@ use Rattle.packet.specs.declared.stepper.Ending.the-variants.{Arrived, N
 use Rattle.packet.specs.declared.stepper.Walked.{Walked}
 use Rattle.packet.specs.Packet.{legsLeft, packetError, hopped, stored}
 use Rattle.packet.specs.Answers.{answered, endedAs, told, toldWalk}
-use Rattle.packet.specs.Steps.{settled, moved, Fine, courseOf, On, keptOf}
+use Rattle.packet.specs.Steps.{settled, moved, Fine}
+use Rattle.packet.specs.Course.{axesOf, packetOf, courseOf, On, keptOf}
 use Rattle.packet.proofs.Stored.{fine-error}
-use Rattle.packet.proofs.Drops.{settled-legs, settled-again, hop-is, fine-settled}
-use Rattle.packet.proofs.Courses.{on-course, on-fine, course-packet}
+use Rattle.packet.proofs.Drops.{settled-legs, settled-array, settled-again, hop-is, fine-settled, fine-moved}
+use Rattle.packet.proofs.Courses.{packet-course, on-course}
 
 -- The directions allowed of the packet with its drops stored.
 abbrev pub goesTo : Shape → Packet → ℕ → Bool
@@ -51,17 +53,33 @@ pub step-refused : (s : Shape) (q : Packet) (d e : ℕ) → e ≡ packetError s 
 unfolding told T.step
 step-refused s q d e h ne = rw (← h, ne-eqb e 0 ne, refused-as e ne)
 
-module _ (s : Shape) (q ready : Packet) (d : ℕ) (f : Fine s q) (e : ready ≡ settled q) where
-  may-go-ready : goesTo s ready d ≡ T.mayGo (torus s) (stored s) q d
-  may-go-ready = rw e (may-go s q d)
+-- A packet that no check declines, and the axes and the course that the code makes of it.
+module _ (s : Shape) (q : Packet) (f : Fine s q) (a : Axes) (ea : a ≡ axesOf s) (c : Course) (ec : c ≡ courseOf s (settled q)) where
+  pub on-way : On a (q .legs) c
+  on-way = rw (ea, ec) (on-course s (settled q) (q .legs) (sym (settled-array q)) (fine-settled s q f))
 
-  pub step-hopped : (next : Packet) → next ≡ settled (moved s ready d) → goesTo s ready d ≡ true → stepped next Hopped ≡ told (T.step (torus s) (stored s) q d)
-  unfolding told answered T.step T.tried
-  step-hopped next h a = rw (fine-error s q f, sym may-go-ready ∙ a, h, e, hop-is s q d)
+  ready : packetOf (q .legs) c ≡ settled q
+  ready = rw ec (packet-course s (settled q) (q .legs) (sym (settled-array q)))
 
-  pub step-stays : goesTo s ready d ≡ false → stepped q (Answer.Refused 15) ≡ told (T.step (torus s) (stored s) q d)
-  unfolding told answered T.step T.tried
-  step-stays a = rw (fine-error s q f, sym may-go-ready ∙ a)
+  module _ (d : ℕ) where
+    may-go-way : goesTo (a .shape) (packetOf (q .legs) c) d ≡ T.mayGo (torus s) (stored s) q d
+    may-go-way = rw (ea, ready) (may-go s q d)
+
+    hop-way : settled (moved (a .shape) (packetOf (q .legs) c) d) ≡ hopped s q d
+    hop-way = rw (ea, ready) (hop-is s q d)
+
+    next-legs : settled (moved (a .shape) (packetOf (q .legs) c) d) .legs ≡ q .legs
+    next-legs = settled-array _
+
+    pub step-hopped : (n : Course) (next : Packet) → n ≡ courseOf (a .shape) (settled (moved (a .shape) (packetOf (q .legs) c) d)) → next ≡ packetOf (q .legs) n → goesTo (a .shape) (packetOf (q .legs) c) d ≡ true → stepped next Hopped ≡ told (T.step (torus s) (stored s) q d)
+    unfolding told answered T.step T.tried
+    step-hopped n next en ep h =
+        let is : next ≡ hopped s q d = ep ∙ rw en (packet-course (a .shape) _ (q .legs) (sym next-legs)) ∙ hop-way in
+        rw (fine-error s q f, sym may-go-way ∙ h, is)
+
+    pub step-stays : goesTo (a .shape) (packetOf (q .legs) c) d ≡ false → stepped q (Answer.Refused 15) ≡ told (T.step (torus s) (stored s) q d)
+    unfolding told answered T.step T.tried
+    step-stays h = rw (fine-error s q f, sym may-go-way ∙ h)
 
 -- ---- the walk
 abbrev pub walked : Packet → ℕ → Ending → Walked
@@ -79,12 +97,13 @@ walk-is s q ds f = rw (fine-error s q f)
 abbrev after : ℕ → T.Walked Packet → T.Walked Packet
 after k w = record { packet = w .packet; hops = k + w .hops; ending = w .ending }
 
--- After k hops from lent the packet is q, as it would be handed back, and the course carries it with the drops stored.
-pub record Going (s : Shape) (dirs : List ℕ) (lent : Packet) (c : Course) (k : ℕ) : Type 0 where
-  pub on : On s c
+-- After k hops from lent the packet is as it would be handed back, and the course carries it with the drops stored.
+pub record Going (a : Axes) (legs : List Leg) (dirs : List ℕ) (lent : Packet) (c : Course) (k : ℕ) : Type 0 where
+  pub on : On a legs c
+  pub array : legs ≡ lent .legs
   pub within : k ≤ length dirs
-  pub stores : settled (keptOf lent k (c .packet)) ≡ c .packet
-  pub rest : after k (T.goes (torus s) (stored s) (keptOf lent k (c .packet)) (drop k dirs)) ≡ T.goes (torus s) (stored s) lent dirs
+  pub stores : settled (keptOf lent k (packetOf legs c)) ≡ packetOf legs c
+  pub rest : after k (T.goes (torus (a .shape)) (stored (a .shape)) (keptOf lent k (packetOf legs c)) (drop k dirs)) ≡ T.goes (torus (a .shape)) (stored (a .shape)) lent dirs
 
 after-0 : (w : T.Walked Packet) → after 0 w ≡ w
 after-0 w = λ i. record { packet = w .packet; hops = none (w .hops) i; ending = w .ending }
@@ -100,13 +119,18 @@ kept-some : (lent q : Packet) (k : ℕ) → keptOf lent (k + 1) q ≡ q
 unfolding keptOf
 kept-some lent q k = rw (ne-eqb (k + 1) 0 (λ e. omega arith))
 
-pub begin : (s : Shape) (dirs : List ℕ) (q : Packet) → Fine s q → Going s dirs q (courseOf s (settled q)) 0
-begin s dirs q f = record {
-  on = on-course s (settled q) (fine-settled s q f);
+pub begin : (s : Shape) (q : Packet) (f : Fine s q) (a : Axes) (ea : a ≡ axesOf s) (c : Course) (ec : c ≡ courseOf s (settled q)) (dirs : List ℕ) → Going a (q .legs) dirs q c 0
+begin s q f a ea c ec dirs = record {
+  on = on-way s q f a ea c ec;
+  array = refl;
   within = omega arith;
-  stores = rw (course-packet s (settled q), kept-none q (settled q));
-  rest = rw (course-packet s (settled q), kept-none q (settled q)) (after-0 _);
+  stores = rw (kept-none q (packetOf (q .legs) c)) (sym (ready s q f a ea c ec));
+  rest = rw (kept-none q (packetOf (q .legs) c)) (after-0 _);
 }
+
+-- What is told of the axes' shape is told of the shape that they are made of.
+pub of-shape : (s : Shape) (a : Axes) (dirs : List ℕ) (lent : Packet) (w : Walked) → a ≡ axesOf s → w ≡ toldWalk (T.goes (torus (a .shape)) (stored (a .shape)) lent dirs) → w ≡ toldWalk (T.goes (torus s) (stored s) lent dirs)
+of-shape s a dirs lent w e h = h ∙ ap (λ x. toldWalk (T.goes (torus (x .shape)) (stored (x .shape)) lent dirs)) e
 
 -- No leg is left exactly if the packet has arrived.
 none-left : (ls : List Leg) → T.isNone ls ≡ eqb (length ls) 0
@@ -128,9 +152,15 @@ add-zero k = omega arith
 add-suc : (k h : ℕ) → k + suc h ≡ k + 1 + h
 add-suc k h = omega arith
 
-module _ (s : Shape) (dirs : List ℕ) (lent : Packet) (c : Course) (k : ℕ) (g : Going s dirs lent c k) where
+module _ (a : Axes) (legs : List Leg) (dirs : List ℕ) (lent : Packet) (c : Course) (k : ℕ) (g : Going a legs dirs lent c k) where
+  abbrev s : Shape
+  s = a .shape
+
+  abbrev p : Packet
+  p = packetOf legs c
+
   abbrev q : Packet
-  q = keptOf lent k (c .packet)
+  q = keptOf lent k p
 
   abbrev pub End : Ending → Type 0
   End e = walked q k e ≡ toldWalk (T.goes (torus s) (stored s) lent dirs)
@@ -139,41 +169,45 @@ module _ (s : Shape) (dirs : List ℕ) (lent : Packet) (c : Course) (k : ℕ) (g
   unfolding toldWalk
   ending e h = sym (rw (← g .rest, h, add-zero k))
 
-  arrived-on : T.arrived (torus s) (stored s) q ≡ eqb (c .packet .left) 0
-  arrived-on = arrived-is s q ∙ ap (λ p. eqb (p .left) 0) (g .stores)
+  arrived-on : T.arrived (torus s) (stored s) q ≡ eqb (c .left) 0
+  arrived-on = arrived-is s q ∙ ap (λ r. eqb (r .left) 0) (g .stores)
 
-  may-go-on : (d : ℕ) → goesTo s (c .packet) d ≡ T.mayGo (torus s) (stored s) q d
-  may-go-on d = ap (λ p. goesTo s p d) (sym (g .stores)) ∙ may-go s q d
+  may-go-on : (d : ℕ) → goesTo s p d ≡ T.mayGo (torus s) (stored s) q d
+  may-go-on d = ap (λ r. goesTo s r d) (sym (g .stores)) ∙ may-go s q d
 
-  pub has-arrived : eqb (c .packet .left) 0 ≡ true → End Arrived
+  pub has-arrived : eqb (c .left) 0 ≡ true → End Arrived
   has-arrived e = ending T.Arrived (at-end s q (drop k dirs) (arrived-on ∙ e))
 
-  pub used-up : length dirs ≤ k → eqb (c .packet .left) 0 ≡ false → End UsedUp
+  pub used-up : length dirs ≤ k → eqb (c .left) 0 ≡ false → End UsedUp
   unfolding T.goes
   used-up h e = ending T.UsedUp (rw (drop-of-length-le dirs h, arrived-on, e))
 
-  module _ (h : k < length dirs) (e : eqb (c .packet .left) 0 ≡ false) where
-    pub refused : goesTo s (c .packet) (getD dirs k 0) ≡ false → End NotAllowed
+  module _ (h : k < length dirs) (e : eqb (c .left) 0 ≡ false) where
+    pub refused : goesTo s p (getD dirs k 0) ≡ false → End NotAllowed
     unfolding T.goes
     refused a = ending T.NotAllowed (rw (drop-cons dirs k 0 h, arrived-on, e, sym (may-go-on (getD dirs k 0)) ∙ a))
 
     -- One hop further.
     next : Packet
-    next = settled (moved s (c .packet) (getD dirs k 0))
+    next = settled (moved s p (getD dirs k 0))
 
     next-is : next ≡ hopped s q (getD dirs k 0)
     unfolding next
-    next-is = ap (λ p. settled (moved s p (getD dirs k 0))) (sym (g .stores)) ∙ hop-is s q (getD dirs k 0)
+    next-is = ap (λ r. settled (moved s r (getD dirs k 0))) (sym (g .stores)) ∙ hop-is s q (getD dirs k 0)
 
-    goes-next : goesTo s (c .packet) (getD dirs k 0) ≡ true → after (k + 1) (T.goes (torus s) (stored s) next (drop (k + 1) dirs)) ≡ T.goes (torus s) (stored s) lent dirs
+    goes-next : goesTo s p (getD dirs k 0) ≡ true → after (k + 1) (T.goes (torus s) (stored s) next (drop (k + 1) dirs)) ≡ T.goes (torus s) (stored s) lent dirs
     unfolding T.goes
     goes-next a = sym (rw (← g .rest, drop-cons dirs k 0 h, arrived-on, e, sym (may-go-on (getD dirs k 0)) ∙ a, ← next-is, add-suc k _, add-one))
 
-    pub onward : goesTo s (c .packet) (getD dirs k 0) ≡ true → Going s dirs lent (courseOf s (settled (moved s (c .packet) (getD dirs k 0)))) (k + 1)
+    pub onward : goesTo s p (getD dirs k 0) ≡ true → Going a legs dirs lent (courseOf s (settled (moved s p (getD dirs k 0)))) (k + 1)
     unfolding next
-    onward a = record {
-      on = on-course s _ (on-fine s c (g .on) (getD dirs k 0));
-      within = omega arith;
-      stores = rw (course-packet s next, kept-some lent next k) (settled-again _);
-      rest = rw (course-packet s next, kept-some lent next k) (goes-next a);
-    }
+    onward t =
+        let array : legs ≡ next .legs = sym (settled-array (moved s p (getD dirs k 0))) in
+        let is = packet-course s next legs array in
+        record {
+          on = rw (← g .on .axes) at (on-course s next legs array (fine-settled s _ (fine-moved s p (getD dirs k 0) (g .on .fine))));
+          array = g .array;
+          within = omega arith;
+          stores = rw (is, kept-some lent next k) (settled-again _);
+          rest = rw (is, kept-some lent next k) (goes-next t);
+        }

@@ -1,3 +1,4 @@
 pub mod Packet
 pub mod Answers
 pub mod Steps
+pub mod Course

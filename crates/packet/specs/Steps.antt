@@ -1,4 +1,4 @@
--- The code's own steps: drops one at a time, and the coordinates that a walk carries.
+-- The code's own steps: drops one at a time, and packets that no check declines.
 use Prim.Native.Nat.{ℕ, _-_, _≤_, _<_}
 use mathlib.Core.Path.{_≡_}
 use mathlib.Core.Bool.{Bool, false, cond, _&&_}
@@ -45,19 +45,6 @@ pub record Fine (s : Shape) (q : Packet) : Type 0 where
 abbrev pub moved : Shape → Packet → ℕ → Packet
 moved s q d = record { node = neighbour s (q .node) d; legs = q .legs; left = q .left }
 
--- The coordinates of the front leg's target.
-unfoldable pub aimOf : Shape → Packet → Coords
-aimOf s q = cond (eqb (q .left) 0) (record { x = 0; y = 0; z = 0 }) (coordsOf s (frontOf q .target))
-
-unfoldable pub courseOf : Shape → Packet → Course
-courseOf s q = record { packet = q; at = coordsOf s (q .node); to = aimOf s q }
-
--- A course with the coordinates of its packet.
-pub record On (s : Shape) (c : Course) : Type 0 where
-  pub fine : Fine s (c .packet)
-  pub at : c .at ≡ coordsOf s (c .packet .node)
-  pub to : c .to ≡ aimOf s (c .packet)
-
--- The packet of a walk after some hops: as it was lent, drops not stored, while there are none.
-unfoldable pub keptOf : Packet → ℕ → Packet → Packet
-keptOf lent hops q = cond (eqb hops 0) lent q
+-- The front leg; a leg of zeros where none is left.
+unfoldable pub frontOr : Packet → Leg
+frontOr q = cond (eqb (q .left) 0) noLeg (frontOf q)

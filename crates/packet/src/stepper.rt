@@ -1,4 +1,5 @@
 // The step and the walk.
+use crate::course::Axes;
 use crate::course::Course;
 use crate::packet::Packet;
 use shape::Shape;
@@ -8,7 +9,8 @@ ghost use Rattle.theory.specs.Packet.{step, walk, goes};
 ghost use Rattle.machine.specs.Torus.{torus};
 ghost use Rattle.packet.specs.Packet.{stored};
 ghost use Rattle.packet.specs.Answers.{told, toldWalk};
-ghost use Rattle.packet.specs.Steps.{Fine, keptOf};
+ghost use Rattle.packet.specs.Steps.{Fine};
+ghost use Rattle.packet.specs.Course.{packetOf, keptOf};
 
 // What a step answers of the direction: hopped, or the number of the refusal.
 pub enum Answer {
@@ -37,13 +39,13 @@ pub struct Walked {
 
 // The packet that a walk hands back: only a hop stores the drops.
 fn kept(lent: Packet, hops: usize, course: Course) -> Packet
-    ensures { λ r. ⌜ r ≡ keptOf lent hops (course .packet) ⌝ }
+    ensures { λ r. ⌜ r ≡ keptOf lent hops (packetOf (lent .legs) course) ⌝ }
 {
     if hops == 0 {
         return lent;
     }
-    let packet = course.packet;
-    packet
+    let legs = lent.legs;
+    course.packet(legs)
 }
 
 // One hop a byte, until the packet has arrived, a direction is not allowed or the bytes are used up.
@@ -51,36 +53,38 @@ fn walk_on(lent: Packet, shape: Shape, dirs: &[u8]) -> Walked
     requires { ⌜ Fine shape lent ⌝ }
     ensures { λ r. ⌜ r ≡ toldWalk (goes (torus shape) (stored shape) lent (now (dirs .entry))) ⌝ }
 {
-    let mut course = Course::of(lent, shape);
+    let legs = lent.legs;
+    let axes = Axes::of(shape);
+    let mut way = Course::of(lent, shape);
     let mut hops: usize = 0;
     while hops < dirs.len() {
-        if course.has_arrived() {
+        if way.left == 0 {
             return Walked {
-                packet: kept(lent, hops, course),
+                packet: kept(lent, hops, way),
                 hops: hops,
                 ending: Ending::Arrived,
             };
         }
         let dir = dirs[hops];
-        if !course.allows(shape, dir) {
+        if !way.allows(axes, legs, dir) {
             return Walked {
-                packet: kept(lent, hops, course),
+                packet: kept(lent, hops, way),
                 hops: hops,
                 ending: Ending::NotAllowed,
             };
         }
-        course = course.hop(shape, dir);
+        way = way.hop(axes, legs, dir);
         hops = hops + 1;
     }
-    if course.has_arrived() {
+    if way.left == 0 {
         return Walked {
-            packet: kept(lent, hops, course),
+            packet: kept(lent, hops, way),
             hops: hops,
             ending: Ending::Arrived,
         };
     }
     Walked {
-        packet: kept(lent, hops, course),
+        packet: kept(lent, hops, way),
         hops: hops,
         ending: Ending::UsedUp,
     }
@@ -98,17 +102,18 @@ impl Packet {
                 answer: Answer::Refused(error),
             };
         }
-        let course = Course::of(self, shape);
-        if !course.allows(shape, dir) {
+        let legs = self.legs;
+        let axes = Axes::of(shape);
+        let way = Course::of(self, shape);
+        if !way.allows(axes, legs, dir) {
             return Stepped {
                 packet: self,
                 answer: Answer::Refused(15),
             };
         }
-        let next = course.hop(shape, dir);
-        let packet = next.packet;
+        let next = way.hop(axes, legs, dir);
         Stepped {
-            packet: packet,
+            packet: next.packet(legs),
             answer: Answer::Hopped,
         }
     }
