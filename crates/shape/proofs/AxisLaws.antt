@@ -1,11 +1,12 @@
 -- Laws of one dimension.
-use Prim.Native.Nat.{ℕ, _+_, _-_, _≤_, _<_}
-use mathlib.Core.Bool.{Bool, true, false, not}
+use Prim.Native.Nat.{ℕ, _+_, _-_, _*_, _≤_, _<_, min}
+use mathlib.Core.Bool.{Bool, true, false, cond, not}
 use mathlib.Core.Path.{_≡_, refl, _∙_}
 use mathlib.Core.Logic.{_⊎_, inl, inr}
 use native.Mathlib.Omega.{arith}
-use borrow.Author.Tests.{lt-ltb, le-ltb, eq-eqb, ltb-true}
-use Rattle.shape.specs.Axis.{axisDistance, hasLink, place, axisUseful}
+use lib.Dec.{leb}
+use borrow.Author.Tests.{lt-ltb, le-ltb, le-leb, lt-leb, eq-eqb, ne-eqb, ltb-true}
+use Rattle.shape.specs.Axis.{gap, axisDistance, hasLink, place, axisUseful, openUseful, ahead, ringUseful}
 use Rattle.theory.proofs.Cases.{by-le}
 
 split-lt : {X : Type 0} (m n : ℕ) → (m < n → X) → (n ≤ m → X) → X
@@ -53,95 +54,143 @@ minus-first : (len p : ℕ) → p ≤ 0 → place len p false ≡ len - 1
 unfolding place
 minus-first len p h = rw (le-ltb 0 p h)
 
--- ---- a useful hop
-pub useful-by : (len : ℕ) (ring : Bool) (p q : ℕ) (plus : Bool) (v : ℕ) → hasLink len ring p plus ≡ true → place len p plus ≡ v → axisDistance len ring v q + 1 ≡ axisDistance len ring p q → axisUseful len ring p q plus ≡ true
-unfolding axisUseful
-useful-by len ring p q plus v l e d = rw (l, e) (eq-eqb _ _ d)
-
+-- ---- links of an open dimension and of a ring
 open-plus : (len p : ℕ) → p + 1 < len → hasLink len false p true ≡ true
 unfolding hasLink
 open-plus len p h = lt-ltb (p + 1) len h
+
+open-plus-none : (len p : ℕ) → len ≤ p + 1 → hasLink len false p true ≡ false
+unfolding hasLink
+open-plus-none len p h = le-ltb (p + 1) len h
 
 open-minus : (len p : ℕ) → 0 < p → hasLink len false p false ≡ true
 unfolding hasLink
 open-minus len p h = lt-ltb 0 p h
 
+open-minus-none : (len p : ℕ) → p ≤ 0 → hasLink len false p false ≡ false
+unfolding hasLink
+open-minus-none len p h = le-ltb 0 p h
+
 ring-link : (len p : ℕ) (plus : Bool) → hasLink len true p plus ≡ true
 unfolding hasLink
 ring-link len p plus = refl
 
--- ---- the distance on a ring, by sums
-module _ (len p q k : ℕ) (small : k + k ≤ len) where
-  near-up : p + k ≡ q → axisDistance len true p q ≡ k
-  unfolding axisDistance
-  near-up e = omega arith
-
-  near-down : q + k ≡ p → axisDistance len true p q ≡ k
-  unfolding axisDistance
-  near-down e = omega arith
-
-  far-up : q + k ≡ p + len → p < len → q < len → axisDistance len true p q ≡ k
-  unfolding axisDistance
-  far-up e hp hq = omega arith
-
-  far-down : p + k ≡ q + len → p < len → q < len → axisDistance len true p q ≡ k
-  unfolding axisDistance
-  far-down e hp hq = omega arith
-
--- ---- toward another place of the dimension some direction is useful
-Some : ℕ → Bool → ℕ → ℕ → Type 0
-Some len ring p q = (axisUseful len ring p q true ≡ true) ⊎ (axisUseful len ring p q false ≡ true)
-
-open-some : (len p q : ℕ) → p < len → q < len → (p ≡ q → ⊥) → Some len false p q
-unfolding axisDistance Some
-open-some len p q hp hq ne =
+-- ---- useful hops without the distance: in an open dimension
+open-useful : (len p q : ℕ) (plus : Bool) → p < len → q < len → axisUseful len false p q plus ≡ openUseful p q plus
+unfolding axisUseful axisDistance
+open-useful len p q true hp hq =
     split-lt p q
-    (λ a. inl (useful-by len false p q true (p + 1) (open-plus len p (omega arith)) (plus-in len p (omega arith)) (omega arith)))
-    (λ a. inr (useful-by len false p q false (p - 1) (open-minus len p (omega arith)) (minus-in len p (omega arith)) (omega arith)))
+    (λ a. rw (open-plus len p (omega arith), plus-in len p (omega arith), lt-ltb p q a) (eq-eqb (gap (p + 1) q + 1) (gap p q) (omega arith)))
+    (λ a. rw (le-ltb p q a) (split-lt (p + 1) len
+    (λ b. rw (open-plus len p b, plus-in len p b) (ne-eqb (gap (p + 1) q + 1) (gap p q) (λ e. omega arith)))
+    (λ b. rw (open-plus-none len p b))))
+open-useful len p q false hp hq =
+    split-lt q p
+    (λ a. rw (open-minus len p (omega arith), minus-in len p (omega arith), lt-ltb q p a) (eq-eqb (gap (p - 1) q + 1) (gap p q) (omega arith)))
+    (λ a. rw (le-ltb q p a) (split-lt 0 p
+    (λ b. rw (open-minus len p b, minus-in len p b) (ne-eqb (gap (p - 1) q + 1) (gap p q) (λ e. omega arith)))
+    (λ b. rw (open-minus-none len p b))))
 
-module _ (len p q : ℕ) (hp : p < len) (hq : q < len) where
-  plus-to : (v k : ℕ) → place len p true ≡ v → axisDistance len true v q ≡ k → axisDistance len true p q ≡ k + 1 → Some len true p q
-  unfolding Some
-  plus-to v k e a b = inl (useful-by len true p q true v (ring-link len p true) e (rw (a, b)))
+-- ---- and round a ring, by the hops going plus
+record Ahead (len p q u : ℕ) : Type 0 where
+  below : u < len
+  up : p ≤ q → p + u ≡ q
+  round : q < p → p + u ≡ q + len
 
-  minus-to : (v k : ℕ) → place len p false ≡ v → axisDistance len true v q ≡ k → axisDistance len true p q ≡ k + 1 → Some len true p q
-  unfolding Some
-  minus-to v k e a b = inr (useful-by len true p q false v (ring-link len p false) e (rw (a, b)))
+ahead-is : (len p q : ℕ) → p < len → q < len → Ahead len p q (ahead len p q)
+unfolding ahead
+ahead-is len p q hp hq =
+    by-le p q
+    (λ a. rw (le-leb p q a) (record { below = omega arith; up = λ _. omega arith; round = λ h. absurd (omega arith) }))
+    (λ a. rw (lt-leb p q a) (record { below = omega arith; up = λ h. absurd (omega arith); round = λ _. omega arith }))
 
-  -- q lies above p, k + 1 up or k + 1 down
-  up-near : (k : ℕ) → p + (k + 1) ≡ q → (k + 1) + (k + 1) ≤ len → Some len true p q
-  up-near k e h = plus-to (p + 1) k (plus-in len p (omega arith)) (near-up len (p + 1) q k (omega arith) (omega arith)) (near-up len p q (k + 1) h e)
+-- The distance is the smaller of the two ways round.
+ring-distance : (len p q u : ℕ) → p < len → q < len → Ahead len p q u → axisDistance len true p q ≡ min u (len - u)
+unfolding axisDistance
+ring-distance len p q u hp hq w = by-le p q (λ a. let e = w .up a in omega arith) (λ a. let e = w .round a in omega arith)
 
-  up-far : (k : ℕ) → q + (k + 1) ≡ p + len → (k + 1) + (k + 1) ≤ len → Some len true p q
-  up-far k e h =
-      split-lt 0 p
-      (λ a. minus-to (p - 1) k (minus-in len p a) (far-up len (p - 1) q k (omega arith) (omega arith) (omega arith) hq) (far-up len p q (k + 1) h e hp hq))
-      (λ a. minus-to (len - 1) k (minus-first len p a) (near-down len (len - 1) q k (omega arith) (omega arith)) (far-up len p q (k + 1) h e hp hq))
+-- A hop going plus leaves one less of that way, a hop going minus one more.
+plus-ahead : (len p q u : ℕ) → p < len → q < len → Ahead len p q (u + 1) → Ahead len (place len p true) q u
+plus-ahead len p q u hp hq w =
+    split-lt (p + 1) len
+    (λ a. rw (plus-in len p a) (by-le p q
+    (λ b. let e = w .up b in record { below = omega (arith, w .below); up = λ _. omega arith; round = λ h. absurd (omega arith) })
+    (λ b. let e = w .round b in record { below = omega (arith, w .below); up = λ h. absurd (omega arith); round = λ _. omega arith })))
+    (λ a. rw (plus-last len p a) (by-le p q
+    (λ b. let e = w .up b in absurd (omega arith))
+    (λ b. let e = w .round b in record { below = omega (arith, w .below); up = λ _. omega arith; round = λ h. absurd (omega arith) })))
 
-  -- q lies below p
-  down-near : (k : ℕ) → q + (k + 1) ≡ p → (k + 1) + (k + 1) ≤ len → Some len true p q
-  down-near k e h = minus-to (p - 1) k (minus-in len p (omega arith)) (near-down len (p - 1) q k (omega arith) (omega arith)) (near-down len p q (k + 1) h e)
+minus-ahead : (len p q u : ℕ) → p < len → q < len → u + 1 < len → Ahead len p q u → Ahead len (place len p false) q (u + 1)
+minus-ahead len p q u hp hq k w =
+    split-lt 0 p
+    (λ a. rw (minus-in len p a) (by-le p q
+    (λ b. let e = w .up b in record { below = k; up = λ _. omega arith; round = λ h. absurd (omega arith) })
+    (λ b. let e = w .round b in record { below = k; up = λ h. absurd (omega arith); round = λ _. omega arith })))
+    (λ a. rw (minus-first len p a) (let e = w .up (omega arith) in record { below = k; up = λ h. omega arith; round = λ h. omega arith }))
 
-  down-far : (k : ℕ) → p + (k + 1) ≡ q + len → (k + 1) + (k + 1) ≤ len → Some len true p q
-  down-far k e h =
-      split-lt (p + 1) len
-      (λ a. plus-to (p + 1) k (plus-in len p a) (far-down len (p + 1) q k (omega arith) (omega arith) a hq) (far-down len p q (k + 1) h e hp hq))
-      (λ a. plus-to 0 k (plus-last len p a) (near-up len 0 q k (omega arith) (omega arith)) (far-down len p q (k + 1) h e hp hq))
+-- From one place after q going minus, nothing is left.
+minus-whole : (len p q u : ℕ) → p < len → q < len → u + 1 ≡ len → Ahead len p q u → Ahead len (place len p false) q 0
+minus-whole len p q u hp hq k w =
+    split-lt 0 p
+    (λ a. rw (minus-in len p a) (by-le p q
+    (λ b. let e = w .up b in absurd (omega arith))
+    (λ b. let e = w .round b in record { below = omega arith; up = λ _. omega arith; round = λ h. absurd (omega arith) })))
+    (λ a. rw (minus-first len p a) (let e = w .up (omega arith) in record { below = omega arith; up = λ _. omega arith; round = λ h. absurd (omega arith) }))
 
-  ring-some : (p ≡ q → ⊥) → Some len true p q
-  ring-some ne =
-      split-lt p q
-      (λ a. split-lt len ((q - p) + (q - p))
-      (λ b. up-far (len - (q - p) - 1) (omega arith) (omega arith))
-      (λ b. up-near (q - p - 1) (omega arith) (omega arith)))
-      (λ a. split-lt len ((p - q) + (p - q))
-      (λ b. down-far (len - (p - q) - 1) (omega arith) (omega arith))
-      (λ b. down-near (p - q - 1) (omega arith) (omega arith)))
+-- At q no hop is useful; elsewhere plus up to half the ring and minus from half the ring on.
+module _ (len p q : ℕ) (hp : p < len) (hq : q < len) (u : ℕ) (w : Ahead len p q u) where
+  none-useful : (plus : Bool) → u ≡ 0 → axisUseful len true p q plus ≡ ringUseful len u plus
+  unfolding axisUseful hasLink
+  none-useful plus e = rw (ring-distance len p q u hp hq w, eq-eqb u 0 e) (ne-eqb (axisDistance len true (place len p plus) q + 1) (min u (len - u)) (λ f. omega arith))
 
+  plus-useful : 0 < u → axisUseful len true p q true ≡ ringUseful len u true
+  unfolding axisUseful hasLink
+  plus-useful h =
+      let back : u - 1 + 1 ≡ u = omega arith in
+      let next = ring-distance len (place len p true) q (u - 1) (place-below len p true hp) hq (plus-ahead len p q (u - 1) hp hq (rw back w)) in
+      rw (ring-distance len p q u hp hq w, next, ne-eqb u 0 (λ e. omega arith))
+      (by-le (2 * u) len
+      (λ a. rw (le-leb (2 * u) len a) (eq-eqb (min (u - 1) (len - (u - 1)) + 1) (min u (len - u)) (omega arith)))
+      (λ a. rw (lt-leb (2 * u) len a) (ne-eqb (min (u - 1) (len - (u - 1)) + 1) (min u (len - u)) (λ e. omega arith))))
+
+  minus-useful : 0 < u → axisUseful len true p q false ≡ ringUseful len u false
+  unfolding axisUseful hasLink
+  minus-useful h =
+      rw (ring-distance len p q u hp hq w, ne-eqb u 0 (λ e. omega arith))
+      (split-lt (u + 1) len
+      (λ k.
+      let next = ring-distance len (place len p false) q (u + 1) (place-below len p false hp) hq (minus-ahead len p q u hp hq k w) in
+      rw next (by-le len (2 * u)
+      (λ a. rw (le-leb len (2 * u) a) (eq-eqb (min (u + 1) (len - (u + 1)) + 1) (min u (len - u)) (omega arith)))
+      (λ a. rw (lt-leb len (2 * u) a) (ne-eqb (min (u + 1) (len - (u + 1)) + 1) (min u (len - u)) (λ e. omega arith)))))
+      (λ k.
+      let next = ring-distance len (place len p false) q 0 (place-below len p false hp) hq (minus-whole len p q u hp hq (omega (arith, w .below)) w) in
+      rw (next, le-leb len (2 * u) (omega (arith, w .below))) (eq-eqb (min 0 (len - 0) + 1) (min u (len - u)) (omega (arith, w .below)))))
+
+ring-useful : (len p q : ℕ) (plus : Bool) → p < len → q < len → axisUseful len true p q plus ≡ ringUseful len (ahead len p q) plus
+ring-useful len p q plus hp hq = by-le 1 (ahead len p q) (some plus) (λ a. none-useful len p q hp hq _ (ahead-is len p q hp hq) plus (omega arith))
+  where
+    some : (plus : Bool) → 1 ≤ ahead len p q → axisUseful len true p q plus ≡ ringUseful len (ahead len p q) plus
+    some true h = plus-useful len p q hp hq _ (ahead-is len p q hp hq) h
+    some false h = minus-useful len p q hp hq _ (ahead-is len p q hp hq) h
+
+pub useful-is : (len : ℕ) (ring : Bool) (p q : ℕ) (plus : Bool) → p < len → q < len → axisUseful len ring p q plus ≡ cond ring (ringUseful len (ahead len p q) plus) (openUseful p q plus)
+useful-is len true p q plus hp hq = ring-useful len p q plus hp hq
+useful-is len false p q plus hp hq = open-useful len p q plus hp hq
+
+pub ahead-below : (len p q : ℕ) → p < len → q < len → ahead len p q < len
+ahead-below len p q hp hq = ahead-is len p q hp hq .below
+
+-- Toward another place of the dimension some direction is useful.
 pub axis-some : (len : ℕ) (ring : Bool) (p q : ℕ) → p < len → q < len → (p ≡ q → ⊥) → (axisUseful len ring p q true ≡ true) ⊎ (axisUseful len ring p q false ≡ true)
-unfolding Some
-axis-some len false p q hp hq ne = open-some len p q hp hq ne
-axis-some len true p q hp hq ne = ring-some len p q hp hq ne
+axis-some len false p q hp hq ne =
+    rw (open-useful len p q true hp hq, open-useful len p q false hp hq)
+    (split-lt p q (λ a. inl (lt-ltb p q a)) (λ a. inr (lt-ltb q p (omega arith))))
+axis-some len true p q hp hq ne =
+    let w = ahead-is len p q hp hq in
+    let far : ahead len p q ≡ 0 → ⊥ = λ e. by-le p q (λ a. omega (arith, w .up a)) (λ a. omega (arith, w .round a)) in
+    rw (ring-useful len p q true hp hq, ring-useful len p q false hp hq, ne-eqb (ahead len p q) 0 far)
+    (by-le (2 * ahead len p q) len (λ a. inl (le-leb (2 * ahead len p q) len a)) (λ a. inr (le-leb len (2 * ahead len p q) (omega arith))))
 
 -- ---- back over the same link
 pub back-place : (len p : ℕ) (plus : Bool) → p < len → place len (place len p plus) (not plus) ≡ p

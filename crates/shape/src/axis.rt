@@ -1,9 +1,10 @@
 // One dimension: `len` places from 0 on, a ring (wrapped) or open. Defined for all numbers, also for places that do not exist.
 use logic::both;
 use logic::either;
+use logic::pick_bool;
 ghost use mathlib.Core.Path.{_≡_};
 ghost use Prim.Native.Nat.{_≤_, _<_};
-ghost use Rattle.shape.specs.Axis.{gap, axisDistance, hasLink, place, axisUseful};
+ghost use Rattle.shape.specs.Axis.{gap, axisDistance, hasLink, place, axisUseful, ahead, ringUseful};
 
 fn difference(p: u8, q: u8) -> u8
     ensures { λ r. ⌜ r ≡ gap p q ⌝ }
@@ -55,12 +56,46 @@ pub fn next_place(len: u8, p: u8, plus: bool) -> u8
     }
 }
 
-// Whether the hop from p, plus or minus, is useful toward q.
-pub fn useful(len: u8, ring: bool, p: u8, q: u8, plus: bool) -> bool
+// Whether the hop from p, plus or minus, lowers the distance to q by one.
+fn lowers(len: u8, ring: bool, p: u8, q: u8, plus: bool) -> bool
     ensures { λ r. ⌜ r ≡ axisUseful len ring p q plus ⌝ }
 {
     let next = next_place(len, p, plus);
     let after = distance(len, ring, next, q) as u16;
     let before = distance(len, ring, p, q) as u16;
     both(has_link(len, ring, p, plus), after + 1 == before)
+}
+
+// The hops from p to q going plus, round a ring.
+fn hops_ahead(len: u8, p: u8, q: u8) -> u8
+    requires { ⌜ (p < len) × (q < len) ⌝ }
+    ensures { λ r. ⌜ r ≡ ahead len p q ⌝ }
+{
+    if p <= q { q - p } else { len - (p - q) }
+}
+
+fn ring_useful(len: u8, up: u8, plus: bool) -> bool
+    ensures { λ r. ⌜ r ≡ ringUseful len up plus ⌝ }
+{
+    let twice = 2 * (up as u16);
+    both(
+        up != 0,
+        pick_bool(plus, twice <= (len as u16), (len as u16) <= twice),
+    )
+}
+
+// Whether the hop from p, plus or minus, is useful toward q: for two places that exist without their distance.
+pub fn useful(len: u8, ring: bool, p: u8, q: u8, plus: bool) -> bool
+    ensures { λ r. ⌜ r ≡ axisUseful len ring p q plus ⌝ }
+{
+    if len <= p {
+        return lowers(len, ring, p, q, plus);
+    }
+    if len <= q {
+        return lowers(len, ring, p, q, plus);
+    }
+    if ring {
+        return ring_useful(len, hops_ahead(len, p, q), plus);
+    }
+    pick_bool(plus, p < q, q < p)
 }

@@ -1,0 +1,46 @@
+use Rattle.shape.specs.Axis.{axisUseful}
+use borrow.Author.Needs.{needs}
+use Rattle.shape.proofs.axis.lowers.Statement.{statement}
+use Rattle.shape.proofs.axis.lowers.Tie as tie
+
+next-place-requires : tie.Need-next-place-requires
+next-place-requires c κs = search needs
+
+distance-requires : tie.Need-distance-requires
+distance-requires c κs = search needs
+
+cast-after : tie.Need-cast-after
+cast-after c = search needs
+
+distance-requires-2 : tie.Need-distance-requires-2
+distance-requires-2 c κs = search needs
+
+cast-before : tie.Need-cast-before
+cast-before c = search needs
+
+has-link-requires : tie.Need-has-link-requires
+has-link-requires c κs = search needs
+
+add-both : tie.Need-add-both
+add-both c = search needs
+
+both-requires : tie.Need-both-requires
+both-requires c κs = search needs
+
+returns : tie.Need-returns
+unfolding axisUseful
+returns c = cc
+
+pub lowers-spec : {M : Type 1} → statement M
+lowers-spec =
+    tie.close
+    (tie.spec
+    next-place-requires
+    distance-requires
+    cast-after
+    distance-requires-2
+    cast-before
+    has-link-requires
+    add-both
+    both-requires
+    returns)
