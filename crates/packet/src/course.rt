@@ -156,9 +156,10 @@ impl Course {
         ensures { λ r. ⌜ r ≡ courseOf (axes .shape) (settled (moved (axes .shape) (packetOf legs self) dir)) ⌝ }
     {
         let at = self.moved(axes, dir);
+        let to = self.to;
         let shape = axes.shape;
-        let node = number_at(shape, coords_in(at));
         let front = self.front;
+        let node = number_at(shape, coords_in(at));
         if node == front.target {
             return Course::of(
                 Packet {
@@ -169,7 +170,6 @@ impl Course {
                 shape,
             );
         }
-        let to = self.to;
         Course {
             node: node,
             left: self.left,

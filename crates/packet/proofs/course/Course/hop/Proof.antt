@@ -23,15 +23,15 @@ number-at-requires c κs = search needs
 
 -- src/course.rt:163:13
 of-requires : tie.Need-of-requires
-of-requires c κs = hop-fine _ _ _ (c .before .before .before .before .before .before .before .pre .0) _ (c .before .before .before .before .before .before .before .pre .1 .0) _ _ _ (c .before .before .before .before .before .before .moved .ensures) (c .before .before .before .before .coords-in .ensures) (c .before .before .before .number-at .ensures)
+of-requires c κs = hop-fine _ _ _ (c .before .before .before .before .before .before .before .before .pre .0) _ (c .before .before .before .before .before .before .before .before .pre .1 .0) _ _ _ (c .before .before .before .before .before .before .before .moved .ensures) (c .before .before .before .coords-in .ensures) (c .before .before .number-at .ensures)
 
 -- src/course.rt:163:13
 returns : tie.Need-returns
-returns c = hop-drops _ _ _ (c .before .before .before .before .before .before .before .before .pre .0) _ (c .before .before .before .before .before .before .before .before .pre .1 .0) _ _ _ (c .before .before .before .before .before .before .before .moved .ensures) (c .before .before .before .before .before .coords-in .ensures) (c .before .before .before .before .number-at .ensures) _ (c .of .ensures)
+returns c = hop-drops _ _ _ (c .before .before .before .before .before .before .before .before .before .pre .0) _ (c .before .before .before .before .before .before .before .before .before .pre .1 .0) _ _ _ (c .before .before .before .before .before .before .before .before .moved .ensures) (c .before .before .before .before .coords-in .ensures) (c .before .before .before .number-at .ensures) _ (c .of .ensures)
 
 -- src/course.rt:152:5
 returns-2 : tie.Need-returns-2
-returns-2 c = hop-stays _ _ _ (c .before .before .before .before .before .before .before .before .pre .0) _ (c .before .before .before .before .before .before .before .before .pre .1 .0) _ _ _ (c .before .before .before .before .before .before .before .moved .ensures) (c .before .before .before .before .before .coords-in .ensures) (c .before .before .before .before .number-at .ensures) (c .before .before .before .before .before .before .before .before .pre .1 .1) (c .before .if1 .left)
+returns-2 c = hop-stays _ _ _ (c .before .before .before .before .before .before .before .before .pre .0) _ (c .before .before .before .before .before .before .before .before .pre .1 .0) _ _ _ (c .before .before .before .before .before .before .before .moved .ensures) (c .before .before .before .coords-in .ensures) (c .before .before .number-at .ensures) (c .before .before .before .before .before .before .before .before .pre .1 .1) (c .if1 .left)
 
 pub hop-spec : {M : Type 1} → statement M
 hop-spec =

@@ -1,0 +1,204 @@
+// Shapes and packets as text.
+use crate::stepper;
+use crate::stepper::Leg;
+use crate::stepper::Mode;
+use crate::stepper::Packet;
+use crate::stepper::Shape;
+use text::decimal;
+use text::decimal::Byte;
+use text::decimal::Word;
+use text::field;
+use text::part::after;
+use text::part::before;
+use text::part::part;
+use text::put;
+use text::scan;
+
+// The shape and the packet of a line, if both can be read.
+pub struct Case {
+    pub readable: bool,
+    pub shape: Shape,
+    pub packet: Packet,
+}
+
+enum ShapeField {
+    Shape(Shape),
+    Bad,
+}
+
+// A struct, since no enum can hold an array, which a packet has.
+struct PacketField {
+    readable: bool,
+    packet: Packet,
+}
+
+enum ModeField {
+    Mode(Mode),
+    Bad,
+}
+
+enum LegField {
+    Leg(Leg),
+    Bad,
+}
+
+// Reads the fields `extents=a,b,c` and `wrap=n`.
+fn shape(line: &[u8]) -> ShapeField {
+    let extents = field::value(line, b"extents=");
+    let rest = after(extents, b',');
+    let Byte::Value(x) = decimal::read_byte(before(extents, b',')) else {
+        return ShapeField::Bad;
+    };
+    let Byte::Value(y) = decimal::read_byte(before(rest, b',')) else {
+        return ShapeField::Bad;
+    };
+    let Byte::Value(z) = decimal::read_byte(after(rest, b',')) else {
+        return ShapeField::Bad;
+    };
+    let Byte::Value(wrap) = decimal::read_byte(field::value(line, b"wrap=")) else {
+        return ShapeField::Bad;
+    };
+    ShapeField::Shape(Shape {
+        x: x,
+        y: y,
+        z: z,
+        wrap: wrap,
+    })
+}
+
+fn mode(s: &[u8]) -> ModeField {
+    if s.len() != 1 {
+        return ModeField::Bad;
+    }
+    match s[0] {
+        b'A' => ModeField::Mode(Mode::Adaptive),
+        b'D' => ModeField::Mode(Mode::Deterministic),
+        _ => ModeField::Bad,
+    }
+}
+
+// A leg `target:mode`.
+fn leg(s: &[u8]) -> LegField {
+    let Word::Value(target) = decimal::read_word(before(s, b':')) else {
+        return LegField::Bad;
+    };
+    let ModeField::Mode(m) = mode(after(s, b':')) else {
+        return LegField::Bad;
+    };
+    LegField::Leg(Leg {
+        target: target,
+        mode: m,
+    })
+}
+
+fn readable(packet: Packet) -> PacketField {
+    PacketField {
+        readable: true,
+        packet: packet,
+    }
+}
+
+fn bad_packet() -> PacketField {
+    PacketField {
+        readable: false,
+        packet: stepper::resting(0),
+    }
+}
+
+// A packet at `node` with the legs of `s`, with commas between them; none where `s` is empty.
+fn with_legs(node: u16, s: &[u8]) -> PacketField {
+    let mut packet = stepper::resting(node);
+    if s.len() == 0 {
+        return readable(packet);
+    }
+    let mut start = 0;
+    while start <= s.len() {
+        let end = scan::find(s, start, b',');
+        let LegField::Leg(next) = leg(part(s, start, end)) else {
+            return bad_packet();
+        };
+        packet = stepper::with_leg(packet, next);
+        start = end + 1;
+    }
+    readable(packet)
+}
+
+// The text of a line's packet.
+fn packet_text(line: &[u8]) -> &[u8] {
+    field::value(line, b"packet=")
+}
+
+// A packet `node;legs`.
+fn packet(s: &[u8]) -> PacketField {
+    if scan::find(s, 0, b';') == s.len() {
+        return bad_packet();
+    }
+    let Word::Value(node) = decimal::read_word(before(s, b';')) else {
+        return bad_packet();
+    };
+    with_legs(node, after(s, b';'))
+}
+
+// Reads the fields `extents`, `wrap` and `packet`.
+pub fn read_case(line: &[u8]) -> Case {
+    let field = packet(packet_text(line));
+    let packet = field.packet;
+    match shape(line) {
+        ShapeField::Shape(shape) => Case {
+            readable: field.readable,
+            shape: shape,
+            packet: packet,
+        },
+        ShapeField::Bad => Case {
+            readable: false,
+            shape: Shape {
+                x: 0,
+                y: 0,
+                z: 0,
+                wrap: 0,
+            },
+            packet: packet,
+        },
+    }
+}
+
+fn letter(mode: Mode) -> u8 {
+    match mode {
+        Mode::Adaptive => b'A',
+        Mode::Deterministic => b'D',
+    }
+}
+
+fn put_leg(out: &mut [u8], at: usize, leg: Leg) -> usize {
+    let mode = leg.mode;
+    let next = decimal::put(out, at, leg.target as u64);
+    let colon = put::byte(out, next, b':');
+    put::byte(out, colon, letter(mode))
+}
+
+// Writes a packet. One with more legs than a packet can hold is written as it was given, in `text`.
+fn put_packet(out: &mut [u8], at: usize, packet: Packet, text: &[u8]) -> usize {
+    let legs = packet.legs;
+    let left = packet.left;
+    if 2 < left {
+        return put::bytes(out, at, text);
+    }
+    let node = decimal::put(out, at, packet.node as u64);
+    let next = put::byte(out, node, b';');
+    if left == 0 {
+        return next;
+    }
+    if left == 1 {
+        return put_leg(out, next, legs[1]);
+    }
+    let first = put_leg(out, next, legs[0]);
+    let comma = put::byte(out, first, b',');
+    put_leg(out, comma, legs[1])
+}
+
+// Writes the fields `number` and `packet` of the answer to a line.
+pub fn put_answer(out: &mut [u8], at: usize, number: u8, packet: Packet, line: &[u8]) -> usize {
+    let end = field::put_number(out, at, b"number=", number as u64);
+    let key = put::bytes(out, end, b" packet=");
+    put_packet(out, key, packet, packet_text(line))
+}

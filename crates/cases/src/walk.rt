@@ -1,0 +1,46 @@
+// The operation `walk`: one call of the stepper's walk.
+use crate::packets;
+use crate::stepper;
+use crate::stepper::WalkAnswer;
+use crate::unreadable::unreadable;
+use text::field;
+use text::hex;
+use text::hex::Count;
+use text::part::front;
+use text::put;
+
+// The longest run of directions.
+const RUN_BYTES: usize = 65536;
+
+fn put_ending(out: &mut [u8], at: usize, number: u8, arrived: bool) -> usize {
+    if number == 15 {
+        return put::bytes(out, at, b" ending=not-allowed");
+    }
+    if number != 0 {
+        return put::bytes(out, at, b" ending=refused");
+    }
+    if arrived {
+        return put::bytes(out, at, b" ending=arrived");
+    }
+    put::bytes(out, at, b" ending=used-up")
+}
+
+fn put_walk(out: &mut [u8], at: usize, walk: WalkAnswer, line: &[u8]) -> usize {
+    let packet = packets::put_answer(out, at, walk.number, walk.packet, line);
+    let hops = field::put_number(out, packet, b" hops=", walk.hops as u64);
+    put_ending(out, hops, walk.number, walk.arrived)
+}
+
+// Writes the answer to a line `walk extents=.. wrap=.. packet=.. run=..`.
+pub fn answer(line: &[u8], out: &mut [u8], at: usize) -> usize {
+    let case = packets::read_case(line);
+    if !case.readable {
+        return unreadable(out, at);
+    }
+    let mut run = [0u8; RUN_BYTES];
+    let Count::Bytes(count) = hex::read(field::value(line, b"run="), &mut run) else {
+        return unreadable(out, at);
+    };
+    let walk = stepper::walk(case.packet, case.shape, front(&run, count));
+    put_walk(out, at, walk, line)
+}

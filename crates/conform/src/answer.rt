@@ -1,0 +1,42 @@
+// The answer to one line.
+use cases::step;
+use cases::unreadable::unreadable;
+use cases::walk;
+use text::compare::same;
+use text::field;
+use text::part::front;
+use text::put;
+use text::scan::find_text;
+
+// Writes what the operation that the first word names answers.
+fn operation(given: &[u8], out: &mut [u8], at: usize) -> usize {
+    let name = field::first_word(given);
+    if same(name, b"step") {
+        return step::answer(given, out, at);
+    }
+    if same(name, b"walk") {
+        return walk::answer(given, out, at);
+    }
+    unreadable(out, at)
+}
+
+// Writes what was given and ' => '.
+fn put_given(out: &mut [u8], given: &[u8]) -> usize {
+    let end = put::bytes(out, 0, given);
+    put::bytes(out, end, b" => ")
+}
+
+// Writes the given part of a line, which ends before ' => ', then ' => ', the answer and a newline.
+pub fn answer(line: &[u8], out: &mut [u8]) -> usize {
+    let given = front(line, find_text(line, b" => "));
+    let at = put_given(out, given);
+    let end = operation(given, out, at);
+    put::byte(out, end, b'\n')
+}
+
+// Writes the answer to a line that is too long to be held, of which `start` is as much as is held.
+pub fn too_long(start: &[u8], out: &mut [u8]) -> usize {
+    let at = put_given(out, start);
+    let end = unreadable(out, at);
+    put::byte(out, end, b'\n')
+}
