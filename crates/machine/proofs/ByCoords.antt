@@ -1,10 +1,12 @@
 -- Hops by coordinates are the hops of the nodes with these coordinates.
-use Prim.Native.Nat.{ℕ, _+_, _%_, _≤_, _<_}
+use Prim.Native.Nat.{ℕ, _+_, _/_, _%_, _≤_, _<_}
 use mathlib.Core.Bool.{true, false, _&&_, and-assoc}
-use mathlib.Core.Path.{_≡_, refl, sym, _∙_}
+use mathlib.Core.Path.{_≡_, refl, sym, ap, _∙_}
 use native.Mathlib.Omega.{arith}
 use lib.Dec.{leb, eqb}
+use borrow.Author.Tests.{eq-eqb, ne-eqb, lt-ltb, le-ltb}
 use Rattle.theory.proofs.Bools.{eqb-same}
+use Rattle.theory.proofs.Cases.{by-le}
 use Rattle.shape.specs.declared.shape.Shape.{Shape}
 use Rattle.shape.specs.declared.shape.Coords.{Coords}
 use Rattle.shape.specs.declared.shape.Dim.{Dim}
@@ -16,7 +18,7 @@ use Rattle.machine.specs.Number.{nodeCount, numberOf, coordsOf, Inside}
 use Rattle.shape.specs.Axis.{axisDistance, place, axisUseful}
 use Rattle.machine.specs.Hop.{dirDim, dirPlus, plusDir, minusDir, part, distance, link, neighbour, useful, toward, firstDirection}
 use Rattle.machine.specs.Torus.{allowedBy}
-use Rattle.machine.specs.ByCoords.{distanceAlong, linkAlong, usefulAlong, distanceAt, linkAt, movedAt, usefulAt, towardAt, firstAt, allowedAt}
+use Rattle.machine.specs.ByCoords.{inDim, distanceAlong, linkAlong, usefulAlong, distanceAt, linkAt, movedAt, usefulAt, towardAt, firstAt, allowedAt}
 use Rattle.shape.proofs.Shapes.{sound}
 use Rattle.machine.proofs.Numbers.{number-below, coords-number, number-fits, inside}
 use Rattle.shape.proofs.AxisLaws.{place-below, axis-below}
@@ -47,6 +49,50 @@ unfolding distanceAt
 distance-put s c t X v = omega arith
 distance-put s c t Y v = omega arith
 distance-put s c t Z v = omega arith
+
+-- ---- values chosen by the dimension of a direction
+dim-cases : (P : ℕ → Dim → Type 0) → ((dir : ℕ) → dir / 2 ≡ 0 → P dir X) → ((dir : ℕ) → dir / 2 ≡ 1 → P dir Y) → ((dir : ℕ) → 2 ≤ dir / 2 → P dir Z) → (dir : ℕ) → P dir (dirDim dir)
+unfolding dirDim
+dim-cases P x y z dir =
+    by-le 2 dir
+    (λ a. rw (le-ltb dir 2 a) (by-le 4 dir (λ b. rw (le-ltb dir 4 b) (z dir (omega arith))) (λ b. rw (lt-ltb dir 4 b) (y dir (omega arith)))))
+    (λ a. rw (lt-ltb dir 2 a) (x dir (omega arith)))
+
+pub in-dim : (f : Dim → ℕ) (dir : ℕ) → inDim dir (f X) (f Y) (f Z) ≡ f (dirDim dir)
+in-dim f =
+    dim-cases (λ dir d. inDim dir (f X) (f Y) (f Z) ≡ f d)
+    (λ dir e. rw (eq-eqb (dir / 2) 0 e))
+    (λ dir e. rw (ne-eqb (dir / 2) 0 (λ z. omega arith), eq-eqb (dir / 2) 1 e))
+    (λ dir e. rw (ne-eqb (dir / 2) 0 (λ z. omega arith), ne-eqb (dir / 2) 1 (λ z. omega arith)))
+
+pub put-dim : (c : Coords) (v dir : ℕ) → _≡_ {A = Coords} (record { x = inDim dir v (c .x) (c .x); y = inDim dir (c .y) v (c .y); z = inDim dir (c .z) (c .z) v }) (put c (dirDim dir) v)
+put-dim c v =
+    dim-cases (λ dir d. _≡_ {A = Coords} (record { x = inDim dir v (c .x) (c .x); y = inDim dir (c .y) v (c .y); z = inDim dir (c .z) (c .z) v }) (put c d v))
+    (λ dir e. rw (eq-eqb (dir / 2) 0 e))
+    (λ dir e. rw (ne-eqb (dir / 2) 0 (λ z. omega arith), eq-eqb (dir / 2) 1 e))
+    (λ dir e. rw (ne-eqb (dir / 2) 0 (λ z. omega arith), ne-eqb (dir / 2) 1 (λ z. omega arith)))
+
+pub moved-dim :
+    (s : Shape) (c : Coords) (dir p len next : ℕ) →
+    p ≡ inDim dir (c .x) (c .y) (c .z) →
+    len ≡ inDim dir (s .x) (s .y) (s .z) →
+    next ≡ place len p (dirPlus dir) →
+    _≡_ {A = Coords} (record { x = inDim dir next (c .x) (c .x); y = inDim dir (c .y) next (c .y); z = inDim dir (c .z) (c .z) next }) (movedAt s c dir)
+unfolding movedAt
+moved-dim s c dir p len next ep el en = put-dim c next dir ∙ rw (en, el, ep, in-dim (extentOf s) dir, in-dim (coordOf c) dir)
+
+abbrev wrapBit : Shape → Dim → ℕ
+wrapBit s X = s .wrap % 2
+wrapBit s Y = s .wrap / 2 % 2
+wrapBit s Z = s .wrap / 4 % 2
+
+wrap-bit : (s : Shape) (d : Dim) → eqb (wrapBit s d) 1 ≡ wrappedIn s d
+wrap-bit s X = refl
+wrap-bit s Y = refl
+wrap-bit s Z = refl
+
+pub wrapped-dim : (s : Shape) (dir : ℕ) → eqb (inDim dir (s .wrap % 2) (s .wrap / 2 % 2) (s .wrap / 4 % 2)) 1 ≡ wrappedIn s (dirDim dir)
+wrapped-dim s dir = ap (λ b. eqb b 1) (in-dim (wrapBit s) dir) ∙ wrap-bit s (dirDim dir)
 
 -- ---- the definitions by numbers, read by coordinates
 pub distance-at : (s : Shape) (n t : ℕ) → distance s n t ≡ distanceAt s (coordsOf s n) (coordsOf s t)

@@ -1,5 +1,5 @@
 -- Hops by coordinates, as the code computes them: of any coordinates, also outside the shape.
-use Prim.Native.Nat.{ℕ, _+_}
+use Prim.Native.Nat.{ℕ, _+_, _/_}
 use mathlib.Core.Bool.{Bool, true, false, cond, not, _&&_}
 use lib.Dec.{leb, eqb}
 use Rattle.shape.specs.declared.shape.Shape.{Shape}
@@ -11,6 +11,10 @@ use Rattle.machine.specs.declared.leg.Mode.the-variants.{Adaptive, Deter
 use Rattle.shape.specs.Shape.{extentOf, wrappedIn, coordOf, put}
 use Rattle.shape.specs.Axis.{axisDistance, hasLink, place, axisUseful}
 use Rattle.machine.specs.Hop.{dirDim, dirPlus, plusDir, minusDir, halfRingDir}
+
+-- One of three values, by the dimension of a direction.
+abbrev pub inDim : ℕ → ℕ → ℕ → ℕ → ℕ
+inDim dir x y z = cond (eqb (dir / 2) 0) x (cond (eqb (dir / 2) 1) y z)
 
 abbrev pub distanceAlong : Shape → Coords → Coords → Dim → ℕ
 distanceAlong s c t d = axisDistance (extentOf s d) (wrappedIn s d) (coordOf c d) (coordOf t d)

@@ -8,13 +8,13 @@ use shape::Shape;
 use shape::axis;
 use shape::shape::coord;
 use shape::shape::extent;
-use shape::shape::with_coord;
 use shape::shape::wrapped;
 ghost use mathlib.Core.Path.{_≡_};
 ghost use Prim.Native.Nat.{_+_, _*_, _%_, _≤_, _<_};
+ghost use Rattle.shape.specs.Shape.{wrappedIn};
 ghost use Rattle.machine.specs.Number.{numberOf};
 ghost use Rattle.machine.specs.Hop.{dirDim, dirPlus, plusDir, minusDir, halfRingDir};
-ghost use Rattle.machine.specs.ByCoords.{distanceAlong, usefulAlong, distanceAt, linkAt, movedAt, usefulAt, towardAt, firstAt, allowedAt};
+ghost use Rattle.machine.specs.ByCoords.{inDim, distanceAlong, usefulAlong, distanceAt, linkAt, movedAt, usefulAt, towardAt, firstAt, allowedAt};
 
 fn dim_of(dir: u8) -> Dim
     ensures { λ r. ⌜ r ≡ dirDim dir ⌝ }
@@ -26,6 +26,14 @@ fn dim_of(dir: u8) -> Dim
     } else {
         Dim::Z
     }
+}
+
+// One of three values, by a direction's dimension. Chosen by values and not by branches, since a walk's directions cannot be foretold.
+fn in_dim(dir: u8, x: u8, y: u8, z: u8) -> u8
+    ensures { λ r. ⌜ r ≡ inDim dir x y z ⌝ }
+{
+    let i = dir / 2;
+    pick(i == 0, x, pick(i == 1, y, z))
 }
 
 fn is_plus(dir: u8) -> bool
@@ -113,12 +121,14 @@ pub fn link_at(shape: Shape, at: Coords, dir: u8) -> bool
 pub fn moved_at(shape: Shape, at: Coords, dir: u8) -> Coords
     ensures { λ r. ⌜ r ≡ movedAt shape at dir ⌝ }
 {
-    let d = dim_of(dir);
-    with_coord(
-        at,
-        d,
-        axis::next_place(extent(shape, d), coord(at, d), is_plus(dir)),
-    )
+    let p = in_dim(dir, at.x, at.y, at.z);
+    let len = in_dim(dir, shape.x, shape.y, shape.z);
+    let next = axis::next_place(len, p, is_plus(dir));
+    Coords {
+        x: in_dim(dir, next, at.x, at.x),
+        y: in_dim(dir, at.y, next, at.y),
+        z: in_dim(dir, at.z, at.z, next),
+    }
 }
 
 fn useful_along(shape: Shape, at: Coords, to: Coords, d: Dim, plus: bool) -> bool
@@ -133,14 +143,25 @@ fn useful_along(shape: Shape, at: Coords, to: Coords, d: Dim, plus: bool) -> boo
     )
 }
 
+// The wrap of a direction's dimension.
+fn wrapped_in(shape: Shape, dir: u8) -> bool
+    ensures { λ r. ⌜ r ≡ wrappedIn shape (dirDim dir) ⌝ }
+{
+    let x = shape.wrap % 2;
+    let y = shape.wrap / 2 % 2;
+    let z = shape.wrap / 4 % 2;
+    in_dim(dir, x, y, z) == 1
+}
+
 // Whether the hop in a direction is useful.
 pub fn useful_at(shape: Shape, at: Coords, to: Coords, dir: u8) -> bool
     ensures { λ r. ⌜ r ≡ usefulAt shape at to dir ⌝ }
 {
-    both(
-        dir <= 5,
-        useful_along(shape, at, to, dim_of(dir), is_plus(dir)),
-    )
+    let len = in_dim(dir, shape.x, shape.y, shape.z);
+    let p = in_dim(dir, at.x, at.y, at.z);
+    let q = in_dim(dir, to.x, to.y, to.z);
+    let ring = wrapped_in(shape, dir);
+    both(dir <= 5, axis::useful(len, ring, p, q, is_plus(dir)))
 }
 
 fn toward_at(shape: Shape, at: Coords, to: Coords, d: Dim) -> u8

@@ -2,3 +2,4 @@ pub mod Stored
 pub mod Drops
 pub mod Courses
 pub mod Walks
+pub mod Claim

@@ -15,7 +15,6 @@ use Rattle.shape.specs.declared.shape.Shape.{Shape}
 use Rattle.machine.specs.declared.leg.Leg.{Leg}
 use Rattle.machine.specs.Torus.{torus}
 use Rattle.packet.specs.declared.packet.Packet.{Packet}
-use Rattle.packet.specs.declared.course.Axes.{Axes}
 use Rattle.packet.specs.declared.course.Course.{Course}
 use Rattle.packet.specs.declared.stepper.Answer.{Answer}
 use Rattle.packet.specs.declared.stepper.Answer.the-variants.{Hopped}
@@ -26,7 +25,7 @@ use Rattle.packet.specs.declared.stepper.Walked.{Walked}
 use Rattle.packet.specs.Packet.{legsLeft, packetError, hopped, stored}
 use Rattle.packet.specs.Answers.{answered, endedAs, told, toldWalk}
 use Rattle.packet.specs.Steps.{settled, moved, Fine}
-use Rattle.packet.specs.Course.{axesOf, packetOf, courseOf, On, keptOf}
+use Rattle.packet.specs.Course.{packetOf, courseOf, On, keptOf}
 use Rattle.packet.proofs.Stored.{fine-error}
 use Rattle.packet.proofs.Drops.{settled-legs, settled-array, settled-again, hop-is, fine-settled, fine-moved}
 use Rattle.packet.proofs.Courses.{packet-course, on-course}
@@ -53,31 +52,31 @@ pub step-refused : (s : Shape) (q : Packet) (d e : ℕ) → e ≡ packetError s 
 unfolding told T.step
 step-refused s q d e h ne = rw (← h, ne-eqb e 0 ne, refused-as e ne)
 
--- A packet that no check declines, and the axes and the course that the code makes of it.
-module _ (s : Shape) (q : Packet) (f : Fine s q) (a : Axes) (ea : a ≡ axesOf s) (c : Course) (ec : c ≡ courseOf s (settled q)) where
-  pub on-way : On a (q .legs) c
-  on-way = rw (ea, ec) (on-course s (settled q) (q .legs) (sym (settled-array q)) (fine-settled s q f))
+-- A packet that no check declines, and the course that the code makes of it.
+module _ (s : Shape) (q : Packet) (f : Fine s q) (c : Course) (ec : c ≡ courseOf s (settled q)) where
+  pub on-way : On s (q .legs) c
+  on-way = rw ec (on-course s (settled q) (q .legs) (sym (settled-array q)) (fine-settled s q f))
 
   ready : packetOf (q .legs) c ≡ settled q
   ready = rw ec (packet-course s (settled q) (q .legs) (sym (settled-array q)))
 
   module _ (d : ℕ) where
-    may-go-way : goesTo (a .shape) (packetOf (q .legs) c) d ≡ T.mayGo (torus s) (stored s) q d
-    may-go-way = rw (ea, ready) (may-go s q d)
+    may-go-way : goesTo s (packetOf (q .legs) c) d ≡ T.mayGo (torus s) (stored s) q d
+    may-go-way = rw ready (may-go s q d)
 
-    hop-way : settled (moved (a .shape) (packetOf (q .legs) c) d) ≡ hopped s q d
-    hop-way = rw (ea, ready) (hop-is s q d)
+    hop-way : settled (moved s (packetOf (q .legs) c) d) ≡ hopped s q d
+    hop-way = rw ready (hop-is s q d)
 
-    next-legs : settled (moved (a .shape) (packetOf (q .legs) c) d) .legs ≡ q .legs
+    next-legs : settled (moved s (packetOf (q .legs) c) d) .legs ≡ q .legs
     next-legs = settled-array _
 
-    pub step-hopped : (n : Course) (next : Packet) → n ≡ courseOf (a .shape) (settled (moved (a .shape) (packetOf (q .legs) c) d)) → next ≡ packetOf (q .legs) n → goesTo (a .shape) (packetOf (q .legs) c) d ≡ true → stepped next Hopped ≡ told (T.step (torus s) (stored s) q d)
+    pub step-hopped : (n : Course) (next : Packet) → n ≡ courseOf s (settled (moved s (packetOf (q .legs) c) d)) → next ≡ packetOf (q .legs) n → goesTo s (packetOf (q .legs) c) d ≡ true → stepped next Hopped ≡ told (T.step (torus s) (stored s) q d)
     unfolding told answered T.step T.tried
     step-hopped n next en ep h =
-        let is : next ≡ hopped s q d = ep ∙ rw en (packet-course (a .shape) _ (q .legs) (sym next-legs)) ∙ hop-way in
+        let is : next ≡ hopped s q d = ep ∙ rw en (packet-course s _ (q .legs) (sym next-legs)) ∙ hop-way in
         rw (fine-error s q f, sym may-go-way ∙ h, is)
 
-    pub step-stays : goesTo (a .shape) (packetOf (q .legs) c) d ≡ false → stepped q (Answer.Refused 15) ≡ told (T.step (torus s) (stored s) q d)
+    pub step-stays : goesTo s (packetOf (q .legs) c) d ≡ false → stepped q (Answer.Refused 15) ≡ told (T.step (torus s) (stored s) q d)
     unfolding told answered T.step T.tried
     step-stays h = rw (fine-error s q f, sym may-go-way ∙ h)
 
@@ -98,12 +97,12 @@ abbrev after : ℕ → T.Walked Packet → T.Walked Packet
 after k w = record { packet = w .packet; hops = k + w .hops; ending = w .ending }
 
 -- After k hops from lent the packet is as it would be handed back, and the course carries it with the drops stored.
-pub record Going (a : Axes) (legs : List Leg) (dirs : List ℕ) (lent : Packet) (c : Course) (k : ℕ) : Type 0 where
-  pub on : On a legs c
+pub record Going (s : Shape) (legs : List Leg) (dirs : List ℕ) (lent : Packet) (c : Course) (k : ℕ) : Type 0 where
+  pub on : On s legs c
   pub array : legs ≡ lent .legs
   pub within : k ≤ length dirs
   pub stores : settled (keptOf lent k (packetOf legs c)) ≡ packetOf legs c
-  pub rest : after k (T.goes (torus (a .shape)) (stored (a .shape)) (keptOf lent k (packetOf legs c)) (drop k dirs)) ≡ T.goes (torus (a .shape)) (stored (a .shape)) lent dirs
+  pub rest : after k (T.goes (torus s) (stored s) (keptOf lent k (packetOf legs c)) (drop k dirs)) ≡ T.goes (torus s) (stored s) lent dirs
 
 after-0 : (w : T.Walked Packet) → after 0 w ≡ w
 after-0 w = λ i. record { packet = w .packet; hops = none (w .hops) i; ending = w .ending }
@@ -119,18 +118,14 @@ kept-some : (lent q : Packet) (k : ℕ) → keptOf lent (k + 1) q ≡ q
 unfolding keptOf
 kept-some lent q k = rw (ne-eqb (k + 1) 0 (λ e. omega arith))
 
-pub begin : (s : Shape) (q : Packet) (f : Fine s q) (a : Axes) (ea : a ≡ axesOf s) (c : Course) (ec : c ≡ courseOf s (settled q)) (dirs : List ℕ) → Going a (q .legs) dirs q c 0
-begin s q f a ea c ec dirs = record {
-  on = on-way s q f a ea c ec;
+pub begin : (s : Shape) (q : Packet) (f : Fine s q) (c : Course) (ec : c ≡ courseOf s (settled q)) (dirs : List ℕ) → Going s (q .legs) dirs q c 0
+begin s q f c ec dirs = record {
+  on = on-way s q f c ec;
   array = refl;
   within = omega arith;
-  stores = rw (kept-none q (packetOf (q .legs) c)) (sym (ready s q f a ea c ec));
+  stores = rw (kept-none q (packetOf (q .legs) c)) (sym (ready s q f c ec));
   rest = rw (kept-none q (packetOf (q .legs) c)) (after-0 _);
 }
-
--- What is told of the axes' shape is told of the shape that they are made of.
-pub of-shape : (s : Shape) (a : Axes) (dirs : List ℕ) (lent : Packet) (w : Walked) → a ≡ axesOf s → w ≡ toldWalk (T.goes (torus (a .shape)) (stored (a .shape)) lent dirs) → w ≡ toldWalk (T.goes (torus s) (stored s) lent dirs)
-of-shape s a dirs lent w e h = h ∙ ap (λ x. toldWalk (T.goes (torus (x .shape)) (stored (x .shape)) lent dirs)) e
 
 -- No leg is left exactly if the packet has arrived.
 none-left : (ls : List Leg) → T.isNone ls ≡ eqb (length ls) 0
@@ -152,10 +147,7 @@ add-zero k = omega arith
 add-suc : (k h : ℕ) → k + suc h ≡ k + 1 + h
 add-suc k h = omega arith
 
-module _ (a : Axes) (legs : List Leg) (dirs : List ℕ) (lent : Packet) (c : Course) (k : ℕ) (g : Going a legs dirs lent c k) where
-  abbrev s : Shape
-  s = a .shape
-
+module _ (s : Shape) (legs : List Leg) (dirs : List ℕ) (lent : Packet) (c : Course) (k : ℕ) (g : Going s legs dirs lent c k) where
   abbrev p : Packet
   p = packetOf legs c
 
@@ -199,13 +191,13 @@ module _ (a : Axes) (legs : List Leg) (dirs : List ℕ) (lent : Packet) (c : Cou
     unfolding T.goes
     goes-next a = sym (rw (← g .rest, drop-cons dirs k 0 h, arrived-on, e, sym (may-go-on (getD dirs k 0)) ∙ a, ← next-is, add-suc k _, add-one))
 
-    pub onward : goesTo s p (getD dirs k 0) ≡ true → Going a legs dirs lent (courseOf s (settled (moved s p (getD dirs k 0)))) (k + 1)
+    pub onward : goesTo s p (getD dirs k 0) ≡ true → Going s legs dirs lent (courseOf s (settled (moved s p (getD dirs k 0)))) (k + 1)
     unfolding next
     onward t =
         let array : legs ≡ next .legs = sym (settled-array (moved s p (getD dirs k 0))) in
         let is = packet-course s next legs array in
         record {
-          on = rw (← g .on .axes) at (on-course s next legs array (fine-settled s _ (fine-moved s p (getD dirs k 0) (g .on .fine))));
+          on = on-course s next legs array (fine-settled s _ (fine-moved s p (getD dirs k 0) (g .on .fine)));
           array = g .array;
           within = omega arith;
           stores = rw (is, kept-some lent next k) (settled-again _);

@@ -1,69 +1,28 @@
-// A packet on its way, as a walk carries it: the drops stored, its front leg at hand, and the places of its node and of that leg's target in each
-// dimension, so that they are not worked out at each hop.
+// A packet on its way, as a walk carries it: the drops stored, its front leg at hand, and the coordinates of its node and of that leg's target beside
+// them, so that they are not worked out at each hop.
 use crate::packet::Packet;
-use machine::hop::first_at;
+use machine::hop::allowed_at;
+use machine::hop::moved_at;
 use machine::hop::number_at;
 use machine::leg::Leg;
 use machine::leg::Mode;
 use machine::node::coords;
 use shape::Coords;
-use shape::Dim;
 use shape::Shape;
-use shape::axis;
-use shape::shape::wrapped;
 ghost use mathlib.Core.Path.{_≡_};
 ghost use Prim.Native.Nat.{_≤_, _<_};
-ghost use lib.Dec.{eqb};
 ghost use Rattle.theory.specs.Machine.{allows};
 ghost use Rattle.machine.specs.Torus.{torus};
 ghost use Rattle.packet.specs.Packet.{mostLegs, legsLeft};
 ghost use Rattle.packet.specs.Steps.{Fine, frontOr, settled, moved};
-ghost use Rattle.packet.specs.Course.{placesOf, coordsIn, axesOf, packetOf, courseOf, usefulIn, firstIn, movedIn, On};
-
-// A shape with its extents and wraps by the number of the dimension.
-pub struct Axes {
-    pub shape: Shape,
-    pub len: [u8; 3],
-    pub ring: [bool; 3],
-}
+ghost use Rattle.packet.specs.Course.{packetOf, courseOf, On};
 
 pub struct Course {
     pub node: u16,
     pub left: u8,
     pub front: Leg,
-    pub at: [u8; 3],
-    pub to: [u8; 3],
-}
-
-fn places(c: Coords) -> [u8; 3]
-    ensures { λ r. ⌜ r ≡ placesOf c ⌝ }
-{
-    [c.x, c.y, c.z]
-}
-
-fn coords_in(places: [u8; 3]) -> Coords
-    ensures { λ r. ⌜ r ≡ coordsIn places ⌝ }
-{
-    Coords {
-        x: places[0],
-        y: places[1],
-        z: places[2],
-    }
-}
-
-impl Axes {
-    pub fn of(shape: Shape) -> Axes
-        ensures { λ r. ⌜ r ≡ axesOf shape ⌝ }
-    {
-        let x = wrapped(shape, Dim::X);
-        let y = wrapped(shape, Dim::Y);
-        let z = wrapped(shape, Dim::Z);
-        Axes {
-            shape: shape,
-            len: [shape.x, shape.y, shape.z],
-            ring: [x, y, z],
-        }
-    }
+    pub at: Coords,
+    pub to: Coords,
 }
 
 // The front leg; a leg of zeros where none is left.
@@ -87,8 +46,8 @@ impl Course {
     {
         let ready = packet.drop_all();
         let front = front_or(ready);
-        let at = places(coords(shape, ready.node));
-        let to = places(coords(shape, front.target));
+        let at = coords(shape, ready.node);
+        let to = coords(shape, front.target);
         Course {
             node: ready.node,
             left: ready.left,
@@ -109,57 +68,31 @@ impl Course {
     }
 
     // With no leg left no direction is allowed.
-    pub fn allows(self, axes: Axes, legs: [Leg; 2], dir: u8) -> bool
-        requires { ⌜ On axes legs self ⌝ }
-        ensures { λ r. ⌜ r ≡ allows (torus (axes .shape)) (self .node) (legsLeft (packetOf legs self)) dir ⌝ }
+    pub fn allows(self, shape: Shape, legs: [Leg; 2], dir: u8) -> bool
+        requires { ⌜ On shape legs self ⌝ }
+        ensures { λ r. ⌜ r ≡ allows (torus shape) (self .node) (legsLeft (packetOf legs self)) dir ⌝ }
     {
         if self.left == 0 {
             return false;
         }
-        if 5 < dir {
-            return false;
-        }
         let front = self.front;
         let mode = front.mode;
-        match mode {
-            Mode::Adaptive => self.useful(axes, dir),
-            Mode::Deterministic => self.is_first(axes, dir),
-        }
-    }
-
-    fn useful(self, axes: Axes, dir: u8) -> bool
-        requires { ⌜ dir ≤ 5 ⌝ }
-        ensures { λ r. ⌜ r ≡ usefulIn axes self dir ⌝ }
-    {
-        let i = (dir / 2) as usize;
-        let len = axes.len;
-        let ring = axes.ring;
         let at = self.at;
         let to = self.to;
-        axis::useful(len[i], ring[i], at[i], to[i], dir % 2 == 0)
-    }
-
-    fn is_first(self, axes: Axes, dir: u8) -> bool
-        ensures { λ r. ⌜ r ≡ firstIn axes self dir ⌝ }
-    {
-        let shape = axes.shape;
-        let at = self.at;
-        let to = self.to;
-        dir == first_at(shape, coords_in(at), coords_in(to))
+        allowed_at(mode, shape, at, to, dir)
     }
 
     // One hop, with the drops after it stored.
-    pub fn hop(self, axes: Axes, legs: [Leg; 2], dir: u8) -> Course
-        requires { ⌜ On axes legs self ⌝ }
-        requires { ⌜ dir ≤ 5 ⌝ }
+    pub fn hop(self, shape: Shape, legs: [Leg; 2], dir: u8) -> Course
+        requires { ⌜ On shape legs self ⌝ }
         requires { ⌜ 0 < self .left ⌝ }
-        ensures { λ r. ⌜ r ≡ courseOf (axes .shape) (settled (moved (axes .shape) (packetOf legs self) dir)) ⌝ }
+        ensures { λ r. ⌜ r ≡ courseOf shape (settled (moved shape (packetOf legs self) dir)) ⌝ }
     {
-        let at = self.moved(axes, dir);
+        let from = self.at;
         let to = self.to;
-        let shape = axes.shape;
         let front = self.front;
-        let node = number_at(shape, coords_in(at));
+        let at = moved_at(shape, from, dir);
+        let node = number_at(shape, at);
         if node == front.target {
             return Course::of(
                 Packet {
@@ -177,17 +110,5 @@ impl Course {
             at: at,
             to: to,
         }
-    }
-
-    fn moved(self, axes: Axes, dir: u8) -> [u8; 3]
-        requires { ⌜ dir ≤ 5 ⌝ }
-        ensures { λ r. ⌜ r ≡ movedIn axes self dir ⌝ }
-    {
-        let i = (dir / 2) as usize;
-        let len = axes.len;
-        let mut at = self.at;
-        let next = axis::next_place(len[i], at[i], dir % 2 == 0);
-        at[i] = next;
-        at
     }
 }

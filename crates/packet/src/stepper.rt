@@ -1,5 +1,4 @@
 // The step and the walk.
-use crate::course::Axes;
 use crate::course::Course;
 use crate::packet::Packet;
 use shape::Shape;
@@ -54,7 +53,6 @@ fn walk_on(lent: Packet, shape: Shape, dirs: &[u8]) -> Walked
     ensures { λ r. ⌜ r ≡ toldWalk (goes (torus shape) (stored shape) lent (now (dirs .entry))) ⌝ }
 {
     let legs = lent.legs;
-    let axes = Axes::of(shape);
     let mut way = Course::of(lent, shape);
     let mut hops: usize = 0;
     while hops < dirs.len() {
@@ -66,14 +64,14 @@ fn walk_on(lent: Packet, shape: Shape, dirs: &[u8]) -> Walked
             };
         }
         let dir = dirs[hops];
-        if !way.allows(axes, legs, dir) {
+        if !way.allows(shape, legs, dir) {
             return Walked {
                 packet: kept(lent, hops, way),
                 hops: hops,
                 ending: Ending::NotAllowed,
             };
         }
-        way = way.hop(axes, legs, dir);
+        way = way.hop(shape, legs, dir);
         hops = hops + 1;
     }
     if way.left == 0 {
@@ -103,15 +101,14 @@ impl Packet {
             };
         }
         let legs = self.legs;
-        let axes = Axes::of(shape);
         let way = Course::of(self, shape);
-        if !way.allows(axes, legs, dir) {
+        if !way.allows(shape, legs, dir) {
             return Stepped {
                 packet: self,
                 answer: Answer::Refused(15),
             };
         }
-        let next = way.hop(axes, legs, dir);
+        let next = way.hop(shape, legs, dir);
         Stepped {
             packet: next.packet(legs),
             answer: Answer::Hopped,

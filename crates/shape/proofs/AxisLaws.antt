@@ -4,9 +4,10 @@ use mathlib.Core.Bool.{Bool, true, false, cond, not}
 use mathlib.Core.Path.{_≡_, refl, _∙_}
 use mathlib.Core.Logic.{_⊎_, inl, inr}
 use native.Mathlib.Omega.{arith}
-use lib.Dec.{leb}
-use borrow.Author.Tests.{lt-ltb, le-ltb, le-leb, lt-leb, eq-eqb, ne-eqb, ltb-true}
+use lib.Dec.{leb, eqb}
+use borrow.Author.Tests.{lt-ltb, le-ltb, le-leb, lt-leb, eq-eqb, ne-eqb, ltb-true, leb-true}
 use Rattle.shape.specs.Axis.{gap, axisDistance, hasLink, place, axisUseful, openUseful, ahead, ringUseful}
+use Rattle.theory.proofs.Bools.{and-true}
 use Rattle.theory.proofs.Cases.{by-le}
 
 split-lt : {X : Type 0} (m n : ℕ) → (m < n → X) → (n ≤ m → X) → X
@@ -180,6 +181,20 @@ useful-is len false p q plus hp hq = open-useful len p q plus hp hq
 
 pub ahead-below : (len p q : ℕ) → p < len → q < len → ahead len p q < len
 ahead-below len p q hp hq = ahead-is len p q hp hq .below
+
+-- At exactly half of a wrapped ring both directions are useful, and nowhere else.
+pub half-both : (len p q : ℕ) (plus : Bool) → p < len → q < len → 2 * ahead len p q ≡ len → axisUseful len true p q plus ≡ true
+half-both len p q plus hp hq e = rw (ring-useful len p q plus hp hq, ne-eqb (ahead len p q) 0 (λ z. omega arith)) (both plus)
+  where
+    both : (plus : Bool) → cond plus (leb (2 * ahead len p q) len) (leb len (2 * ahead len p q)) ≡ true
+    both true = le-leb (2 * ahead len p q) len (omega arith)
+    both false = le-leb len (2 * ahead len p q) (omega arith)
+
+pub both-half : (len p q : ℕ) → p < len → q < len → axisUseful len true p q true ≡ true → axisUseful len true p q false ≡ true → 2 * ahead len p q ≡ len
+both-half len p q hp hq up down =
+    let a = and-true (not (eqb (ahead len p q) 0)) (leb (2 * ahead len p q) len) (rw (ring-useful len p q true hp hq) at up) .1 in
+    let b = and-true (not (eqb (ahead len p q) 0)) (leb len (2 * ahead len p q)) (rw (ring-useful len p q false hp hq) at down) .1 in
+    omega (arith, leb-true (2 * ahead len p q) len a, leb-true len (2 * ahead len p q) b)
 
 -- Toward another place of the dimension some direction is useful.
 pub axis-some : (len : ℕ) (ring : Bool) (p q : ℕ) → p < len → q < len → (p ≡ q → ⊥) → (axisUseful len ring p q true ≡ true) ⊎ (axisUseful len ring p q false ≡ true)

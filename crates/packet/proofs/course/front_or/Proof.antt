@@ -7,15 +7,15 @@ use Rattle.packet.proofs.course.front_or.Reads as reads
 use Rattle.packet.proofs.course.front_or.Lts as lts
 use Rattle.packet.proofs.packet.Packet.front.Reads as front-reads
 
--- src/course.rt:75:9
+-- src/course.rt:34:9
 returns : tie.Need-returns
 returns c = front-none _ (c .if1 .taken)
 
--- src/course.rt:80:5
+-- src/course.rt:39:5
 front-requires : tie.Need-front-requires
 front-requires c κs = search needs
 
--- src/course.rt:70:1
+-- src/course.rt:29:1
 returns-2 : tie.Need-returns-2
 returns-2 c = c .front .ensures ∙ front-some _ (c .before .if1 .left)
 

@@ -7,45 +7,29 @@ use Rattle.packet.proofs.course.Course.of.Reads as reads
 use Rattle.packet.proofs.course.Course.of.Lts as lts
 use Rattle.machine.proofs.node.coords.Reads as coords-reads
 use Rattle.packet.proofs.course.front_or.Reads as front-or-reads
-use Rattle.packet.proofs.course.places.Reads as places-reads
 use Rattle.packet.proofs.packet.Packet.drop_all.Reads as drop-all-reads
 
--- src/course.rt:88:13
+-- src/course.rt:47:13
 drop-all-requires : tie.Need-drop-all-requires
 drop-all-requires c κs = search needs
 
--- src/course.rt:89:13
+-- src/course.rt:48:13
 front-or-requires : tie.Need-front-or-requires
 front-or-requires c κs = rw (c .drop-all .ensures) (fine-settled _ _ (c .before .pre) .few)
 
--- src/course.rt:90:25
+-- src/course.rt:49:13
 coords-requires : tie.Need-coords-requires
 coords-requires c κs = search needs
 
--- src/course.rt:90:13
-places-requires : tie.Need-places-requires
-places-requires c κs = search needs
-
--- src/course.rt:91:25
+-- src/course.rt:50:13
 coords-requires-2 : tie.Need-coords-requires-2
 coords-requires-2 c κs = search needs
 
--- src/course.rt:91:13
-places-requires-2 : tie.Need-places-requires-2
-places-requires-2 c κs = search needs
-
--- src/course.rt:84:5
+-- src/course.rt:43:5
 returns : tie.Need-returns
-returns c = let e = c .before .before .before .before .before .drop-all .ensures in rw (← e) (of-course _ (c .before .before .before .before .before .drop-all .result) _ _ _ _ _ (rw e (fine-settled _ _ (c .before .before .before .before .before .before .pre))) (c .before .before .before .before .front-or .ensures) (c .before .before .before .coords .ensures) (c .before .before .places .ensures) (c .before .coords2 .ensures) (c .places2 .ensures))
+returns c = let e = c .before .before .before .drop-all .ensures in rw (← e) (of-course _ (c .before .before .before .drop-all .result) _ _ _ (rw e (fine-settled _ _ (c .before .before .before .before .pre))) (c .before .before .front-or .ensures) (c .before .coords .ensures) (c .coords2 .ensures))
 
 pub of-spec : {M : Type 1} → statement M
 of-spec =
     tie.close
-    (tie.spec
-    drop-all-requires
-    front-or-requires
-    coords-requires
-    places-requires
-    coords-requires-2
-    places-requires-2
-    returns)
+    (tie.spec drop-all-requires front-or-requires coords-requires coords-requires-2 returns)
