@@ -57,6 +57,22 @@ impl Course {
         }
     }
 
+    // The same, field by field, so that a walk's loop keeps its course in registers.
+    fn by_fields(self) -> Course
+        ensures { λ r. ⌜ r ≡ self ⌝ }
+    {
+        let front = self.front;
+        let at = self.at;
+        let to = self.to;
+        Course {
+            node: self.node,
+            left: self.left,
+            front: front,
+            at: at,
+            to: to,
+        }
+    }
+
     pub fn packet(self, legs: [Leg; 2]) -> Packet
         ensures { λ r. ⌜ r ≡ packetOf legs self ⌝ }
     {
@@ -101,7 +117,7 @@ impl Course {
                     left: self.left,
                 },
                 shape,
-            );
+            ).by_fields();
         }
         Course {
             node: node,
