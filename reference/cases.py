@@ -7,6 +7,7 @@ Writes crates/conform/stdin and crates/conform/stdout. What each readable line a
 """
 import argparse
 import os
+import random
 import sys
 
 sys.dont_write_bytecode = True
@@ -16,6 +17,7 @@ import vectors
 BASE = 0                       # the stage with no change request
 SEED = '1'
 COUNT = 250                    # vectors of each operation
+PLANS = 60                     # random plan sheets, each also hurt in one place and in several
 LINE_BYTES = 131072            # conform's line buffer
 
 def fields(pairs):
@@ -119,6 +121,155 @@ def unreadable():
         yield 'walk %s %s run=%s' % (shape, packet, bad)
 
 
+# ---- plan sheets
+
+def faults_text(faults):
+    return ','.join('%d:%d' % fault for fault in faults) or '-'
+
+
+def plan_read(sheet):
+    number, plan = ref.read_plan(BASE, sheet)
+    answer = {'number': number}
+    if not number:
+        answer.update(extents=','.join(map(str, plan.shape.extents)), wrap=plan.shape.wrap, faults=faults_text(plan.faults))
+    return 'plan plan=' + vectors.hex_text(sheet), fields(answer)
+
+
+def written(number, sheet, room):
+    """What a writing call answers, after its checks gave `number`."""
+    out = bytearray([vectors.FILL]) * room
+    size = 0
+    if not number:
+        number, size = ref.put(sheet, out)
+    return fields({'number': number, 'size': size, 'out': vectors.hex_text(out)})
+
+
+def plan_back(sheet, room):
+    line = 'planback plan=%s room=%d' % (vectors.hex_text(sheet), room)
+    return line, written(ref.read_plan(BASE, sheet)[0], sheet, room)
+
+
+def plan_write(extents, wrap, faults, room):
+    """A value that no check accepts is refused with the number of the sheet that it would be."""
+    line = 'planwrite extents=%s wrap=%d faults=%s room=%d' % (','.join(map(str, extents)), wrap, faults_text(faults), room)
+    if len(faults) > 256:
+        return line, written(3, b'', room)
+    sheet = vectors.plan_bytes(1, extents, wrap, [1, 1, 1], faults)
+    return line, written(ref.read_plan(BASE, sheet)[0], sheet, room)
+
+
+def dead(sheet, node, direction):
+    number, plan = ref.read_plan(BASE, sheet)
+    line = 'dead plan=%s node=%d direction=%d' % (vectors.hex_text(sheet), node, direction)
+    return line, fields({'node': int(not number and node in plan.dead), 'link': int(not number and (node, direction) in plan.lost)})
+
+
+def masks(sheet):
+    number, plan = ref.read_plan(BASE, sheet)
+    nodes = 0 if number else plan.nodes
+    found = bytes(sum((node, d) in plan.lost and 1 << d for d in range(6)) for node in range(nodes))
+    return 'masks plan=' + vectors.hex_text(sheet), 'masks=' + vectors.hex_text(found)
+
+
+def random_plans():
+    """Sheets accepted, hurt in one place, and hurt in several."""
+    for i in range(PLANS):
+        rng = random.Random('plan/%s/%d' % (SEED, i))
+        sheet = vectors.random_plan(rng, BASE)
+        yield rng, sheet
+        hurt = vectors.damaged_plan(rng, BASE, sheet)
+        yield rng, hurt
+        for _ in range(rng.randint(1, 2)):
+            hurt = vectors.damaged_plan(rng, BASE, hurt) if len(hurt) > 12 else hurt + bytes(rng.randint(0, 2))
+        yield rng, hurt
+
+
+def each_way():
+    """A sheet declined by each of the checks, and by several at once, the first of which counts."""
+    make = vectors.plan_bytes
+    good = make(1, [4, 4, 1], 3, [1, 1, 1], [(0, 0), (5, 3)])
+    yield b''
+    yield good[:8]
+    yield b'\x02' + good[1:]
+    yield good[:7] + ref.two(257) + good[9:]
+    yield good + b'\0'
+    yield good[:-1]
+    yield good[:1] + ref.two(13) + good[3:]
+    for place in 3, 4, 5:
+        for extent in 0, 17:
+            yield good[:place] + bytes([extent]) + good[place + 1:]
+    yield make(1, [2, 4, 1], 1, [1, 1, 1], [])
+    yield make(1, [4, 4, 1], 8, [1, 1, 1], [])
+    yield make(1, [17, 2, 1], 10, [1, 1, 1], [])
+    yield make(1, [4, 4, 1], 3, [1, 1, 1], [(16, 3)])
+    yield make(1, [4, 4, 1], 3, [1, 1, 1], [(0, 4)])
+    yield make(1, [4, 4, 1], 3, [1, 1, 1], [(0, 2)])
+    yield make(1, [4, 4, 1], 2, [1, 1, 1], [(3, 0)])
+    yield make(1, [4, 4, 1], 3, [1, 1, 1], [(3, 0), (3, 0)])
+    yield make(1, [4, 4, 1], 3, [1, 1, 1], [(3, 1), (3, 0)])
+    yield make(1, [4, 4, 1], 3, [1, 1, 1], [(3, 1), (2, 4)])
+    yield make(1, [4, 4, 1], 3, [1, 1, 1], [(3, 1), (2, 0), (99, 0)])
+    for extent in 16, 17:
+        yield make(1, [extent, 1, 1], 0, [1, 1, 1], [])
+    for extent in 3, 2:
+        yield make(1, [extent, 1, 1], 1, [1, 1, 1], [])
+    cube = [(n, k) for n in range(100) for k in range(3)]
+    yield make(1, [16, 16, 16], 7, [1, 1, 1], cube[:256])
+    yield make(1, [16, 16, 16], 7, [1, 1, 1], cube[:257])
+    yield make(1, [16, 16, 16], 0, [1, 1, 1], [(0, 3), (4095, 3)])
+    yield bytes.fromhex('010009040401030001000000')
+
+
+def plan_cases():
+    for sheet in each_way():
+        yield plan_read(sheet)
+        yield plan_back(sheet, len(sheet))
+    for rng, sheet in random_plans():
+        yield plan_read(sheet)
+        yield plan_back(sheet, max(0, len(sheet) + rng.choice([0, 0, 3, -1, -len(sheet)])))
+        number, plan = ref.read_plan(BASE, sheet)
+        node = vectors.a_node(rng, 1 if number else plan.nodes)
+        lost = [] if number else sorted(plan.lost)
+        node, direction = rng.choice(lost + [(node, rng.randint(0, 6))] * (1 + len(lost)))
+        yield dead(sheet, node, direction)
+        if len(sheet) < 100:
+            yield masks(sheet)
+        if not number:
+            faults = list(plan.faults)
+            if rng.random() < 0.3:
+                rng.shuffle(faults)
+            if rng.random() < 0.2:
+                faults.append((rng.randint(0, 70), rng.randint(0, 5)))
+            size = 9 + 3 * len(faults)
+            yield plan_write(plan.shape.extents, plan.shape.wrap, faults, max(0, size + rng.choice([0, 0, 2, -1])))
+    for count in 256, 257, 300:
+        yield plan_write([16, 16, 16], 7, [(n, 0) for n in range(count)], 9 + 3 * 256)
+    yield plan_write([17, 1, 1], 0, [], 9)
+    yield plan_write([2, 1, 1], 1, [], 9)
+
+
+def unreadable_plans():
+    good = 'plan=010009040401030001000000'
+    for operation in 'plan', 'masks':
+        yield operation
+        yield operation + ' plan='
+        yield operation + ' plan=0'
+        yield operation + ' plan=0x'
+    for rest in '', 'room=', 'room=65537', 'room=-1', 'room=x':
+        yield 'planback %s %s' % (good, rest)
+    yield 'planback room=12'
+    for faults in '', '0', '0:', ':0', '0:0,', ',0:0', '0:0,,1:0', '0:256', '65536:0', '0:0;1:0':
+        yield 'planwrite extents=4,4,1 wrap=3 faults=%s room=20' % faults
+    yield 'planwrite extents=4,4 wrap=3 faults=- room=20'
+    yield 'planwrite extents=4,4,1 faults=- room=20'
+    yield 'planwrite extents=4,4,1 wrap=3 faults=-'
+    yield 'dead %s node=0' % good
+    yield 'dead %s direction=0' % good
+    yield 'dead %s node=65536 direction=0' % good
+    yield 'dead %s node=0 direction=256' % good
+    yield 'dead node=0 direction=0'
+
+
 def long():
     """(line, answer): a line fits the buffer together with its newline."""
     def padded(size):
@@ -145,6 +296,10 @@ def cases():
     yield 'jump a=b => c=d', 'unreadable'
     yield 'step direction=4 packet=0;13:A wrap=7 note=none extents=3,3,3', answer
     yield line, answer
+    yield from plan_cases()
+    for line in unreadable_plans():
+        yield line, 'unreadable'
+    yield plan_read(b'')
 
 
 def texts(lines):

@@ -2,6 +2,9 @@
 use cases::step;
 use cases::unreadable::unreadable;
 use cases::walk;
+use plan_cases::dead_cases;
+use plan_cases::read_cases;
+use plan_cases::write_cases;
 use text::compare::same;
 use text::field;
 use text::part::front;
@@ -16,6 +19,26 @@ fn operation(given: &[u8], out: &mut [u8], at: usize) -> usize {
     }
     if same(name, b"walk") {
         return walk::answer(given, out, at);
+    }
+    plan_operation(name, given, out, at)
+}
+
+// The operations on plan sheets.
+fn plan_operation(name: &[u8], given: &[u8], out: &mut [u8], at: usize) -> usize {
+    if same(name, b"plan") {
+        return read_cases::answer(given, out, at);
+    }
+    if same(name, b"planback") {
+        return write_cases::answer_back(given, out, at);
+    }
+    if same(name, b"planwrite") {
+        return write_cases::answer_write(given, out, at);
+    }
+    if same(name, b"dead") {
+        return dead_cases::answer_dead(given, out, at);
+    }
+    if same(name, b"masks") {
+        return dead_cases::answer_masks(given, out, at);
     }
     unreadable(out, at)
 }

@@ -1,0 +1,9 @@
+// Dead nodes and links of a plan: single questions, and a table for all nodes.
+mod marks;
+pub mod masks;
+pub mod names;
+pub mod questions;
+
+pub use masks::dead_masks;
+pub use questions::is_dead_link;
+pub use questions::is_dead_node;

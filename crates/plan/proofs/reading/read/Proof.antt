@@ -1,0 +1,35 @@
+use Rattle.plan.specs.Reading.{planOf}
+use mathlib.Core.Path.{sym, _∙_}
+use Rattle.plan.proofs.Readings.{refused, read-as}
+use Rattle.plan.proofs.reading.read.Statement.{statement}
+use Rattle.plan.proofs.reading.read.Tie as tie
+
+check-requires : tie.Need-check-requires
+check-requires c κs = tt
+
+returns : tie.Need-returns
+returns c = refused _ _ (c .before .check .ensures) (c .if1 .taken)
+
+faults-in-requires : tie.Need-faults-in-requires
+faults-in-requires c κs = sym (c .before .check .ensures) ∙ c .if1 .left
+
+shape-in-requires : tie.Need-shape-in-requires
+shape-in-requires c κs = tt
+
+count-in-requires : tie.Need-count-in-requires
+count-in-requires c κs = tt
+
+returns-2 : tie.Need-returns-2
+unfolding planOf
+returns-2 c = read-as _ _ (c .before .before .before .before .check .ensures) (c .before .before .before .if1 .left) _ (cc)
+
+pub read-spec : {M : Type 1} → statement M
+read-spec =
+    tie.close
+    (tie.spec
+    check-requires
+    returns
+    faults-in-requires
+    shape-in-requires
+    count-in-requires
+    returns-2)

@@ -1,0 +1,6 @@
+pub mod Layout
+pub mod Kinds
+pub mod Checks
+pub mod Reading
+pub mod Writing
+pub mod Steps

@@ -1,0 +1,52 @@
+-- Reading a plan sheet: an accepted sheet as a value, or the number.
+use Prim.Native.Nat.{ℕ, zero, suc}
+use mathlib.Core.Bool.{Bool, cond}
+use mathlib.Core.List.{List}
+use lib.ListN.{replicate}
+use lib.Dec.{ltb, eqb}
+use Rattle.sheet.specs.Bytes.{listFrom}
+use Rattle.shape.specs.declared.shape.Shape.{Shape}
+use Rattle.plan.specs.declared.layout.Fault.{Fault}
+use Rattle.plan.specs.declared.reading.Plan.{Plan}
+use Rattle.plan.specs.declared.reading.Answer.the-variants.{Accepted, Refused}
+use Rattle.plan.specs.declared.reading.Reading.{Reading}
+use Rattle.plan.specs.Layout.{shapeOf, faultCount, faultAt}
+use Rattle.plan.specs.Checks.{large, planError}
+
+abbrev pub noShape : Shape
+noShape = record { x = 0; y = 0; z = 0; wrap = 0 }
+
+abbrev pub noFault : Fault
+noFault = record { node = 0; kind = 0 }
+
+abbrev pub noPlan : Plan
+noPlan = record { shape = noShape; count = 0; faults = replicate 256 noFault }
+
+-- An accepted plan is a sheet that none of a plan's checks declines.
+unfoldable pub isPlan : List ℕ → Bool
+isPlan s = eqb (planError large s) 0
+
+-- Single questions: zeros where a check declines the sheet, and past the faults.
+abbrev pub shapeAnswer : List ℕ → Shape
+shapeAnswer s = cond (isPlan s) (shapeOf s) noShape
+
+abbrev pub countAnswer : List ℕ → ℕ
+countAnswer s = cond (isPlan s) (faultCount s) 0
+
+abbrev pub faultAnswer : List ℕ → ℕ → Fault
+faultAnswer s i = cond (ltb i (countAnswer s)) (faultAt s i) noFault
+
+-- The faults as an array of 256, with zeros past them.
+abbrev pub listed : List ℕ → ℕ → Fault
+listed s i = cond (ltb i (faultCount s)) (faultAt s i) noFault
+
+unfoldable pub faultArray : List ℕ → List Fault
+faultArray s = listFrom (listed s) 0 256
+
+unfoldable pub planOf : List ℕ → Plan
+planOf s = record { shape = shapeOf s; count = faultCount s; faults = faultArray s }
+
+-- The plan, or the number.
+unfoldable pub reading : ℕ → List ℕ → Reading
+reading zero s = record { answer = Accepted; plan = planOf s }
+reading (suc e) s = record { answer = Refused (suc e); plan = noPlan }

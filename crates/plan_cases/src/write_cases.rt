@@ -1,0 +1,61 @@
+// The operations `planback` and `planwrite`: a plan sheet is written back, or written from a plan's value, into lent output filled with EE.
+use crate::faults::with_faults;
+use crate::fields;
+use crate::fields::ShapeField;
+use crate::output::put_written;
+use plan::Plan;
+use plan::write;
+use plan::write_back;
+use text::decimal::Number;
+use text::field;
+use text::hex::Count;
+use text::part::front;
+
+// More room than can be lent is unreadable.
+fn back_into(sheet: &[u8], lent: &mut [u8], room: usize, out: &mut [u8], at: usize) -> usize {
+    if lent.len() < room {
+        return fields::unreadable(out, at);
+    }
+    let part = &mut lent[..room];
+    let written = write_back(sheet, part);
+    put_written(out, at, written, part)
+}
+
+fn write_into(plan: Plan, lent: &mut [u8], room: usize, out: &mut [u8], at: usize) -> usize {
+    if lent.len() < room {
+        return fields::unreadable(out, at);
+    }
+    let part = &mut lent[..room];
+    let written = write(plan, part);
+    put_written(out, at, written, part)
+}
+
+// Writes the answer to a line `planback plan=.. room=..`.
+pub fn answer_back(line: &[u8], out: &mut [u8], at: usize) -> usize {
+    let mut bytes = [0u8; fields::SHEET_BYTES];
+    let mut lent = [0xEEu8; fields::SHEET_BYTES];
+    let Count::Bytes(count) = fields::sheet(line, &mut bytes) else {
+        return fields::unreadable(out, at);
+    };
+    let Number::Value(room) = fields::room(line) else {
+        return fields::unreadable(out, at);
+    };
+    back_into(front(&bytes, count), &mut lent, room as usize, out, at)
+}
+
+// Writes the answer to a line `planwrite extents=.. wrap=.. faults=.. room=..`.
+pub fn answer_write(line: &[u8], out: &mut [u8], at: usize) -> usize {
+    let mut lent = [0xEEu8; fields::SHEET_BYTES];
+    let ShapeField::Shape(shape) = fields::shape(line) else {
+        return fields::unreadable(out, at);
+    };
+    let given = with_faults(shape, field::value(line, b"faults="));
+    if !given.readable {
+        return fields::unreadable(out, at);
+    }
+    let Number::Value(room) = fields::room(line) else {
+        return fields::unreadable(out, at);
+    };
+    let plan = given.plan;
+    write_into(plan, &mut lent, room as usize, out, at)
+}

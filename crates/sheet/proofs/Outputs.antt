@@ -1,0 +1,39 @@
+-- What writing a sheet gives and leaves.
+use Prim.Native.Nat.{ℕ, zero, suc, _≤_, _<_}
+use mathlib.Core.Path.{_≡_, refl, ap, _∙_}
+use mathlib.Core.List.{List, _++_}
+use lib.ListN.{length, take, drop}
+use lib.Seq.{take-length, take-append-seam}
+use borrow.Author.Tests.{lt-ltb, le-ltb}
+use Rattle.theory.proofs.Checks.{declines}
+use Rattle.sheet.specs.declared.output.Written.the-variants.{Bytes, Refused}
+use Rattle.sheet.specs.Output.{roomError, written, outAfter}
+
+-- A refusal with the number e.
+pub refused : (k e : ℕ) (s o : List ℕ) → k ≡ e → (e ≡ 0 → ⊥) → (Refused e ≡ written k s) × (o ≡ outAfter k s o)
+unfolding written outAfter
+refused k zero s o h n = absurd (n refl)
+refused k (suc e) s o h n = (rw h, rw h)
+
+module _ (e : ℕ) (s o : List ℕ) where
+  pub unread : (e ≡ 0 → ⊥) → roomError e s o ≡ e
+  unfolding roomError
+  unread h = declines e _ h
+
+  pub no-room : e ≡ 0 → length o < length s → roomError e s o ≡ 12
+  unfolding roomError
+  no-room h l = rw (h, lt-ltb (length o) (length s) l)
+
+  pub room : e ≡ 0 → length s ≤ length o → roomError e s o ≡ 0
+  unfolding roomError
+  room h l = rw (h, le-ltb (length o) (length s) l)
+
+  -- A sheet that is copied.
+  pub copied : e ≡ 0 → length s ≤ length o → (n : ℕ) (t : List ℕ) → n ≡ length s → t ≡ take (length s) s ++ drop (length s) o → (Bytes n ≡ written (roomError e s o) s) × (t ≡ outAfter (roomError e s o) s o)
+  unfolding written outAfter
+  copied h l n t en et = (rw (room h l) (ap Bytes en), rw (room h l) (et ∙ rw (take-length s)))
+
+  -- What is written is the sheet itself.
+  pub same-bytes : e ≡ 0 → length s ≤ length o → take (length s) (outAfter (roomError e s o) s o) ≡ s
+  unfolding outAfter
+  same-bytes h l = rw (room h l) (take-append-seam s (drop (length s) o))
