@@ -255,7 +255,7 @@ def unreadable_plans():
         yield operation + ' plan='
         yield operation + ' plan=0'
         yield operation + ' plan=0x'
-    for rest in '', 'room=', 'room=65537', 'room=-1', 'room=x':
+    for rest in '', 'room=', 'room=1025', 'room=-1', 'room=x':
         yield 'planback %s %s' % (good, rest)
     yield 'planback room=12'
     for faults in '', '0', '0:', ':0', '0:0,', ',0:0', '0:0,,1:0', '0:256', '65536:0', '0:0;1:0':

@@ -2,5 +2,4 @@
 mod packets;
 pub mod step;
 mod stepper;
-pub mod unreadable;
 pub mod walk;

@@ -4,8 +4,10 @@ use crate::stepper::Leg;
 use crate::stepper::Mode;
 use crate::stepper::Packet;
 use crate::stepper::Shape;
+use case_fields::ShapeField;
+use case_fields::put_number;
+use case_fields::read_shape;
 use text::decimal;
-use text::decimal::Byte;
 use text::decimal::Word;
 use text::field;
 use text::part::after;
@@ -19,11 +21,6 @@ pub struct Case {
     pub readable: bool,
     pub shape: Shape,
     pub packet: Packet,
-}
-
-enum ShapeField {
-    Shape(Shape),
-    Bad,
 }
 
 // A struct, since no enum can hold an array, which a packet has.
@@ -40,30 +37,6 @@ enum ModeField {
 enum LegField {
     Leg(Leg),
     Bad,
-}
-
-// Reads the fields `extents=a,b,c` and `wrap=n`.
-fn shape(line: &[u8]) -> ShapeField {
-    let extents = field::value(line, b"extents=");
-    let rest = after(extents, b',');
-    let Byte::Value(x) = decimal::read_byte(before(extents, b',')) else {
-        return ShapeField::Bad;
-    };
-    let Byte::Value(y) = decimal::read_byte(before(rest, b',')) else {
-        return ShapeField::Bad;
-    };
-    let Byte::Value(z) = decimal::read_byte(after(rest, b',')) else {
-        return ShapeField::Bad;
-    };
-    let Byte::Value(wrap) = decimal::read_byte(field::value(line, b"wrap=")) else {
-        return ShapeField::Bad;
-    };
-    ShapeField::Shape(Shape {
-        x: x,
-        y: y,
-        z: z,
-        wrap: wrap,
-    })
 }
 
 fn mode(s: &[u8]) -> ModeField {
@@ -143,7 +116,7 @@ fn packet(s: &[u8]) -> PacketField {
 pub fn read_case(line: &[u8]) -> Case {
     let field = packet(packet_text(line));
     let packet = field.packet;
-    match shape(line) {
+    match read_shape(line) {
         ShapeField::Shape(shape) => Case {
             readable: field.readable,
             shape: shape,
@@ -198,7 +171,7 @@ fn put_packet(out: &mut [u8], at: usize, packet: Packet, text: &[u8]) -> usize {
 
 // Writes the fields `number` and `packet` of the answer to a line.
 pub fn put_answer(out: &mut [u8], at: usize, number: u8, packet: Packet, line: &[u8]) -> usize {
-    let end = field::put_number(out, at, b"number=", number as u64);
+    let end = put_number(out, at, number);
     let key = put::bytes(out, end, b" packet=");
     put_packet(out, key, packet, packet_text(line))
 }

@@ -2,7 +2,7 @@
 use crate::packets;
 use crate::stepper;
 use crate::stepper::WalkAnswer;
-use crate::unreadable::unreadable;
+use case_fields::unreadable;
 use text::field;
 use text::hex;
 use text::hex::Count;

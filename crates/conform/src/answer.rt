@@ -1,6 +1,6 @@
 // The answer to one line.
+use case_fields::unreadable;
 use cases::step;
-use cases::unreadable::unreadable;
 use cases::walk;
 use plan_cases::dead_cases;
 use plan_cases::read_cases;

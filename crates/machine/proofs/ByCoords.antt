@@ -16,7 +16,7 @@ use Rattle.machine.specs.declared.leg.Mode.the-variants.{Adaptive, Deter
 use Rattle.shape.specs.Shape.{shapeError, extentOf, coordOf, wrappedIn, put}
 use Rattle.machine.specs.Number.{nodeCount, numberOf, coordsOf, Inside}
 use Rattle.shape.specs.Axis.{axisDistance, place, axisUseful}
-use Rattle.machine.specs.Hop.{dirDim, dirPlus, plusDir, minusDir, part, distance, link, neighbour, useful, toward, firstDirection}
+use Rattle.machine.specs.Hop.{dirDim, dirPlus, plusDir, minusDir, distance, link, neighbour, useful, toward, firstDirection}
 use Rattle.machine.specs.Torus.{allowedBy}
 use Rattle.machine.specs.ByCoords.{inDim, distanceAlong, linkAlong, usefulAlong, distanceAt, linkAt, movedAt, usefulAt, towardAt, firstAt, allowedAt}
 use Rattle.shape.proofs.Shapes.{sound}

@@ -1,34 +1,29 @@
 -- What a walk carries stays what its packet says.
-use Prim.Native.Nat.{ℕ, zero, suc, _+_, _-_, _/_, _%_, _<_, _≤_}
+use Prim.Native.Nat.{ℕ, _-_, _%_, _<_}
 use native.Mathlib.Omega.{arith}
 use mathlib.Core.Path.{_≡_, refl, sym, ap, _∙_}
-use mathlib.Core.Bool.{Bool, true, false, cond, _&&_, false≢true}
-use mathlib.Core.List.{List, [], _∷_}
-use lib.ListN.{length, getD, set}
-use lib.Dec.{ltb, leb, eqb}
-use borrow.Author.Tests.{eq-eqb, ne-eqb, eqb-false, lt-ltb, le-leb}
-use Rattle.theory.specs.Machine.{Inside, Laws, allows, dropped}
-use Rattle.theory.proofs.Cases.{test, by-le}
+use mathlib.Core.Bool.{Bool, true, false, cond, false≢true}
+use mathlib.Core.List.{List}
+use lib.Dec.{eqb}
+use borrow.Author.Tests.{eq-eqb, ne-eqb, eqb-false, lt-ltb}
+use Rattle.theory.specs.Machine.{allows}
+use Rattle.theory.proofs.Cases.{by-le}
 use Rattle.shape.specs.declared.shape.Shape.{Shape}
 use Rattle.shape.specs.declared.shape.Coords.{Coords}
-use Rattle.shape.specs.Shape.{shapeError, extentOf, wrappedIn, coordOf, put}
-use Rattle.shape.specs.Axis.{place}
+use Rattle.shape.specs.Shape.{shapeError}
 use Rattle.machine.specs.declared.leg.Leg.{Leg}
-use Rattle.machine.specs.declared.leg.Mode.{Mode}
-use Rattle.machine.specs.declared.leg.Mode.the-variants.{Adaptive, Deterministic}
 use Rattle.machine.specs.Number.{nodeCount, coordsOf, numberOf}
-use Rattle.machine.specs.Hop.{dirDim, dirPlus, neighbour}
-use Rattle.machine.specs.Torus.{allowedBy, torus}
-use Rattle.machine.specs.ByCoords.{movedAt, usefulAt, firstAt, allowedAt}
+use Rattle.machine.specs.Hop.{neighbour}
+use Rattle.machine.specs.Torus.{torus}
+use Rattle.machine.specs.ByCoords.{movedAt, allowedAt}
 use Rattle.machine.specs.Node.{isNode, coordsAnswer}
-use Rattle.machine.proofs.Torus.{torus-laws}
 use Rattle.machine.proofs.ByCoords.{neighbour-coords, neighbour-number, allowed-at}
 use Rattle.packet.specs.declared.packet.Packet.{Packet}
 use Rattle.packet.specs.declared.course.Course.{Course}
-use Rattle.packet.specs.Packet.{mostLegs, noLeg, legsLeft}
+use Rattle.packet.specs.Packet.{noLeg, legsLeft}
 use Rattle.packet.specs.Steps.{frontOf, frontOr, settled, moved, Fine}
 use Rattle.packet.specs.Course.{packetOf, courseOf, On}
-use Rattle.packet.proofs.Drops.{settled-node, settled-same, fine-settled, fine-moved, fine-front, allows-front, allows-none}
+use Rattle.packet.proofs.Drops.{settled-same, fine-moved, fine-front, allows-front, allows-none}
 
 -- ---- the front leg
 front-or : (q : Packet) → (q .left ≡ 0 → ⊥) → frontOr q ≡ frontOf q

@@ -1,19 +1,12 @@
 -- The code's own steps: what a walk carries from hop to hop.
-use Prim.Native.Nat.{ℕ, _/_}
+use Prim.Native.Nat.{ℕ}
 use mathlib.Core.Path.{_≡_}
-use mathlib.Core.Bool.{Bool, true, false, cond}
-use mathlib.Core.List.{List, [], _∷_}
-use lib.ListN.{getD, set}
+use mathlib.Core.Bool.{cond}
+use mathlib.Core.List.{List}
 use lib.Dec.{eqb}
 use Rattle.shape.specs.declared.shape.Shape.{Shape}
-use Rattle.shape.specs.declared.shape.Coords.{Coords}
-use Rattle.shape.specs.declared.shape.Dim.the-variants.{X, Y, Z}
-use Rattle.shape.specs.Shape.{wrappedIn}
-use Rattle.shape.specs.Axis.{place, axisUseful}
 use Rattle.machine.specs.declared.leg.Leg.{Leg}
 use Rattle.machine.specs.Number.{coordsOf}
-use Rattle.machine.specs.Hop.{dirPlus}
-use Rattle.machine.specs.ByCoords.{firstAt}
 use Rattle.packet.specs.declared.packet.Packet.{Packet}
 use Rattle.packet.specs.declared.course.Course.{Course}
 use Rattle.packet.specs.Steps.{frontOr, Fine}

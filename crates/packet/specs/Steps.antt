@@ -6,14 +6,12 @@ use lib.ListN.{length, getD}
 use lib.Dec.{ltb, leb, eqb}
 use Rattle.theory.specs.Machine.{Inside, dropped}
 use Rattle.shape.specs.declared.shape.Shape.{Shape}
-use Rattle.shape.specs.declared.shape.Coords.{Coords}
 use Rattle.machine.specs.declared.leg.Leg.{Leg}
 use Rattle.shape.specs.Shape.{shapeError}
-use Rattle.machine.specs.Number.{nodeCount, coordsOf}
+use Rattle.machine.specs.Number.{nodeCount}
 use Rattle.machine.specs.Hop.{neighbour}
 use Rattle.machine.specs.Torus.{torus}
 use Rattle.packet.specs.declared.packet.Packet.{Packet}
-use Rattle.packet.specs.declared.course.Course.{Course}
 use Rattle.packet.specs.Packet.{mostLegs, noLeg, legsLeft}
 
 abbrev pub legAt : Packet → ℕ → Leg

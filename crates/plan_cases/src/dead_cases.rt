@@ -1,5 +1,7 @@
 // The operations `dead` and `masks`: what a plan's faults make dead.
 use crate::fields;
+use case_fields::put_number;
+use case_fields::unreadable;
 use dead::dead_masks;
 use dead::is_dead_link;
 use dead::is_dead_node;
@@ -22,13 +24,13 @@ fn digit(b: bool) -> u64 {
 pub fn answer_dead(line: &[u8], out: &mut [u8], at: usize) -> usize {
     let mut bytes = [0u8; fields::SHEET_BYTES];
     let Count::Bytes(size) = fields::sheet(line, &mut bytes) else {
-        return fields::unreadable(out, at);
+        return unreadable(out, at);
     };
     let Word::Value(node) = decimal::read_word(field::value(line, b"node=")) else {
-        return fields::unreadable(out, at);
+        return unreadable(out, at);
     };
     let Byte::Value(direction) = decimal::read_byte(field::value(line, b"direction=")) else {
-        return fields::unreadable(out, at);
+        return unreadable(out, at);
     };
     let sheet = front(&bytes, size);
     let named = field::put_number(out, at, b"node=", digit(is_dead_node(sheet, node)));
@@ -44,7 +46,7 @@ pub fn answer_dead(line: &[u8], out: &mut [u8], at: usize) -> usize {
 pub fn answer_masks(line: &[u8], out: &mut [u8], at: usize) -> usize {
     let mut bytes = [0u8; fields::SHEET_BYTES];
     let Count::Bytes(size) = fields::sheet(line, &mut bytes) else {
-        return fields::unreadable(out, at);
+        return unreadable(out, at);
     };
     let sheet = front(&bytes, size);
     let masks = dead_masks(sheet);

@@ -1,41 +1,12 @@
-// Fields of a line that cases of plan sheets share.
-use shape::Shape;
+// The fields that name a plan sheet and lend room for one.
 use text::decimal;
-use text::decimal::Byte;
 use text::decimal::Number;
 use text::field;
 use text::hex;
 use text::hex::Count;
-use text::part::after;
-use text::part::before;
-use text::put;
 
-// The longest sheet that a case gives, and the most room that it lends.
-pub const SHEET_BYTES: usize = 65536;
-
-pub enum ShapeField {
-    Shape(Shape),
-    Bad,
-}
-
-// Reads the fields `extents=a,b,c` and `wrap=n`.
-pub fn shape(line: &[u8]) -> ShapeField {
-    let extents = field::value(line, b"extents=");
-    let rest = after(extents, b',');
-    let Byte::Value(x) = decimal::read_byte(before(extents, b',')) else {
-        return ShapeField::Bad;
-    };
-    let Byte::Value(y) = decimal::read_byte(before(rest, b',')) else {
-        return ShapeField::Bad;
-    };
-    let Byte::Value(z) = decimal::read_byte(after(rest, b',')) else {
-        return ShapeField::Bad;
-    };
-    let Byte::Value(wrap) = decimal::read_byte(field::value(line, b"wrap=")) else {
-        return ShapeField::Bad;
-    };
-    ShapeField::Shape(Shape { x, y, z, wrap })
-}
+// The longest sheet that a case gives, and the most room that it lends: a sheet of 256 faults has 777 bytes.
+pub const SHEET_BYTES: usize = 1024;
 
 // Reads the field `plan=` into the front of `sheet`.
 pub fn sheet(line: &[u8], sheet: &mut [u8]) -> Count {
@@ -44,21 +15,5 @@ pub fn sheet(line: &[u8], sheet: &mut [u8]) -> Count {
 
 // Reads the field `room=`.
 pub fn room(line: &[u8]) -> Number {
-    decimal::read(field::value(line, b"room="), 65536)
-}
-
-pub fn put_number(out: &mut [u8], at: usize, number: u8) -> usize {
-    field::put_number(out, at, b"number=", number as u64)
-}
-
-// Writes the fields `extents` and `wrap`.
-pub fn put_shape(out: &mut [u8], at: usize, shape: Shape) -> usize {
-    let x = field::put_number(out, at, b" extents=", shape.x as u64);
-    let y = field::put_number(out, x, b",", shape.y as u64);
-    let z = field::put_number(out, y, b",", shape.z as u64);
-    field::put_number(out, z, b" wrap=", shape.wrap as u64)
-}
-
-pub fn unreadable(out: &mut [u8], at: usize) -> usize {
-    put::bytes(out, at, b"unreadable")
+    decimal::read(field::value(line, b"room="), SHEET_BYTES as u64)
 }

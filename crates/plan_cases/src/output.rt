@@ -1,5 +1,5 @@
 // What a writing call answers, and its lent output whole.
-use crate::fields::put_number;
+use case_fields::put_number;
 use sheet::Written;
 use text::field;
 use text::hex;

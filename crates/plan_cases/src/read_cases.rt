@@ -1,6 +1,9 @@
 // The operation `plan`: a plan sheet is read.
 use crate::faults::put_faults;
 use crate::fields;
+use case_fields::put_number;
+use case_fields::put_shape;
+use case_fields::unreadable;
 use plan::Answer;
 use plan::read;
 use text::hex::Count;
@@ -10,16 +13,16 @@ use text::part::front;
 pub fn answer(line: &[u8], out: &mut [u8], at: usize) -> usize {
     let mut bytes = [0u8; fields::SHEET_BYTES];
     let Count::Bytes(count) = fields::sheet(line, &mut bytes) else {
-        return fields::unreadable(out, at);
+        return unreadable(out, at);
     };
     let reading = read(front(&bytes, count));
     let answer = reading.answer;
     let plan = reading.plan;
     match answer {
-        Answer::Refused(number) => fields::put_number(out, at, number),
+        Answer::Refused(number) => put_number(out, at, number),
         Answer::Accepted => {
-            let number = fields::put_number(out, at, 0);
-            let shape = fields::put_shape(out, number, plan.shape);
+            let number = put_number(out, at, 0);
+            let shape = put_shape(out, number, plan.shape);
             put_faults(out, shape, plan)
         }
     }

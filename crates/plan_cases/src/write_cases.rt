@@ -1,8 +1,10 @@
 // The operations `planback` and `planwrite`: a plan sheet is written back, or written from a plan's value, into lent output filled with EE.
 use crate::faults::with_faults;
 use crate::fields;
-use crate::fields::ShapeField;
 use crate::output::put_written;
+use case_fields::ShapeField;
+use case_fields::read_shape;
+use case_fields::unreadable;
 use plan::Plan;
 use plan::write;
 use plan::write_back;
@@ -14,7 +16,7 @@ use text::part::front;
 // More room than can be lent is unreadable.
 fn back_into(sheet: &[u8], lent: &mut [u8], room: usize, out: &mut [u8], at: usize) -> usize {
     if lent.len() < room {
-        return fields::unreadable(out, at);
+        return unreadable(out, at);
     }
     let part = &mut lent[..room];
     let written = write_back(sheet, part);
@@ -23,7 +25,7 @@ fn back_into(sheet: &[u8], lent: &mut [u8], room: usize, out: &mut [u8], at: usi
 
 fn write_into(plan: Plan, lent: &mut [u8], room: usize, out: &mut [u8], at: usize) -> usize {
     if lent.len() < room {
-        return fields::unreadable(out, at);
+        return unreadable(out, at);
     }
     let part = &mut lent[..room];
     let written = write(plan, part);
@@ -35,10 +37,10 @@ pub fn answer_back(line: &[u8], out: &mut [u8], at: usize) -> usize {
     let mut bytes = [0u8; fields::SHEET_BYTES];
     let mut lent = [0xEEu8; fields::SHEET_BYTES];
     let Count::Bytes(count) = fields::sheet(line, &mut bytes) else {
-        return fields::unreadable(out, at);
+        return unreadable(out, at);
     };
     let Number::Value(room) = fields::room(line) else {
-        return fields::unreadable(out, at);
+        return unreadable(out, at);
     };
     back_into(front(&bytes, count), &mut lent, room as usize, out, at)
 }
@@ -46,15 +48,15 @@ pub fn answer_back(line: &[u8], out: &mut [u8], at: usize) -> usize {
 // Writes the answer to a line `planwrite extents=.. wrap=.. faults=.. room=..`.
 pub fn answer_write(line: &[u8], out: &mut [u8], at: usize) -> usize {
     let mut lent = [0xEEu8; fields::SHEET_BYTES];
-    let ShapeField::Shape(shape) = fields::shape(line) else {
-        return fields::unreadable(out, at);
+    let ShapeField::Shape(shape) = read_shape(line) else {
+        return unreadable(out, at);
     };
     let given = with_faults(shape, field::value(line, b"faults="));
     if !given.readable {
-        return fields::unreadable(out, at);
+        return unreadable(out, at);
     }
     let Number::Value(room) = fields::room(line) else {
-        return fields::unreadable(out, at);
+        return unreadable(out, at);
     };
     let plan = given.plan;
     write_into(plan, &mut lent, room as usize, out, at)

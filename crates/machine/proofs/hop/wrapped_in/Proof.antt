@@ -2,15 +2,10 @@ use Rattle.machine.proofs.ByCoords.{wrapped-dim}
 use borrow.Author.Needs.{needs}
 use Rattle.machine.proofs.hop.wrapped_in.Statement.{statement}
 use Rattle.machine.proofs.hop.wrapped_in.Tie as tie
-use Rattle.machine.proofs.hop.wrapped_in.Reads as reads
-use Rattle.machine.proofs.hop.wrapped_in.Lts as lts
-use Rattle.machine.proofs.hop.in_dim.Reads as in-dim-reads
 
--- src/hop.rt:153:5
 in-dim-requires : tie.Need-in-dim-requires
 in-dim-requires c κs = search needs
 
--- src/hop.rt:147:1
 returns : tie.Need-returns
 returns c = rw (c .in-dim .ensures) (wrapped-dim _ _)
 

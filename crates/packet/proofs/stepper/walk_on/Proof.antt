@@ -6,12 +6,6 @@ use lib.ListN.{length}
 use Rattle.packet.proofs.Walks.{Going, begin, has-arrived, used-up, refused, onward}
 use Rattle.packet.proofs.stepper.walk_on.Statement.{statement}
 use Rattle.packet.proofs.stepper.walk_on.Tie as tie
-use Rattle.packet.proofs.stepper.walk_on.Reads as reads
-use Rattle.packet.proofs.stepper.walk_on.Lts as lts
-use Rattle.packet.proofs.course.Course.allows.Reads as allows-reads
-use Rattle.packet.proofs.course.Course.hop.Reads as hop-reads
-use Rattle.packet.proofs.course.Course.of.Reads as of-reads
-use Rattle.packet.proofs.stepper.kept.Reads as kept-reads
 
 abbrev Inv-loop : tie.InvT-loop
 Inv-loop lent shape dirs legs way₀ hops₀ way hops = Going shape legs dirs lent way hops
@@ -19,67 +13,51 @@ Inv-loop lent shape dirs legs way₀ hops₀ way hops = Going shape legs dirs le
 abbrev μ-loop : tie.MeasureT-loop
 μ-loop lent shape dirs legs way₀ hops₀ way hops = length dirs - hops
 
--- src/stepper.rt:56:9
 of-requires : tie.Need-of-requires Inv-loop μ-loop
 of-requires c κs = c .before .before .pre
 
--- src/stepper.rt:58:5
 loop-holds : tie.Need-loop-holds Inv-loop μ-loop
 loop-holds c = begin _ _ (c .before .before .before .pre) _ (c .of .ensures) _
 
--- src/stepper.rt:61:25
 kept-requires : tie.Need-kept-requires Inv-loop μ-loop
 kept-requires c κs = tt
 
--- src/stepper.rt:60:13
 returns : tie.Need-returns Inv-loop μ-loop
 returns c = rw (c .kept .ensures) (has-arrived _ _ _ _ _ _ (c .before .before .before .before .loop .inv) (eq-eqb _ _ (c .before .if1 .taken)))
 
--- src/stepper.rt:66:19
 shared-slice-read-dir : tie.Need-shared-slice-read-dir Inv-loop μ-loop
 shared-slice-read-dir c = omega arith
 
--- src/stepper.rt:67:13
 allows-requires : tie.Need-allows-requires Inv-loop μ-loop
 allows-requires c κs = c .before .before .before .before .loop .inv .on
 
--- src/stepper.rt:69:25
 kept-requires-2 : tie.Need-kept-requires-2 Inv-loop μ-loop
 kept-requires-2 c κs = tt
 
--- src/stepper.rt:68:13
 returns-2 : tie.Need-returns-2 Inv-loop μ-loop
 returns-2 c = rw (c .kept2 .ensures) (refused _ _ _ _ _ _ (c .before .before .before .before .before .before .before .loop .inv) (c .before .before .before .before .before .before .loop-test .taken) (ne-eqb _ _ (c .before .before .before .before .if1 .left)) (sym (c .before .before .allows .ensures) ∙ not-true _ (c .before .if2 .taken)))
 
--- src/stepper.rt:74:9
 hop-requires : tie.Need-hop-requires Inv-loop μ-loop
 hop-requires c κs = (c .before .before .before .before .before .before .loop .inv .on, omega arith)
 
--- src/stepper.rt:75:16
 add-hops : tie.Need-add-hops Inv-loop μ-loop
 add-hops c = let h = c .before .before .before .before .before .before .before .before .before .before .before .good in omega (arith, c .before .before .before .before .before .before .loop-test .taken)
 
--- src/stepper.rt:58:5
 loop-less : tie.Need-loop-less Inv-loop μ-loop
 loop-less c = omega arith
 
--- src/stepper.rt:58:5
 loop-again : tie.Need-loop-again Inv-loop μ-loop
 loop-again c = rw (c .hop .ensures) (onward _ _ _ _ _ _ (c .before .before .before .before .before .before .before .loop .inv) (c .before .before .before .before .before .before .loop-test .taken) (ne-eqb _ _ (c .before .before .before .before .if1 .left)) (sym (c .before .before .allows .ensures) ∙ not-false _ (c .before .if2 .left)))
 
--- src/stepper.rt:79:21
 kept-requires-3 : tie.Need-kept-requires-3 Inv-loop μ-loop
 kept-requires-3 c κs = tt
 
--- src/stepper.rt:78:9
 returns-3 : tie.Need-returns-3 Inv-loop μ-loop
 returns-3 c = rw (c .kept3 .ensures) (has-arrived _ _ _ _ _ _ (c .before .before .before .before .loop .inv) (eq-eqb _ _ (c .before .if3 .taken)))
 
--- src/stepper.rt:85:17
 kept-requires-4 : tie.Need-kept-requires-4 Inv-loop μ-loop
 kept-requires-4 c κs = tt
 
--- src/stepper.rt:51:1
 returns-4 : tie.Need-returns-4 Inv-loop μ-loop
 returns-4 c = rw (c .kept4 .ensures) (used-up _ _ _ _ _ _ (c .before .before .before .before .loop .inv) (c .before .before .before .loop-test .left) (ne-eqb _ _ (c .before .if3 .left)))
 

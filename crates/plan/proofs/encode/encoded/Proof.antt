@@ -1,9 +1,8 @@
 use mathlib.Core.Path.{refl}
-use Rattle.plan.proofs.Encoding.{whole}
+use Rattle.plan.proofs.Encoding.{whole, Encoding, begin, onward, ended}
 use native.Mathlib.Omega.{arith}
 use Prim.Native.Nat.{_-_}
 use borrow.Author.Needs.{needs}
-use Rattle.plan.proofs.Encoding.{Encoding, begin, onward, ended}
 use Rattle.plan.proofs.encode.encoded.Statement.{statement}
 use Rattle.plan.proofs.encode.encoded.Tie as tie
 

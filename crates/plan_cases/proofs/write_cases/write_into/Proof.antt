@@ -3,49 +3,34 @@ use native.Mathlib.Omega.{arith}
 use borrow.Author.Needs.{needs}
 use Rattle.plan_cases.proofs.write_cases.write_into.Statement.{statement}
 use Rattle.plan_cases.proofs.write_cases.write_into.Tie as tie
-use Rattle.plan_cases.proofs.write_cases.write_into.Reads as reads
-use Rattle.plan_cases.proofs.write_cases.write_into.Lts as lts
-use Rattle.plan.proofs.write.Reads as write-reads
-use Rattle.plan_cases.proofs.fields.unreadable.Reads as unreadable-reads
-use Rattle.plan_cases.proofs.output.put_written.Reads as put-written-reads
 
--- src/write_cases.rt:26:9
 unreadable-requires : tie.Need-unreadable-requires
 unreadable-requires c κs = search needs
 
--- src/write_cases.rt:26:9
 same-length : tie.Need-same-length
 same-length c = search needs
 
--- src/write_cases.rt:26:9
 returns : tie.Need-returns
 returns c = search needs
 
--- src/write_cases.rt:28:16
 slice-relend-prefix-part : tie.Need-slice-relend-prefix-part
 slice-relend-prefix-part c = search needs
 
--- src/write_cases.rt:28:9
 slice-aggregate-part : tie.Need-slice-aggregate-part
 slice-aggregate-part c = simp length-take (omega arith)
 
--- src/write_cases.rt:29:9
 write-requires : tie.Need-write-requires
 write-requires c κs = search needs
 
--- src/write_cases.rt:30:5
 put-written-requires : tie.Need-put-written-requires
 put-written-requires c κs = search needs
 
--- src/write_cases.rt:24:1
 same-length-2 : tie.Need-same-length-2
 same-length-2 c = search needs
 
--- src/write_cases.rt:24:1
 same-length-3 : tie.Need-same-length-3
 same-length-3 c = search needs
 
--- src/write_cases.rt:24:1
 returns-2 : tie.Need-returns-2
 returns-2 c = search needs
 

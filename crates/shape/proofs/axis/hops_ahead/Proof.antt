@@ -3,23 +3,17 @@ use Rattle.shape.specs.Axis.{ahead}
 use borrow.Author.Needs.{needs}
 use Rattle.shape.proofs.axis.hops_ahead.Statement.{statement}
 use Rattle.shape.proofs.axis.hops_ahead.Tie as tie
-use Rattle.shape.proofs.axis.hops_ahead.Reads as reads
-use Rattle.shape.proofs.axis.hops_ahead.Lts as lts
 
--- src/axis.rt:74:39
 sub-result : tie.Need-sub-result
 sub-result c = search needs
 
--- src/axis.rt:74:32
 sub-result-2 : tie.Need-sub-result-2
 sub-result-2 c = search needs
 
--- src/axis.rt:70:1
 returns : tie.Need-returns
 unfolding ahead
 returns c = rw (le-leb _ _ (c .if1 .taken))
 
--- src/axis.rt:70:1
 returns-2 : tie.Need-returns-2
 unfolding ahead
 returns-2 c = rw (lt-leb _ _ (c .if1 .left))

@@ -4,19 +4,13 @@ use Rattle.packet.proofs.Drops.{allows-none}
 use borrow.Author.Needs.{needs}
 use Rattle.packet.proofs.course.Course.allows.Statement.{statement}
 use Rattle.packet.proofs.course.Course.allows.Tie as tie
-use Rattle.packet.proofs.course.Course.allows.Reads as reads
-use Rattle.packet.proofs.course.Course.allows.Lts as lts
-use Rattle.machine.proofs.hop.allowed_at.Reads as allowed-at-reads
 
--- src/course.rt:76:13
 returns : tie.Need-returns
 returns c = sym (allows-none _ _ _ (c .if1 .taken))
 
--- src/course.rt:82:9
 allowed-at-requires : tie.Need-allowed-at-requires
 allowed-at-requires c κs = search needs
 
--- src/course.rt:71:5
 returns-2 : tie.Need-returns-2
 returns-2 c = c .allowed-at .ensures ∙ on-allows _ _ _ (c .before .before .before .before .before .before .pre) _ (c .before .before .before .before .if1 .left)
 

@@ -3,29 +3,19 @@ use Rattle.packet.proofs.Courses.{of-course}
 use borrow.Author.Needs.{needs}
 use Rattle.packet.proofs.course.Course.of.Statement.{statement}
 use Rattle.packet.proofs.course.Course.of.Tie as tie
-use Rattle.packet.proofs.course.Course.of.Reads as reads
-use Rattle.packet.proofs.course.Course.of.Lts as lts
-use Rattle.machine.proofs.node.coords.Reads as coords-reads
-use Rattle.packet.proofs.course.front_or.Reads as front-or-reads
-use Rattle.packet.proofs.packet.Packet.drop_all.Reads as drop-all-reads
 
--- src/course.rt:47:13
 drop-all-requires : tie.Need-drop-all-requires
 drop-all-requires c κs = search needs
 
--- src/course.rt:48:13
 front-or-requires : tie.Need-front-or-requires
 front-or-requires c κs = rw (c .drop-all .ensures) (fine-settled _ _ (c .before .pre) .few)
 
--- src/course.rt:49:13
 coords-requires : tie.Need-coords-requires
 coords-requires c κs = search needs
 
--- src/course.rt:50:13
 coords-requires-2 : tie.Need-coords-requires-2
 coords-requires-2 c κs = search needs
 
--- src/course.rt:43:5
 returns : tie.Need-returns
 returns c = let e = c .before .before .before .drop-all .ensures in rw (← e) (of-course _ (c .before .before .before .drop-all .result) _ _ _ (rw e (fine-settled _ _ (c .before .before .before .before .pre))) (c .before .before .front-or .ensures) (c .before .coords .ensures) (c .coords2 .ensures))
 

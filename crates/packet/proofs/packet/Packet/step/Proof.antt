@@ -6,43 +6,28 @@ use Rattle.packet.proofs.Stored.{fine-of}
 use borrow.Author.Needs.{needs}
 use Rattle.packet.proofs.packet.Packet.step.Statement.{statement}
 use Rattle.packet.proofs.packet.Packet.step.Tie as tie
-use Rattle.packet.proofs.packet.Packet.step.Reads as reads
-use Rattle.packet.proofs.packet.Packet.step.Lts as lts
-use Rattle.packet.proofs.course.Course.allows.Reads as allows-reads
-use Rattle.packet.proofs.course.Course.hop.Reads as hop-reads
-use Rattle.packet.proofs.course.Course.of.Reads as of-reads
-use Rattle.packet.proofs.course.Course.packet.Reads as packet-reads
-use Rattle.packet.proofs.packet.Packet.check.Reads as check-reads
 
--- src/stepper.rt:96:13
 check-requires : tie.Need-check-requires
 check-requires c κs = search needs
 
--- src/stepper.rt:98:13
 returns : tie.Need-returns
 returns c = step-refused _ _ _ _ (c .before .check .ensures) (c .if1 .taken)
 
--- src/stepper.rt:104:13
 of-requires : tie.Need-of-requires
 of-requires c κs = fine-of _ _ (sym (c .before .before .check .ensures) ∙ c .before .if1 .left)
 
--- src/stepper.rt:105:13
 allows-requires : tie.Need-allows-requires
 allows-requires c κs = on-way _ _ (fine-of _ _ (sym (c .before .before .before .check .ensures) ∙ c .before .before .if1 .left)) _ (c .of .ensures)
 
--- src/stepper.rt:106:13
 returns-2 : tie.Need-returns-2
 returns-2 c = step-stays _ _ (fine-of _ _ (sym (c .before .before .before .before .before .check .ensures) ∙ c .before .before .before .before .if1 .left)) _ (c .before .before .of .ensures) _ (sym (c .before .allows .ensures) ∙ not-true _ (c .if2 .taken))
 
--- src/stepper.rt:111:13
 hop-requires : tie.Need-hop-requires
 hop-requires c κs = let on = on-way _ _ (fine-of _ _ (sym (c .before .before .before .before .before .check .ensures) ∙ c .before .before .before .before .if1 .left)) _ (c .before .before .of .ensures) in (on, allows-leg _ _ _ on _ (sym (c .before .allows .ensures) ∙ not-false _ (c .if2 .left)))
 
--- src/stepper.rt:113:21
 packet-requires : tie.Need-packet-requires
 packet-requires c κs = search needs
 
--- src/stepper.rt:93:5
 returns-3 : tie.Need-returns-3
 returns-3 c = step-hopped _ _ (fine-of _ _ (sym (c .before .before .before .before .before .before .before .check .ensures) ∙ c .before .before .before .before .before .before .if1 .left)) _ (c .before .before .before .before .of .ensures) _ _ _ (c .before .hop .ensures) (c .packet .ensures) (sym (c .before .before .before .allows .ensures) ∙ not-false _ (c .before .before .if2 .left))
 
