@@ -1,7 +1,9 @@
 // One dimension: `len` places from 0 on, a ring (wrapped) or open. Defined for all numbers, also for places that do not exist.
 use logic::both;
 use logic::either;
+use logic::pick;
 use logic::pick_bool;
+ghost use mathlib.Core.Bool.{true, false};
 ghost use mathlib.Core.Path.{_≡_};
 ghost use Prim.Native.Nat.{_≤_, _<_};
 ghost use Rattle.shape.specs.Axis.{gap, axisDistance, hasLink, place, axisUseful, ahead, ringUseful};
@@ -37,23 +39,35 @@ pub fn has_link(len: u8, ring: bool, p: u8, plus: bool) -> bool
     }
 }
 
-// The place on the other side of that link.
-pub fn next_place(len: u8, p: u8, plus: bool) -> u8
-    ensures { λ r. ⌜ r ≡ place len p plus ⌝ }
+// One place further, and from the last to place 0.
+fn place_up(len: u8, p: u8) -> u8
+    ensures { λ r. ⌜ r ≡ place len p true ⌝ }
 {
-    if plus {
-        if (p as u16) + 1 < (len as u16) {
-            p + 1
-        } else {
-            0
-        }
-    } else if 0 < p {
+    if (p as u16) + 1 < (len as u16) {
+        p + 1
+    } else {
+        0
+    }
+}
+
+// One place back, and from place 0 to the last.
+fn place_down(len: u8, p: u8) -> u8
+    ensures { λ r. ⌜ r ≡ place len p false ⌝ }
+{
+    if 0 < p {
         p - 1
     } else if 0 < len {
         len - 1
     } else {
         0
     }
+}
+
+// The place on the other side of that link. Both are worked out and one is chosen, since a walk's directions cannot be foretold.
+pub fn next_place(len: u8, p: u8, plus: bool) -> u8
+    ensures { λ r. ⌜ r ≡ place len p plus ⌝ }
+{
+    pick(plus, place_up(len, p), place_down(len, p))
 }
 
 // Whether the hop from p, plus or minus, lowers the distance to q by one.
