@@ -5,4 +5,3 @@ pub mod Links
 pub mod Table
 pub mod Answers
 pub mod Laws
-pub mod Worked

@@ -5,4 +5,3 @@ pub mod Readings
 pub mod Encoding
 pub mod Writings
 pub mod Rewriting
-pub mod Worked
