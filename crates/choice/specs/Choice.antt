@@ -11,14 +11,12 @@ use Rattle.machine.specs.declared.leg.Mode.{Mode}
 use Rattle.machine.specs.declared.leg.Mode.the-variants.{Adaptive, Deterministic}
 use Rattle.machine.specs.Number.{nodeCount}
 use Rattle.machine.specs.Hop.{distance}
+use Rattle.machine.specs.Torus.{leg}
 
 -- One leg, or two legs by one via node; each leg in either mode.
 pub data Choice : Type 0 where
   Direct : Mode → Choice
   Via : ℕ → Mode → Mode → Choice
-
-abbrev pub leg : ℕ → Mode → Leg
-leg t m = record { target = t; mode = m }
 
 -- The legs of a choice to the destination D.
 unfoldable pub legsTo : ℕ → Choice → List Leg

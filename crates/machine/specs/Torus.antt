@@ -15,6 +15,10 @@ unfoldable pub allowedBy : Mode → Shape → ℕ → ℕ → ℕ → Bool
 allowedBy Adaptive s n t dir = useful s n t dir
 allowedBy Deterministic s n t dir = leb dir 5 && eqb dir (firstDirection s n t)
 
+-- The leg to t in mode m.
+abbrev pub leg : ℕ → Mode → Leg
+leg t m = record { target = t; mode = m }
+
 abbrev pub torus : Shape → Machine Leg
 torus s = record {
   size = nodeCount s;

@@ -1,0 +1,1 @@
+// Tables of clear legs: toward a target and outward from a source.
