@@ -29,7 +29,7 @@ inside-at s c i X = i .x
 inside-at s c i Y = i .y
 inside-at s c i Z = i .z
 
-inside-put : (s : Shape) (c : Coords) → Inside s c → (d : Dim) (v : ℕ) → v < extentOf s d → Inside s (put c d v)
+pub inside-put : (s : Shape) (c : Coords) → Inside s c → (d : Dim) (v : ℕ) → v < extentOf s d → Inside s (put c d v)
 inside-put s c i X v h = record { x = h; y = i .y; z = i .z }
 inside-put s c i Y v h = record { x = i .x; y = h; z = i .z }
 inside-put s c i Z v h = record { x = i .x; y = i .y; z = h }
@@ -42,7 +42,7 @@ pub along-below : (s : Shape) (c t : Coords) → Inside s c → Inside s t → (
 along-below s c t i j d = axis-below (extentOf s d) (wrappedIn s d) (coordOf c d) (coordOf t d) (inside-at s c i d) (inside-at s t j d)
 
 -- One coordinate changed changes that dimension's part of the sum.
-distance-put :
+pub distance-put :
     (s : Shape) (c t : Coords) (d : Dim) (v : ℕ) →
     distanceAt s (put c d v) t + distanceAlong s c t d ≡ distanceAt s c t + axisDistance (extentOf s d) (wrappedIn s d) v (coordOf t d)
 unfolding distanceAt

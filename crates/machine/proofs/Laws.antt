@@ -12,12 +12,13 @@ use Rattle.shape.specs.declared.shape.Coords.{Coords}
 use Rattle.shape.specs.declared.shape.Dim.{Dim}
 use Rattle.shape.specs.declared.shape.Dim.the-variants.{X, Y, Z}
 use Rattle.shape.specs.Shape.{shapeError, extentOf, coordOf, wrappedIn, put}
+use Rattle.shape.specs.Axis.{place}
 use Rattle.machine.specs.Number.{nodeCount, numberOf, coordsOf}
 use Rattle.machine.specs.Hop.{dirDim, dirPlus, plusDir, minusDir, halfRingDir, opposite, part, distance, link, neighbour, useful, toward, same, firstDirection}
 use Rattle.machine.specs.ByCoords.{linkAlong, movedAlong, movedAt}
 use Rattle.machine.proofs.Numbers.{number-coords, inside}
-use Rattle.shape.proofs.AxisLaws.{axis-symmetric, axis-zero, axis-self, axis-some, back-place, back-link}
-use Rattle.machine.proofs.ByCoords.{inside-at, along-small, neighbour-coords, plus-of, minus-of}
+use Rattle.shape.proofs.AxisLaws.{axis-symmetric, axis-zero, axis-self, axis-some, axis-step, back-place, back-link}
+use Rattle.machine.proofs.ByCoords.{inside-at, along-small, distance-at, distance-put, neighbour-coords, plus-of, minus-of}
 
 pub useful-link : (s : Shape) (n t dir : ℕ) → useful s n t dir ≡ true → link s n dir ≡ true
 unfolding useful
@@ -101,7 +102,7 @@ module _ (s : Shape) (h : shapeError s ≡ 0) (n t : ℕ) (hn : n < nodeCount s)
           all Z = eqb-true _ _ ec
 
 -- ---- back over the same link
-opposite-is : (dir : ℕ) → dir ≤ 5 → (opposite dir ≤ 5) × (dirDim (opposite dir) ≡ dirDim dir) × (dirPlus (opposite dir) ≡ not (dirPlus dir))
+pub opposite-is : (dir : ℕ) → dir ≤ 5 → (opposite dir ≤ 5) × (dirDim (opposite dir) ≡ dirDim dir) × (dirPlus (opposite dir) ≡ not (dirPlus dir))
 unfolding opposite dirDim
 opposite-is zero h = (lit≤ tt, refl, refl)
 opposite-is (suc zero) h = (lit≤ tt, refl, refl)
@@ -111,7 +112,7 @@ opposite-is (suc (suc (suc (suc zero)))) h = (lit≤ tt, refl, refl)
 opposite-is (suc (suc (suc (suc (suc zero))))) h = (lit≤ tt, refl, refl)
 opposite-is (suc (suc (suc (suc (suc (suc n)))))) h = absurd (omega arith)
 
-put-at : (c : Coords) (d : Dim) (v : ℕ) → coordOf (put c d v) d ≡ v
+pub put-at : (c : Coords) (d : Dim) (v : ℕ) → coordOf (put c d v) d ≡ v
 put-at c X v = refl
 put-at c Y v = refl
 put-at c Z v = refl
@@ -126,11 +127,11 @@ unfolding neighbour
 neighbour-from s n dir = refl
 
 module _ (s : Shape) (h : shapeError s ≡ 0) (n dir : ℕ) (hn : n < nodeCount s) (l : link s n dir ≡ true) where
-  low : dir ≤ 5
+  pub low : dir ≤ 5
   unfolding link
   low = leb-true dir 5 (and-true (leb dir 5) _ l .0)
 
-  held : linkAlong s (coordsOf s n) (dirDim dir) (dirPlus dir) ≡ true
+  pub held : linkAlong s (coordsOf s n) (dirDim dir) (dirPlus dir) ≡ true
   unfolding link
   held = and-true (leb dir 5) _ l .1
 
@@ -153,3 +154,14 @@ module _ (s : Shape) (h : shapeError s ≡ 0) (n dir : ℕ) (hn : n < nodeCount 
   neighbour-back =
       let o = opposite-is dir low in
       neighbour-from s (neighbour s n dir) (opposite dir) ∙ rw (neighbour-coords s h n hn dir, o .1, o .2, back-coords) (number-coords s h n)
+
+  -- a hop changes the distance to any node by one at most
+  pub distance-step : (t : ℕ) → t < nodeCount s → distance s n t ≤ distance s (neighbour s n dir) t + 1
+  unfolding movedAt
+  distance-step t ht =
+      let d = dirDim dir in
+      let c = coordsOf s n in
+      let v = place (extentOf s d) (coordOf c d) (dirPlus dir) in
+      let one = axis-step (extentOf s d) (wrappedIn s d) (coordOf c d) (coordOf (coordsOf s t) d) (dirPlus dir) (inside-at s c (inside s h n hn) d) (inside-at s _ (inside s h t ht) d) held in
+      let sum = distance-put s c (coordsOf s t) d v in
+      rw (distance-at s n t, distance-at s (neighbour s n dir) t, neighbour-coords s h n hn dir) (omega arith)

@@ -39,19 +39,19 @@ axis-self len true p = omega arith
 axis-self len false p = omega arith
 
 -- ---- the two ways along a dimension, as they compute
-plus-in : (len p : ℕ) → p + 1 < len → place len p true ≡ p + 1
+pub plus-in : (len p : ℕ) → p + 1 < len → place len p true ≡ p + 1
 unfolding place
 plus-in len p h = rw (lt-ltb (p + 1) len h)
 
-plus-last : (len p : ℕ) → len ≤ p + 1 → place len p true ≡ 0
+pub plus-last : (len p : ℕ) → len ≤ p + 1 → place len p true ≡ 0
 unfolding place
 plus-last len p h = rw (le-ltb (p + 1) len h)
 
-minus-in : (len p : ℕ) → 0 < p → place len p false ≡ p - 1
+pub minus-in : (len p : ℕ) → 0 < p → place len p false ≡ p - 1
 unfolding place
 minus-in len p h = rw (lt-ltb 0 p h)
 
-minus-first : (len p : ℕ) → p ≤ 0 → place len p false ≡ len - 1
+pub minus-first : (len p : ℕ) → p ≤ 0 → place len p false ≡ len - 1
 unfolding place
 minus-first len p h = rw (le-ltb 0 p h)
 
@@ -77,7 +77,7 @@ unfolding hasLink
 ring-link len p plus = refl
 
 -- ---- useful hops without the distance: in an open dimension
-open-useful : (len p q : ℕ) (plus : Bool) → p < len → q < len → axisUseful len false p q plus ≡ openUseful p q plus
+pub open-useful : (len p q : ℕ) (plus : Bool) → p < len → q < len → axisUseful len false p q plus ≡ openUseful p q plus
 unfolding axisUseful axisDistance
 open-useful len p q true hp hq =
     split-lt p q
@@ -93,12 +93,12 @@ open-useful len p q false hp hq =
     (λ b. rw (open-minus-none len p b))))
 
 -- ---- and round a ring, by the hops going plus
-record Ahead (len p q u : ℕ) : Type 0 where
-  below : u < len
-  up : p ≤ q → p + u ≡ q
-  round : q < p → p + u ≡ q + len
+pub record Ahead (len p q u : ℕ) : Type 0 where
+  pub below : u < len
+  pub up : p ≤ q → p + u ≡ q
+  pub round : q < p → p + u ≡ q + len
 
-ahead-is : (len p q : ℕ) → p < len → q < len → Ahead len p q (ahead len p q)
+pub ahead-is : (len p q : ℕ) → p < len → q < len → Ahead len p q (ahead len p q)
 unfolding ahead
 ahead-is len p q hp hq =
     by-le p q
@@ -111,7 +111,7 @@ unfolding axisDistance
 ring-distance len p q u hp hq w = by-le p q (λ a. let e = w .up a in omega arith) (λ a. let e = w .round a in omega arith)
 
 -- A hop going plus leaves one less of that way, a hop going minus one more.
-plus-ahead : (len p q u : ℕ) → p < len → q < len → Ahead len p q (u + 1) → Ahead len (place len p true) q u
+pub plus-ahead : (len p q u : ℕ) → p < len → q < len → Ahead len p q (u + 1) → Ahead len (place len p true) q u
 plus-ahead len p q u hp hq w =
     split-lt (p + 1) len
     (λ a. rw (plus-in len p a) (by-le p q
@@ -121,7 +121,7 @@ plus-ahead len p q u hp hq w =
     (λ b. let e = w .up b in absurd (omega arith))
     (λ b. let e = w .round b in record { below = omega (arith, w .below); up = λ _. omega arith; round = λ h. absurd (omega arith) })))
 
-minus-ahead : (len p q u : ℕ) → p < len → q < len → u + 1 < len → Ahead len p q u → Ahead len (place len p false) q (u + 1)
+pub minus-ahead : (len p q u : ℕ) → p < len → q < len → u + 1 < len → Ahead len p q u → Ahead len (place len p false) q (u + 1)
 minus-ahead len p q u hp hq k w =
     split-lt 0 p
     (λ a. rw (minus-in len p a) (by-le p q
@@ -168,7 +168,7 @@ module _ (len p q : ℕ) (hp : p < len) (hq : q < len) (u : ℕ) (w : Ahead len 
       let next = ring-distance len (place len p false) q 0 (place-below len p false hp) hq (minus-whole len p q u hp hq (omega (arith, w .below)) w) in
       rw (next, le-leb len (2 * u) (omega (arith, w .below))) (eq-eqb (min 0 (len - 0) + 1) (min u (len - u)) (omega (arith, w .below)))))
 
-ring-useful : (len p q : ℕ) (plus : Bool) → p < len → q < len → axisUseful len true p q plus ≡ ringUseful len (ahead len p q) plus
+pub ring-useful : (len p q : ℕ) (plus : Bool) → p < len → q < len → axisUseful len true p q plus ≡ ringUseful len (ahead len p q) plus
 ring-useful len p q plus hp hq = by-le 1 (ahead len p q) (some plus) (λ a. none-useful len p q hp hq _ (ahead-is len p q hp hq) plus (omega arith))
   where
     some : (plus : Bool) → 1 ≤ ahead len p q → axisUseful len true p q plus ≡ ringUseful len (ahead len p q) plus
@@ -218,11 +218,11 @@ back-place len p false h =
     (λ a. rw (minus-in len p a) (plus-in len (p - 1) (omega arith) ∙ omega arith))
     (λ a. rw (minus-first len p a) (plus-last len (len - 1) (omega arith) ∙ omega arith))
 
-open-plus-of : (len p : ℕ) → hasLink len false p true ≡ true → p + 1 < len
+pub open-plus-of : (len p : ℕ) → hasLink len false p true ≡ true → p + 1 < len
 unfolding hasLink
 open-plus-of len p e = ltb-true (p + 1) len e
 
-open-minus-of : (len p : ℕ) → hasLink len false p false ≡ true → 0 < p
+pub open-minus-of : (len p : ℕ) → hasLink len false p false ≡ true → 0 < p
 unfolding hasLink
 open-minus-of len p e = ltb-true 0 p e
 
@@ -230,3 +230,22 @@ pub back-link : (len : ℕ) (ring : Bool) (p : ℕ) (plus : Bool) → p < len �
 back-link len true p plus h l = ring-link len (place len p plus) (not plus)
 back-link len false p true h l = let a = open-plus-of len p l in rw (plus-in len p a) (open-minus len (p + 1) (omega arith))
 back-link len false p false h l = let a = open-minus-of len p l in rw (minus-in len p a) (open-plus len (p - 1) (omega arith))
+
+-- ---- a hop changes the distance to any place by one at most
+round-step : (len p q : ℕ) (plus : Bool) (u : ℕ) → p < len → q < len → Ahead len p q u → axisDistance len true p q ≤ axisDistance len true (place len p plus) q + 1
+round-step len p q true u hp hq w =
+    by-le 1 u
+    (λ k.
+    let back : u - 1 + 1 ≡ u = omega arith in
+    rw (ring-distance len p q u hp hq w, ring-distance len (place len p true) q (u - 1) (place-below len p true hp) hq (plus-ahead len p q (u - 1) hp hq (rw back w))) (omega arith))
+    (λ k. rw (ring-distance len p q u hp hq w) (omega arith))
+round-step len p q false u hp hq w =
+    split-lt (u + 1) len
+    (λ k. rw (ring-distance len p q u hp hq w, ring-distance len (place len p false) q (u + 1) (place-below len p false hp) hq (minus-ahead len p q u hp hq k w)) (omega arith))
+    (λ k. rw (ring-distance len p q u hp hq w) (omega (arith, w .below)))
+
+pub axis-step : (len : ℕ) (ring : Bool) (p q : ℕ) (plus : Bool) → p < len → q < len → hasLink len ring p plus ≡ true → axisDistance len ring p q ≤ axisDistance len ring (place len p plus) q + 1
+unfolding axisDistance
+axis-step len true p q plus hp hq l = round-step len p q plus (ahead len p q) hp hq (ahead-is len p q hp hq)
+axis-step len false p q true hp hq l = rw (plus-in len p (open-plus-of len p l)) (omega arith)
+axis-step len false p q false hp hq l = let a = open-minus-of len p l in rw (minus-in len p a) (omega arith)

@@ -25,7 +25,7 @@ unfolding every
 true-every zero f h = refl
 true-every (suc n) f h = and-eq-true-iff (f n) (every n f) .1 (h n (omega arith), true-every n f (λ d lt. h d (omega arith)))
 
-same-test : (a b : Bool) → (a ≡ true → b ≡ true) → (b ≡ true → a ≡ true) → a ≡ b
+pub same-test : (a b : Bool) → (a ≡ true → b ≡ true) → (b ≡ true → a ≡ true) → a ≡ b
 same-test true b f g = sym (f refl)
 same-test false true f g = g refl
 same-test false false f g = refl

@@ -1,0 +1,2 @@
+pub mod LastHop
+pub mod LastRun
