@@ -1,3 +1,4 @@
 pub mod Choices
 pub mod Demand
 pub mod Worked
+pub mod First

@@ -18,7 +18,7 @@ use Rattle.machine.specs.Hop.{dirDim, dirPlus, plusDir, minusDir, halfRi
 use Rattle.machine.specs.ByCoords.{linkAlong, movedAlong, movedAt}
 use Rattle.machine.proofs.Numbers.{number-coords, inside}
 use Rattle.shape.proofs.AxisLaws.{axis-symmetric, axis-zero, axis-self, axis-some, axis-step, back-place, back-link}
-use Rattle.machine.proofs.ByCoords.{inside-at, along-small, distance-at, distance-put, neighbour-coords, plus-of, minus-of}
+use Rattle.machine.proofs.ByCoords.{inside-at, along-small, distance-at, distance-put, neighbour-coords, neighbour-below, plus-of, minus-of}
 
 pub useful-link : (s : Shape) (n t dir : ℕ) → useful s n t dir ≡ true → link s n dir ≡ true
 unfolding useful
@@ -165,3 +165,16 @@ module _ (s : Shape) (h : shapeError s ≡ 0) (n dir : ℕ) (hn : n < nodeCount 
       let one = axis-step (extentOf s d) (wrappedIn s d) (coordOf c d) (coordOf (coordsOf s t) d) (dirPlus dir) (inside-at s c (inside s h n hn) d) (inside-at s _ (inside s h t ht) d) held in
       let sum = distance-put s c (coordsOf s t) d v in
       rw (distance-at s n t, distance-at s (neighbour s n dir) t, neighbour-coords s h n hn dir) (omega arith)
+
+-- No way by another node is shorter.
+pub triangle : (s : Shape) (h : shapeError s ≡ 0) (k n v t : ℕ) → n < nodeCount s → v < nodeCount s → t < nodeCount s → distance s n v ≡ k → distance s n t ≤ k + distance s v t
+triangle s h zero n v t hn hv ht e = rw (distance-zero s h n v hn hv e) (omega arith)
+triangle s h (suc k) n v t hn hv ht e =
+    let ne : n ≡ v → ⊥ = λ q. omega (arith, ap (λ m. distance s m v) q, distance-self s v) in
+    let dir = firstDirection s n v in
+    let u = first-useful s h n v hn hv ne in
+    let l = useful-link s n v dir u in
+    let z = useful-lowers s n v dir u in
+    let one = distance-step s h n dir hn l t ht in
+    let rest = triangle s h k (neighbour s n dir) v t (neighbour-below s h n hn dir) hv ht (omega arith) in
+    omega arith

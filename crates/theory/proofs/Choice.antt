@@ -120,6 +120,12 @@ module _ {C : Type 0} (before : C → C → Bool) (O : Order before) (ok₁ ok�
         best-first before O ok₂ cs c (record { listed = b .listed; passes = k; least = λ e m t. b .least e m (fewer e t) });
   }
 
+-- Two tests that agree on the candidates.
+pub best-same : {C : Type 0} (before : C → C → Bool) (ok₁ ok₂ : C → Bool) (cs : List C) → ((c : C) → List·Memᴰ c cs → ok₁ c ≡ ok₂ c) → best before ok₁ cs ≡ best before ok₂ cs
+unfolding best earlier
+best-same before ok₁ ok₂ [] h = refl
+best-same before ok₁ ok₂ (c ∷ cs) h = rw (h c (List·Memᴰ·head refl), best-same before ok₁ ok₂ cs (λ e m. h e (List·Memᴰ·tail m)))
+
 -- The order by the size of a number, where different candidates have different numbers.
 pub rank-order : {C : Type 0} (rank : C → ℕ) → ((a b : C) → rank a ≡ rank b → a ≡ b) → Order (λ a b. ltb (rank a) (rank b))
 rank-order rank inj = record {
@@ -129,7 +135,7 @@ rank-order rank inj = record {
 }
 
 -- The order by a key, compared place by place.
-lex-less : (x y : ℕ) (xs ys : List ℕ) → x < y → lex (x ∷ xs) (y ∷ ys) ≡ true
+pub lex-less : (x y : ℕ) (xs ys : List ℕ) → x < y → lex (x ∷ xs) (y ∷ ys) ≡ true
 unfolding lex
 lex-less x y xs ys h = rw (lt-ltb x y h)
 
@@ -137,7 +143,7 @@ lex-more : (x y : ℕ) (xs ys : List ℕ) → y < x → lex (x ∷ xs) (y ∷ ys
 unfolding lex
 lex-more x y xs ys h = rw (le-ltb x y (omega arith), lt-ltb y x h)
 
-lex-same : (x y : ℕ) (xs ys : List ℕ) → x ≡ y → lex (x ∷ xs) (y ∷ ys) ≡ lex xs ys
+pub lex-same : (x y : ℕ) (xs ys : List ℕ) → x ≡ y → lex (x ∷ xs) (y ∷ ys) ≡ lex xs ys
 unfolding lex
 lex-same x y xs ys h = rw (le-ltb x y (omega arith), le-ltb y x (omega arith))
 

@@ -1,14 +1,14 @@
 -- The test `clear` passes exactly on clear legs, and `clear` looks one hop ahead.
 use Prim.Native.Nat.{ℕ, zero, suc, _<_}
 use native.Mathlib.Omega.{arith}
-use mathlib.Core.Path.{_≡_, refl, sym}
+use mathlib.Core.Path.{_≡_, refl, sym, _∙_}
 use mathlib.Core.Logic.{_↔_}
 use mathlib.Core.Bool.{Bool, true, false, cond, _&&_, and-eq-true-iff}
 use mathlib.Core.List.{List, [], _∷_}
 use lib.Dec.{eqb}
 use borrow.Author.Tests.{eqb-true, eqb-false}
 use Rattle.theory.specs.Machine.{Machine, Laws, Inside}
-use Rattle.theory.specs.Clear.{Clear, ClearLegs, every, clearIn, clear, clearLegs}
+use Rattle.theory.specs.Clear.{Allows, Sound, Clear, ClearLegs, every, clearIn, clear, clearLegs}
 use Rattle.theory.proofs.Cases.{test}
 
 pub every-true : (n : ℕ) (f : ℕ → Bool) → every n f ≡ true → (d : ℕ) → d < n → f d ≡ true
@@ -92,3 +92,23 @@ module _ {Leg : Type 0} (M : Machine Leg) (L : Laws M) (sound : ℕ → ℕ → 
       let one = clear-iff l (i .0) p at in
       let rest = clearLegs-iff (M .target l) ls (i .0) (i .1) in
       (λ h. (one .0 (both .0 h .0), rest .0 (both .0 h .1)), λ c. both .1 (one .1 (c .0), rest .1 (c .1)))
+
+-- Only the links that a leg's walks cross matter.
+module _ {Leg : Type 0} (M : Machine Leg) (L : Laws M) (sound₁ sound₂ : ℕ → ℕ → Bool) (same : (l : Leg) (p d : ℕ) → p < M .size → M .target l < M .size → M .allowed l p d ≡ true → sound₁ p d ≡ sound₂ p d) where
+  sound-same : (l : Leg) (p : ℕ) (ds : List ℕ) → p < M .size → M .target l < M .size → Allows M l p ds → Sound M sound₁ p ds → Sound M sound₂ p ds
+  sound-same l p [] at end w h = tt
+  sound-same l p (d ∷ ds) at end w h = (sym (same l p d at end (w .0)) ∙ h .0, sound-same l (M .next p d) ds (L .inside l p d at end (w .0)) end (w .1) (h .1))
+
+module _ {Leg : Type 0} (M : Machine Leg) (L : Laws M) (sound₁ sound₂ : ℕ → ℕ → Bool) (same : (l : Leg) (p d : ℕ) → p < M .size → M .target l < M .size → M .allowed l p d ≡ true → sound₁ p d ≡ sound₂ p d) where
+  pub clear-same : (l : Leg) (p : ℕ) → p < M .size → M .target l < M .size → clear M sound₁ l p ≡ clear M sound₂ l p
+  clear-same l p at end =
+      let one = clear-iff M L sound₁ l end p at in
+      let two = clear-iff M L sound₂ l end p at in
+      same-test _ _
+      (λ h. two .1 (λ ds w. sound-same M L sound₁ sound₂ same l p ds at end w (one .0 h ds w)))
+      (λ h. one .1 (λ ds w. sound-same M L sound₂ sound₁ (λ l p d at end a. sym (same l p d at end a)) l p ds at end w (two .0 h ds w)))
+
+  pub clearLegs-same : (p : ℕ) (ls : List Leg) → p < M .size → Inside M ls → clearLegs M sound₁ p ls ≡ clearLegs M sound₂ p ls
+  unfolding clearLegs
+  clearLegs-same p [] at i = refl
+  clearLegs-same p (l ∷ ls) at i = rw (clear-same l p at (i .0), clearLegs-same (M .target l) ls (i .0) (i .1))
