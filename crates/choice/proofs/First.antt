@@ -1,9 +1,9 @@
 -- A clear direct adaptive leg is the first choice; and the route hangs on the links that its legs cross.
 use Prim.Native.Nat.{ℕ, _+_, _≤_, _<_}
 use native.Mathlib.Omega.{arith}
-use mathlib.Core.Path.{_≡_, refl, sym, _∙_}
-use mathlib.Core.Bool.{Bool, true, false, _&&_}
-use mathlib.Core.List.{List, [], _∷_, List·Memᴰ}
+use mathlib.Core.Path.{_≡_, refl, _∙_}
+use mathlib.Core.Bool.{Bool, true}
+use mathlib.Core.List.{List, _∷_}
 use mathlib.Core.Option.{some}
 use Rattle.theory.specs.Choice.{lex}
 use Rattle.theory.specs.Clear.{clear, clearLegs}
@@ -13,7 +13,6 @@ use Rattle.theory.proofs.Clear.{clearLegs-same}
 use Rattle.theory.proofs.Choice.{best-same, best-first, lex-less, lex-same}
 use Rattle.shape.specs.declared.shape.Shape.{Shape}
 use Rattle.shape.specs.Shape.{shapeError}
-use Rattle.machine.specs.declared.leg.Mode.{Mode}
 use Rattle.machine.specs.declared.leg.Mode.the-variants.{Adaptive, Deterministic}
 use Rattle.machine.specs.Number.{nodeCount}
 use Rattle.machine.specs.Hop.{distance, link}

@@ -5,3 +5,4 @@ pub mod Links
 pub mod Table
 pub mod Answers
 pub mod Laws
+pub mod NodeTable

@@ -41,3 +41,7 @@ markFrom s t n d (suc k) = markLink s (markFrom s t n d k) n (d + k)
 -- The links that a fault makes dead.
 unfoldable pub markFault : Shape → List ℕ → Fault → List ℕ
 markFault s t f = cond (nodeKind (f .kind)) (markFrom s t (f .node) 0 6) (markFrom s t (f .node) (kindDir (f .kind)) 1)
+
+-- The node that a fault makes dead.
+unfoldable pub markNode : List ℕ → Fault → List ℕ
+markNode t f = cond (nodeKind (f .kind)) (set t (f .node) 1) t

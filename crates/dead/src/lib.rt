@@ -1,9 +1,11 @@
-// Dead nodes and links of a plan: single questions, and a table for all nodes.
+// Dead nodes and links of a plan: single questions, and tables for all nodes.
 mod marks;
 pub mod masks;
 pub mod names;
+pub mod nodes;
 pub mod questions;
 
 pub use masks::dead_masks;
+pub use nodes::dead_nodes;
 pub use questions::is_dead_link;
 pub use questions::is_dead_node;

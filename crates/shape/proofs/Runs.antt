@@ -1,13 +1,12 @@
 -- The way along one dimension that a deterministic leg takes: plus where plus is useful, else minus.
 use Prim.Native.Nat.{ℕ, _+_, _-_, _*_, _≤_, _<_}
-use mathlib.Core.Bool.{Bool, true, false, cond, not, _&&_}
-use mathlib.Core.Path.{_≡_, refl, sym, ap, _∙_}
+use mathlib.Core.Bool.{Bool, true, false, not}
+use mathlib.Core.Path.{_≡_, sym, ap, _∙_}
 use native.Mathlib.Omega.{arith}
-use lib.Dec.{leb, ltb, eqb}
+use lib.Dec.{leb, ltb}
 use borrow.Author.Tests.{lt-ltb, le-ltb, le-leb, lt-leb, ne-eqb, eq-eqb, leb-true, leb-false, ltb-true, ltb-false}
-use Rattle.theory.proofs.Bools.{and-true}
-use Rattle.theory.proofs.Cases.{test, by-le, by-order}
-use Rattle.shape.specs.Axis.{place, axisUseful, openUseful, ahead, ringUseful}
+use Rattle.theory.proofs.Cases.{by-le, by-order}
+use Rattle.shape.specs.Axis.{place, axisUseful, ahead, ringUseful}
 use Rattle.shape.proofs.AxisLaws.{Ahead, ahead-is, plus-ahead, minus-ahead, plus-in, plus-last, minus-in, minus-first, ring-useful, open-useful, place-below}
 
 ahead-one : (len p q u v : ℕ) → Ahead len p q u → Ahead len p q v → u ≡ v

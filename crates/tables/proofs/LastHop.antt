@@ -1,23 +1,22 @@
 -- A clear leg by its last hop: the walks to v are the walks to a node before v and the hop from there. It does not rest on links being dead both ways.
 use Prim.Native.Nat.{ℕ, zero, suc, _+_, _≤_, _<_}
 use native.Mathlib.Omega.{arith}
-use mathlib.Core.Path.{_≡_, refl, sym, ap, _∙_}
-use mathlib.Core.Bool.{Bool, true, false, cond, not, _&&_, and-eq-true-iff}
-use lib.Dec.{leb, eqb}
-use borrow.Author.Tests.{eqb-true, eqb-false, eq-eqb, ne-eqb, le-leb, leb-true}
+use mathlib.Core.Path.{_≡_, refl, sym}
+use mathlib.Core.Bool.{Bool, true, cond, not, _&&_, and-eq-true-iff}
+use lib.Dec.{eqb}
+use borrow.Author.Tests.{eqb-true, eqb-false, eq-eqb}
 use Rattle.theory.specs.Clear.{every}
-use Rattle.theory.proofs.Bools.{and-true}
 use Rattle.theory.proofs.Cases.{test}
 use Rattle.theory.proofs.Clear.{same-test, every-true, true-every, clear-on, empty-clear, clear-iff, clear-ahead}
 use Rattle.shape.specs.declared.shape.Shape.{Shape}
 use Rattle.shape.specs.Shape.{shapeError}
 use Rattle.machine.specs.declared.leg.Mode.{Mode}
-use Rattle.machine.specs.declared.leg.Mode.the-variants.{Adaptive, Deterministic}
+use Rattle.machine.specs.declared.leg.Mode.the-variants.{Adaptive}
 use Rattle.machine.specs.Number.{nodeCount}
 use Rattle.machine.specs.Hop.{opposite, distance, link, neighbour, useful, firstDirection}
 use Rattle.machine.specs.Torus.{allowedBy, leg, torus}
 use Rattle.machine.proofs.ByCoords.{neighbour-below}
-use Rattle.machine.proofs.Laws.{useful-link, useful-lowers, distance-symmetric, distance-self, distance-zero, first-useful, low, link-back, neighbour-back, distance-step}
+use Rattle.machine.proofs.Laws.{useful-link, useful-lowers, distance-symmetric, distance-self, first-useful, low, link-back, neighbour-back, distance-step}
 use Rattle.machine.proofs.Torus.{torus-laws, useful-named}
 use Rattle.tables.specs.Entry.{clearFrom}
 

@@ -1,11 +1,11 @@
 -- A clear deterministic leg by its last hop: the walk to v is the walk to the node before v and the hop from there.
-use Prim.Native.Nat.{ℕ, zero, suc, _+_, _≤_, _<_}
+use Prim.Native.Nat.{ℕ, zero, suc, _≤_, _<_}
 use native.Mathlib.Omega.{arith}
 use mathlib.Core.Path.{_≡_, refl, sym, ap, _∙_}
 use mathlib.Core.Bool.{Bool, true, false, false≢true, cond, not, _&&_, and-eq-true-iff}
 use mathlib.Core.Logic.{⊎-elim}
 use lib.Dec.{leb, eqb}
-use borrow.Author.Tests.{eqb-true, eqb-false, eq-eqb, ne-eqb, le-leb, leb-true}
+use borrow.Author.Tests.{eqb-true, eqb-false, eq-eqb, ne-eqb, le-leb}
 use Rattle.theory.proofs.Bools.{and-true}
 use Rattle.theory.proofs.Cases.{test}
 use Rattle.theory.proofs.Clear.{same-test}
@@ -14,12 +14,12 @@ use Rattle.shape.specs.declared.shape.Coords.{Coords}
 use Rattle.shape.specs.declared.shape.Dim.{Dim}
 use Rattle.shape.specs.declared.shape.Dim.the-variants.{X, Y, Z}
 use Rattle.shape.specs.Shape.{shapeError, extentOf, wrappedIn, coordOf, put}
-use Rattle.shape.specs.Axis.{place, axisUseful}
+use Rattle.shape.specs.Axis.{place}
 use Rattle.shape.proofs.AxisLaws.{axis-some}
 use Rattle.shape.proofs.Runs.{mirror, Run, Onward, onward}
 use Rattle.machine.specs.declared.leg.Mode.the-variants.{Deterministic}
-use Rattle.machine.specs.Number.{nodeCount, coordsOf, numberOf, Inside}
-use Rattle.machine.specs.Hop.{dirDim, dirPlus, plusDir, minusDir, opposite, distance, neighbour, useful, firstDirection}
+use Rattle.machine.specs.Number.{nodeCount, coordsOf, Inside}
+use Rattle.machine.specs.Hop.{dirDim, plusDir, minusDir, opposite, distance, neighbour, useful, firstDirection}
 use Rattle.machine.specs.Torus.{allowedBy}
 use Rattle.machine.specs.ByCoords.{usefulAlong, movedAt, towardAt, firstAt}
 use Rattle.machine.proofs.Numbers.{inside}
