@@ -1,0 +1,5 @@
+pub mod Scores
+pub mod Order
+pub mod Entries
+pub mod Outcomes
+pub mod Planned

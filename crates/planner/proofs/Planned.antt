@@ -1,0 +1,206 @@
+-- The outcome that two tables give is what planning the pair answers.
+use Prim.Native.Nat.{ℕ, _+_, _*_, _≤_, _<_}
+use native.Mathlib.Omega.{arith}
+use mathlib.Core.Path.{_≡_, refl, sym, ap, _∙_}
+use mathlib.Core.Logic.{⊎-elim}
+use mathlib.Core.Bool.{Bool, true, false, _&&_, true≢false}
+use mathlib.Core.List.{List}
+use mathlib.Core.Option.{Option, none, some}
+use lib.ListN.{getD}
+use borrow.Author.Tests.{ltb-true}
+use Rattle.theory.specs.Clear.{clear, clearIn, clearLegs}
+use Rattle.theory.specs.Choice.{Best, best}
+use Rattle.theory.specs.Plan.{planned}
+use Rattle.theory.proofs.Bools.{and-true}
+use Rattle.theory.proofs.Cases.{by-le}
+use Rattle.theory.proofs.Choice.{best-is}
+use Rattle.shape.specs.declared.shape.Shape.{Shape}
+use Rattle.shape.specs.Shape.{shapeError}
+use Rattle.shape.proofs.Shapes.{count-most}
+use Rattle.machine.specs.declared.leg.Mode.{Mode}
+use Rattle.machine.specs.declared.leg.Mode.the-variants.{Adaptive, Deterministic}
+use Rattle.machine.specs.Number.{nodeCount}
+use Rattle.machine.specs.Hop.{distance}
+use Rattle.machine.specs.Torus.{torus}
+use Rattle.machine.proofs.Laws.{distance-self, distance-most}
+use Rattle.tables.specs.Entry.{clearFrom, entry}
+use Rattle.choice.specs.Choice.{Choice, Direct, Via, legsTo, Admits, choices, lengthFrom, lengthOf, det, detLegs, viaCount, viaNode, firstMode, beforeIn}
+use Rattle.choice.specs.Pair.{chosen}
+use Rattle.choice.proofs.Choices.{before-order, admits-lists, lists-admits}
+use Rattle.planner.specs.Outcome.{told}
+use Rattle.planner.specs.Score.{lengthPlace, detsPlace, viasPlace, nodePlace, scoreOf, unclear, legScore, firstScore, viaScore, leastScore, decoded, outcomeIn}
+use Rattle.planner.proofs.Scores.{AtVia, least-first, least-via, least-one}
+use Rattle.planner.proofs.Order.{Small, low-places, before-score}
+use Rattle.planner.proofs.Entries.{LegScore, entry-score}
+use Rattle.planner.proofs.Outcomes.{decoded-none, decoded-score}
+
+-- The tables of the legs from the source S and to the destination D.
+pub record Tables (s : Shape) (sound : ℕ → ℕ → Bool) (S D : ℕ) (from toward : List ℕ) : Type 0 where
+  pub ok : shapeError s ≡ 0
+  pub source : S < nodeCount s
+  pub target : D < nodeCount s
+  pub out : (n : ℕ) → n < nodeCount s → getD from n 0 ≡ entry s sound S n
+  pub back : (n : ℕ) → n < nodeCount s → getD toward n 0 ≡ entry s sound n D
+
+pub nodes-most : (s : Shape) → shapeError s ≡ 0 → nodeCount s ≤ 4096
+unfolding nodeCount
+nodes-most s h = count-most s h
+
+-- An empty leg is clear.
+self-clear : (s : Shape) (sound : ℕ → ℕ → Bool) (n : ℕ) → clearFrom s sound Adaptive n n ≡ true
+unfolding clear clearIn
+self-clear s sound n = rw (distance-self s n)
+
+and-one : (b : Bool) → (b && true) ≡ b
+and-one true = refl
+and-one false = refl
+
+-- What a first leg adds, of what the same leg adds elsewhere.
+first-leg : (e : ℕ) → (legScore e ≤ firstScore e) × (firstScore e ≤ legScore e + 1)
+unfolding firstScore
+first-leg e = (omega arith, omega arith)
+
+via-parts : (v f g : ℕ) → viaScore v f g ≡ firstScore f + (legScore g + (viasPlace + v * nodePlace))
+unfolding viaScore
+via-parts v f g = refl
+
+module _ (s : Shape) (sound : ℕ → ℕ → Bool) (S D : ℕ) where
+  abbrev okay : Choice → Bool
+  okay c = clearLegs (torus s) sound S (legsTo D c)
+
+  okay-direct : (m : Mode) → okay (Direct m) ≡ clearFrom s sound m S D
+  unfolding legsTo clearLegs
+  okay-direct m = and-one _
+
+  okay-via : (v : ℕ) (m n : Mode) → okay (Via v m n) ≡ (clearFrom s sound m S v && clearFrom s sound n v D)
+  unfolding legsTo clearLegs
+  okay-via v m n = rw (and-one (clearFrom s sound n v D))
+
+  score-direct : (m : Mode) → scoreOf s S D (Direct m) ≡ distance s S D * lengthPlace + (det m * detsPlace + det m)
+  unfolding scoreOf lengthFrom legsTo detLegs viaCount viaNode firstMode
+  score-direct m = omega arith
+
+  score-via : (v : ℕ) (m n : Mode) → scoreOf s S D (Via v m n) ≡ (distance s S v + distance s v D) * lengthPlace + ((det m + det n) * detsPlace + (viasPlace + (v * nodePlace + det m)))
+  unfolding scoreOf lengthFrom legsTo detLegs viaCount viaNode firstMode
+  score-via v m n = omega arith
+
+  -- A number is that of an admitted choice that is clear.
+  record Reached (k : ℕ) : Type 0 where
+    choice : Choice
+    admitted : Admits s S D choice
+    passes : okay choice ≡ true
+    score : k ≡ scoreOf s S D choice
+
+  module _ (from toward : List ℕ) (T : Tables s sound S D from toward) where
+    abbrev first : ℕ
+    first = firstScore (getD from D 0)
+
+    abbrev least : ℕ
+    least = leastScore from toward first (nodeCount s)
+
+    out-score : (v : ℕ) → v < nodeCount s → LegScore (distance s S v) (getD from v 0) (λ m. clearFrom s sound m S v)
+    out-score v h = entry-score s sound S v (getD from v 0) (T .out v h)
+
+    back-score : (v : ℕ) → v < nodeCount s → LegScore (distance s v D) (getD toward v 0) (λ m. clearFrom s sound m v D)
+    back-score v h = entry-score s sound v D (getD toward v 0) (T .back v h)
+
+    -- No admitted choice that is clear has a lower number.
+    least-below : (c : Choice) → Admits s S D c → okay c ≡ true → least ≤ scoreOf s S D c
+    least-below (Direct m) a ok =
+        let clear = sym (okay-direct m) ∙ ok in
+        omega (arith, least-first from toward first (nodeCount s), out-score D (T .target) .first-most m clear, score-direct m)
+    least-below (Via v m n) a ok =
+        let clear = and-true _ _ (sym (okay-via v m n) ∙ ok) in
+        omega (arith, least-via from toward first (nodeCount s) v (a .0), via-parts v (getD from v 0) (getD toward v 0), out-score v (a .0) .first-most m (clear .0), back-score v (a .0) .leg-most n (clear .1), score-via v m n)
+
+    -- The source to itself: the number of its direct and adaptive route is 0.
+    self-first : S ≡ D → first ≤ 0
+    self-first e = omega (arith, out-score D (T .target) .first-most Adaptive (rw e (self-clear s sound D)), ap (λ (n : ℕ). distance s n D) e, distance-self s D)
+
+    self-mode : (m : Mode) → S ≡ D → first ≡ distance s S D * lengthPlace + (det m * detsPlace + det m) → m ≡ Adaptive
+    self-mode Adaptive e f = refl
+    self-mode Deterministic e f = absurd (omega (arith, self-first e))
+
+    -- A via that is an end of the pair is never the least: the direct choice is lower.
+    not-source : (v : ℕ) → least ≡ viaScore v (getD from v 0) (getD toward v 0) → v ≡ S → ⊥
+    not-source v e q =
+        let same : getD toward v 0 ≡ getD from D 0 = rw q (T .back S (T .source) ∙ sym (T .out D (T .target))) in
+        omega (arith, least-first from toward first (nodeCount s), via-parts v (getD from v 0) (getD toward v 0), ap legScore same, first-leg (getD from D 0) .1)
+
+    not-target : (v : ℕ) → least ≡ viaScore v (getD from v 0) (getD toward v 0) → v ≡ D → ⊥
+    not-target v e q =
+        omega (arith, least-first from toward first (nodeCount s), via-parts v (getD from v 0) (getD toward v 0), ap (λ (n : ℕ). firstScore (getD from n 0)) q)
+
+    at-direct : least < unclear → least ≡ first → Reached least
+    at-direct h e =
+        let f = out-score D (T .target) .found (omega (arith, first-leg (getD from D 0) .0)) in
+        record {
+          choice = Direct (f .mode);
+          admitted = λ q. self-mode (f .mode) q (f .first-is);
+          passes = okay-direct (f .mode) ∙ f .clear;
+          score = omega (arith, f .first-is, score-direct (f .mode));
+        }
+
+    at-via : least < unclear → AtVia from toward first (nodeCount s) least → Reached least
+    at-via h a =
+        let v = a .via in
+        let parts = via-parts v (getD from v 0) (getD toward v 0) in
+        let f = out-score v (a .below) .found (omega (arith, parts, a .score, first-leg (getD from v 0) .0)) in
+        let g = back-score v (a .below) .found (omega (arith, parts, a .score)) in
+        record {
+          choice = Via v (f .mode) (g .mode);
+          admitted = (a .below, not-source v (a .score), not-target v (a .score), λ q. omega (arith, self-first q, least-first from toward first (nodeCount s), parts, a .score));
+          passes = okay-via v (f .mode) (g .mode) ∙ rw (f .clear, g .clear);
+          score = omega (arith, parts, a .score, f .first-is, g .leg-is, score-via v (f .mode) (g .mode));
+        }
+
+    reached : least < unclear → Reached least
+    reached h = ⊎-elim (at-direct h) (at-via h) (least-one from toward first (nodeCount s))
+
+    small : (c : Choice) → Admits s S D c → Small c
+    small (Direct m) a = tt
+    small (Via v m n) a = omega (arith, a .0, nodes-most s (T .ok))
+
+    short : (c : Choice) → Admits s S D c → lengthOf s S D c ≤ 90
+    unfolding lengthFrom legsTo
+    short (Direct m) a = omega (arith, distance-most s (T .ok) S D (T .source) (T .target))
+    short (Via v m n) a = omega (arith, distance-most s (T .ok) S v (T .source) (a .0), distance-most s (T .ok) v D (a .0) (T .target))
+
+    score-clear : (c : Choice) → Admits s S D c → scoreOf s S D c < unclear
+    unfolding scoreOf
+    score-clear c a = let l = low-places c (small c a) in omega (arith, short c a)
+
+    abbrev order : Choice → Choice → Bool
+    order = beforeIn s S D
+
+    abbrev all : List Choice
+    all = choices (nodeCount s) S D
+
+    refused : Best order okay all none → unclear ≤ least
+    refused b = by-le unclear least (λ h. h)
+        (λ h.
+        let r = reached h in
+        absurd (true≢false (sym (r .passes) ∙ b .refused .0 refl (r .choice) (admits-lists s S D (r .choice) (r .admitted)))))
+
+    first-in-order : (c : Choice) → Best order okay all (some c) → least ≡ scoreOf s S D c
+    first-in-order c b =
+        let f = b .chosen c refl in
+        let a = lists-admits s S D c (f .listed) in
+        let below = least-below c a (f .passes) in
+        by-le (scoreOf s S D c) least (λ h. omega arith)
+        (λ h.
+        let r = reached (omega (arith, score-clear c a)) in
+        let lower : scoreOf s S D (r .choice) < scoreOf s S D c = omega (arith, r .score) in
+        let other : r .choice ≡ c → ⊥ = λ q. omega (arith, ap (scoreOf s S D) q) in
+        let later = f .least (r .choice) (admits-lists s S D (r .choice) (r .admitted)) (r .passes) other in
+        absurd (omega (arith, ltb-true (scoreOf s S D c) (scoreOf s S D (r .choice)) (sym (before-score s S D c (r .choice) (small c a) (small (r .choice) (r .admitted))) ∙ later))))
+
+    at : (o : Option Choice) → Best order okay all o → decoded least ≡ told (chosen s S D o)
+    at none b = decoded-none least (refused b)
+    at (some c) b =
+        let a = lists-admits s S D c (b .chosen c refl .listed) in
+        decoded-score s S D least c (small c a) (omega (arith, short c a)) (first-in-order c b)
+
+    pub outcome-planned : outcomeIn from toward (nodeCount s) D ≡ told (chosen s S D (planned (torus s) sound (legsTo D) order S all))
+    unfolding outcomeIn planned
+    outcome-planned = at (best order okay all) (best-is order (before-order s S D) okay all)

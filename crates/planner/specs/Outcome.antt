@@ -1,0 +1,9 @@
+-- The answer as the code's enum.
+use Rattle.planner.specs.declared.outcome.Outcome.{Outcome}
+use Rattle.choice.specs.Choice.{Direct, Via}
+use Rattle.choice.specs.Pair.{Answer, Route, Refused}
+
+unfoldable pub told : Answer → Outcome
+told (Route (Direct m) len) = Outcome.Direct m len
+told (Route (Via v m n) len) = Outcome.Via v m n len
+told (Refused n) = Outcome.Refused n

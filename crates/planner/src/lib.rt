@@ -1,0 +1,4 @@
+// Planning: the choice for a pair, from two tables of clear legs.
+mod choose;
+pub mod outcome;
+mod score;

@@ -1,0 +1,116 @@
+// A choice's place in the order as one number, made from the tables' entries of its legs, and read back.
+use crate::outcome::Outcome;
+use machine::leg::Mode;
+ghost use mathlib.Core.Path.{_≡_};
+ghost use mathlib.Core.Bool.{cond};
+ghost use Prim.Native.Nat.{_*_, _≤_, _<_};
+ghost use Rattle.planner.specs.Score.{unclear, adaptiveIn, deterministicIn, hopsIn, modeScore, legScore, firstScore, viaScore, lower, modeOf, decoded};
+
+// Place values of a choice's number, after the order: of its length,
+const LENGTH: u32 = 65536;
+
+// of its deterministic legs, at most two,
+const DETS: u32 = 16384;
+
+// of its vias, at most one,
+const VIAS: u32 = 8192;
+
+// of the via's node number. The first leg's mode has the last place.
+const NODE: u32 = 2;
+
+// Above every choice's number: a length that no choice has.
+const UNCLEAR: u32 = 16777216;
+
+fn pick(b: bool, x: u32, y: u32) -> u32
+    ensures { λ r. ⌜ r ≡ cond b x y ⌝ }
+{
+    if b { x } else { y }
+}
+
+fn adaptive(e: u8) -> bool
+    ensures { λ r. ⌜ r ≡ adaptiveIn e ⌝ }
+{
+    e % 2 == 1
+}
+
+fn deterministic(e: u8) -> bool
+    ensures { λ r. ⌜ r ≡ deterministicIn e ⌝ }
+{
+    e / 2 % 2 == 1
+}
+
+fn hops(e: u8) -> u32
+    ensures { λ r. ⌜ r ≡ hopsIn e ⌝ }
+    ensures { λ r. ⌜ r < 64 ⌝ }
+{
+    (e / 4) as u32
+}
+
+fn mode_score(e: u8) -> u32
+    ensures { λ r. ⌜ r ≡ modeScore e ⌝ }
+    ensures { λ r. ⌜ r ≤ unclear ⌝ }
+{
+    pick(adaptive(e), 0, pick(deterministic(e), DETS, UNCLEAR))
+}
+
+fn leg_score(e: u8) -> u32
+    ensures { λ r. ⌜ r ≡ legScore e ⌝ }
+    ensures { λ r. ⌜ r < 2 * unclear ⌝ }
+{
+    hops(e) * LENGTH + mode_score(e)
+}
+
+pub fn first_score(e: u8) -> u32
+    ensures { λ r. ⌜ r ≡ firstScore e ⌝ }
+    ensures { λ r. ⌜ r ≤ 2 * unclear ⌝ }
+{
+    leg_score(e) + (1 - e % 2) as u32
+}
+
+fn via_score(v: u16, f: u8, g: u8) -> u32
+    ensures { λ r. ⌜ r ≡ viaScore v f g ⌝ }
+{
+    first_score(f) + (leg_score(g) + (VIAS + v as u32 * NODE))
+}
+
+// The lower of the number `least` and that of the via v. Most vias are longer, and no number is made of them.
+pub fn lower_by(least: u32, v: u16, f: u8, g: u8) -> u32
+    ensures { λ r. ⌜ r ≡ lower (viaScore v f g) least ⌝ }
+{
+    if least / LENGTH < hops(f) + hops(g) {
+        return least;
+    }
+    let score = via_score(v, f, g);
+    pick(score < least, score, least)
+}
+
+fn mode(adaptive: bool) -> Mode
+    ensures { λ r. ⌜ r ≡ modeOf adaptive ⌝ }
+{
+    if adaptive {
+        Mode::Adaptive
+    } else {
+        Mode::Deterministic
+    }
+}
+
+// The choice with this number.
+pub fn decode(n: u32) -> Outcome
+    ensures { λ r. ⌜ r ≡ decoded n ⌝ }
+{
+    if UNCLEAR <= n {
+        return Outcome::Refused(11);
+    }
+    let length = (n / LENGTH) as u8;
+    let dets = n % LENGTH / DETS;
+    let first = n % NODE;
+    if n % DETS / VIAS == 0 {
+        return Outcome::Direct(mode(first == 0), length);
+    }
+    Outcome::Via(
+        (n % VIAS / NODE) as u16,
+        mode(first == 0),
+        mode(dets == first),
+        length,
+    )
+}
