@@ -1,2 +1,4 @@
+pub mod Ranks
+pub mod Visits
 pub mod LastHop
 pub mod LastRun

@@ -1,1 +1,6 @@
 pub mod Entry
+pub mod Flags
+pub mod Order
+pub mod Places
+pub mod Around
+pub mod Judge

@@ -1,0 +1,19 @@
+use borrow.Author.Needs.{needs}
+use Rattle.tables.proofs.judge.deterministic_hop.Statement.{statement}
+use Rattle.tables.proofs.judge.deterministic_hop.Tie as tie
+use Rattle.tables.proofs.judge.deterministic_hop.Reads as reads
+use Rattle.tables.proofs.judge.deterministic_hop.Lts as lts
+use Rattle.logic.proofs.both.Reads as both-reads
+use Rattle.tables.proofs.entry.deterministic.Reads as deterministic-reads
+
+deterministic-requires : tie.Need-deterministic-requires
+deterministic-requires c κs = search needs
+
+both-requires : tie.Need-both-requires
+both-requires c κs = search needs
+
+returns : tie.Need-returns
+returns c = cc
+
+pub deterministic-hop-spec : {M : Type 1} → statement M
+deterministic-hop-spec = tie.close (tie.spec deterministic-requires both-requires returns)

@@ -1,0 +1,38 @@
+use Rattle.tables.specs.Judge.{judgedAdaptive}
+use borrow.Author.Needs.{needs}
+use Rattle.tables.proofs.judge.judge_adaptive.Statement.{statement}
+use Rattle.tables.proofs.judge.judge_adaptive.Tie as tie
+use Rattle.tables.proofs.judge.judge_adaptive.Reads as reads
+use Rattle.tables.proofs.judge.judge_adaptive.Lts as lts
+use Rattle.logic.proofs.both.Reads as both-reads
+use Rattle.tables.proofs.judge.adaptive_along.Reads as adaptive-along-reads
+
+adaptive-along-requires : tie.Need-adaptive-along-requires
+adaptive-along-requires c κs = search needs
+
+adaptive-along-requires-2 : tie.Need-adaptive-along-requires-2
+adaptive-along-requires-2 c κs = search needs
+
+adaptive-along-requires-3 : tie.Need-adaptive-along-requires-3
+adaptive-along-requires-3 c κs = search needs
+
+both-requires : tie.Need-both-requires
+both-requires c κs = search needs
+
+both-requires-2 : tie.Need-both-requires-2
+both-requires-2 c κs = search needs
+
+returns : tie.Need-returns
+unfolding judgedAdaptive
+returns c = cc
+
+pub judge-adaptive-spec : {M : Type 1} → statement M
+judge-adaptive-spec =
+    tie.close
+    (tie.spec
+    adaptive-along-requires
+    adaptive-along-requires-2
+    adaptive-along-requires-3
+    both-requires
+    both-requires-2
+    returns)

@@ -1,0 +1,15 @@
+use borrow.Author.Needs.{needs}
+use Rattle.tables.proofs.place.goes_plus.Statement.{statement}
+use Rattle.tables.proofs.place.goes_plus.Tie as tie
+use Rattle.tables.proofs.place.goes_plus.Reads as reads
+use Rattle.tables.proofs.place.goes_plus.Lts as lts
+use Rattle.machine.proofs.hop.first_at.Reads as first-at-reads
+
+first-at-requires : tie.Need-first-at-requires
+first-at-requires c κs = search needs
+
+returns : tie.Need-returns
+returns c = cc
+
+pub goes-plus-spec : {M : Type 1} → statement M
+goes-plus-spec = tie.close (tie.spec first-at-requires returns)

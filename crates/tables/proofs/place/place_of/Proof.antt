@@ -1,0 +1,81 @@
+use Rattle.tables.specs.Places.{placeOf}
+use borrow.Author.Needs.{needs}
+use Rattle.tables.proofs.place.place_of.Statement.{statement}
+use Rattle.tables.proofs.place.place_of.Tie as tie
+use Rattle.tables.proofs.place.place_of.Reads as reads
+use Rattle.tables.proofs.place.place_of.Lts as lts
+use Rattle.shape.proofs.axis.distance.Reads as distance-reads
+use Rattle.shape.proofs.axis.next_place.Reads as next-place-reads
+use Rattle.shape.proofs.axis.useful.Reads as useful-reads
+use Rattle.shape.proofs.shape.coord.Reads as coord-reads
+use Rattle.shape.proofs.shape.extent.Reads as extent-reads
+use Rattle.shape.proofs.shape.with_coord.Reads as with-coord-reads
+use Rattle.shape.proofs.shape.wrapped.Reads as wrapped-reads
+use Rattle.tables.proofs.place.added.Reads as added-reads
+use Rattle.tables.proofs.place.goes_plus.Reads as goes-plus-reads
+
+extent-requires : tie.Need-extent-requires
+extent-requires c κs = search needs
+
+wrapped-requires : tie.Need-wrapped-requires
+wrapped-requires c κs = search needs
+
+coord-requires : tie.Need-coord-requires
+coord-requires c κs = search needs
+
+with-coord-requires : tie.Need-with-coord-requires
+with-coord-requires c κs = search needs
+
+added-requires : tie.Need-added-requires
+added-requires c κs = search needs
+
+next-place-requires : tie.Need-next-place-requires
+next-place-requires c κs = search needs
+
+added-requires-2 : tie.Need-added-requires-2
+added-requires-2 c κs = search needs
+
+next-place-requires-2 : tie.Need-next-place-requires-2
+next-place-requires-2 c κs = search needs
+
+added-requires-3 : tie.Need-added-requires-3
+added-requires-3 c κs = search needs
+
+useful-requires : tie.Need-useful-requires
+useful-requires c κs = search needs
+
+useful-requires-2 : tie.Need-useful-requires-2
+useful-requires-2 c κs = search needs
+
+distance-requires : tie.Need-distance-requires
+distance-requires c κs = search needs
+
+goes-plus-requires : tie.Need-goes-plus-requires
+goes-plus-requires c κs = search needs
+
+goes-plus-requires-2 : tie.Need-goes-plus-requires-2
+goes-plus-requires-2 c κs = search needs
+
+returns : tie.Need-returns
+unfolding placeOf
+returns c = rw (c .goes-plus2 .ensures, c .before .goes-plus .ensures, c .before .before .distance .ensures, c .before .before .before .useful2 .ensures, c .before .before .before .before .useful .ensures, c .before .before .before .before .before .added3 .ensures, c .before .before .before .before .before .before .next-place2 .ensures, c .before .before .before .before .before .before .before .added2 .ensures, c .before .before .before .before .before .before .before .before .next-place .ensures, c .before .before .before .before .before .before .before .before .before .added .ensures, c .before .before .before .before .before .before .before .before .before .before .with-coord .ensures, c .before .before .before .before .before .before .before .before .before .before .before .coord .ensures, c .before .before .before .before .before .before .before .before .before .before .before .before .wrapped .ensures, c .before .before .before .before .before .before .before .before .before .before .before .before .before .extent .ensures)
+
+pub place-of-spec : {M : Type 1} → statement M
+place-of-spec =
+    tie.close
+    (tie.spec
+    extent-requires
+    wrapped-requires
+    coord-requires
+    with-coord-requires
+    added-requires
+    next-place-requires
+    added-requires-2
+    next-place-requires-2
+    added-requires-3
+    useful-requires
+    useful-requires-2
+    distance-requires
+    goes-plus-requires
+    goes-plus-requires-2
+    returns)

@@ -1,0 +1,63 @@
+// The order of visit from a centre. In a dimension the places going plus come first, then those going minus; a place's number in that order is its
+// rank. Nodes come in the order of the numbers that their ranks would have as coordinates.
+use shape::Coords;
+use shape::Shape;
+ghost use mathlib.Core.Path.{_≡_};
+ghost use Prim.Native.Nat.{_≤_, _<_};
+ghost use Rattle.shape.specs.Shape.{shapeError};
+ghost use Rattle.machine.specs.Number.{Inside};
+ghost use Rattle.tables.specs.Order.{plusSide, turned, placeAt, further};
+
+// How many places come going plus, the centre q included.
+pub fn plus_side(len: u8, ring: bool, q: u8) -> u8
+    requires { ⌜ (len ≤ 16) × (q < len) ⌝ }
+    ensures { λ r. ⌜ r ≡ plusSide len ring q ⌝ }
+    ensures { λ r. ⌜ r ≤ len ⌝ }
+{
+    if ring { (len + 1) / 2 } else { len - q }
+}
+
+// The hops going plus from the centre to the place with rank i.
+fn turned(len: u8, side: u8, i: u8) -> u8
+    requires { ⌜ (len ≤ 16) × (side ≤ len) × (i < len) ⌝ }
+    ensures { λ r. ⌜ r ≡ turned len side i ⌝ }
+    ensures { λ r. ⌜ r < len ⌝ }
+{
+    if i < side { i } else { len + side - 1 - i }
+}
+
+// The place with rank i.
+pub fn place_at(len: u8, side: u8, q: u8, i: u8) -> u8
+    requires { ⌜ (len ≤ 16) × (side ≤ len) × (q < len) × (i < len) ⌝ }
+    ensures { λ r. ⌜ r ≡ placeAt len side q i ⌝ }
+{
+    let p = q + turned(len, side, i);
+    if p < len { p } else { p - len }
+}
+
+// The ranks of the node that comes next.
+pub fn next(shape: Shape, ranks: Coords) -> Coords
+    requires { ⌜ shapeError shape ≡ 0 ⌝ }
+    requires { ⌜ Inside shape ranks ⌝ }
+    ensures { λ r. ⌜ r ≡ further shape ranks ⌝ }
+{
+    if ranks.x + 1 < shape.x {
+        return Coords {
+            x: ranks.x + 1,
+            y: ranks.y,
+            z: ranks.z,
+        };
+    }
+    if ranks.y + 1 < shape.y {
+        return Coords {
+            x: 0,
+            y: ranks.y + 1,
+            z: ranks.z,
+        };
+    }
+    Coords {
+        x: 0,
+        y: 0,
+        z: ranks.z + 1,
+    }
+}

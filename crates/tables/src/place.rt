@@ -1,0 +1,93 @@
+// The places of a dimension as seen from a centre, in the order of visit.
+use crate::order::place_at;
+use crate::order::plus_side;
+use machine::hop::first_at;
+use machine::hop::number_at;
+use shape::Coords;
+use shape::Dim;
+use shape::Shape;
+use shape::axis::distance;
+use shape::axis::next_place;
+use shape::axis::useful;
+use shape::shape::coord;
+use shape::shape::extent;
+use shape::shape::with_coord;
+use shape::shape::wrapped;
+ghost use mathlib.Core.Path.{_≡_};
+ghost use Prim.Native.Nat.{ℕ, _%_, _<_};
+ghost use lib.ListN.{getD};
+ghost use Rattle.shape.specs.Shape.{shapeError, extentOf};
+ghost use Rattle.machine.specs.Number.{Inside};
+ghost use Rattle.tables.specs.Places.{added, goesPlus, noPlace, placeOf, placeIn};
+
+// `here`, `up`, `down`: what the place, the one after it and the one before it add to a node number. `plus`, `minus`: whether that hop is useful
+// toward the centre. `hops`: the distance to the centre. `toplus`, `fromplus`: whether the deterministic leg to the centre, and from it, goes plus.
+pub struct Place {
+    pub here: u16,
+    pub up: u16,
+    pub down: u16,
+    pub plus: bool,
+    pub minus: bool,
+    pub hops: u8,
+    pub toplus: bool,
+    pub fromplus: bool,
+}
+
+fn added(shape: Shape, d: Dim, p: u8) -> u16
+    ensures { λ r. ⌜ r ≡ added shape d p % 65536 ⌝ }
+{
+    number_at(shape, with_coord(Coords { x: 0, y: 0, z: 0 }, d, p))
+}
+
+fn goes_plus(shape: Shape, at: Coords, to: Coords) -> bool
+    ensures { λ r. ⌜ r ≡ goesPlus shape at to ⌝ }
+{
+    first_at(shape, at, to) % 2 == 0
+}
+
+fn place_of(shape: Shape, centre: Coords, d: Dim, p: u8) -> Place
+    ensures { λ r. ⌜ r ≡ placeOf shape centre d p ⌝ }
+{
+    let len = extent(shape, d);
+    let ring = wrapped(shape, d);
+    let q = coord(centre, d);
+    let at = with_coord(centre, d, p);
+    Place {
+        here: added(shape, d, p),
+        up: added(shape, d, next_place(len, p, true)),
+        down: added(shape, d, next_place(len, p, false)),
+        plus: useful(len, ring, p, q, true),
+        minus: useful(len, ring, p, q, false),
+        hops: distance(len, ring, p, q),
+        toplus: goes_plus(shape, at, centre),
+        fromplus: goes_plus(shape, centre, at),
+    }
+}
+
+// The places of one dimension, by their ranks.
+pub fn places(shape: Shape, centre: Coords, d: Dim) -> [Place; 16]
+    requires { ⌜ shapeError shape ≡ 0 ⌝ }
+    requires { ⌜ Inside shape centre ⌝ }
+    ensures { λ r. ⌜ ((i : ℕ) → i < extentOf shape d → getD r i noPlace ≡ placeIn shape centre d i) ⌝ }
+{
+    let len = extent(shape, d);
+    let q = coord(centre, d);
+    let side = plus_side(len, wrapped(shape, d), q);
+    let mut places = [Place {
+        here: 0,
+        up: 0,
+        down: 0,
+        plus: false,
+        minus: false,
+        hops: 0,
+        toplus: false,
+        fromplus: false,
+    }; 16];
+    let mut i: u8 = 0;
+    while i < len {
+        let at = i as usize;
+        places[at] = place_of(shape, centre, d, place_at(len, side, q, i));
+        i = i + 1;
+    }
+    places
+}
