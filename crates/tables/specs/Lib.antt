@@ -4,3 +4,4 @@ pub mod Order
 pub mod Places
 pub mod Around
 pub mod Judge
+pub mod Last

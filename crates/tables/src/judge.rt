@@ -14,26 +14,26 @@ ghost use Rattle.tables.specs.Around.{Near, aroundIn};
 ghost use Rattle.tables.specs.Judge.{adaptiveHop, deterministicHop, adaptiveAlong, deterministicAlong, judgedAdaptive, judgedDeterministic, judged};
 
 // A hop that is useful has to be sound and to lead where the adaptive leg is clear.
-fn adaptive_hop(useful: bool, sound: bool, next: u8) -> bool
+pub fn adaptive_hop(useful: bool, sound: bool, next: u8) -> bool
     ensures { λ r. ⌜ r ≡ adaptiveHop useful sound next ⌝ }
 {
     pick_bool(useful, both(sound, adaptive(next)), true)
 }
 
-fn deterministic_hop(sound: bool, next: u8) -> bool
+pub fn deterministic_hop(sound: bool, next: u8) -> bool
     ensures { λ r. ⌜ r ≡ deterministicHop sound next ⌝ }
 {
     both(sound, deterministic(next))
 }
 
 // `links`: a node's mask from the dimension's plus direction on.
-fn plus_sound(links: u8) -> bool
+pub fn plus_sound(links: u8) -> bool
     ensures { λ r. ⌜ r ≡ eqb (links % 2) 0 ⌝ }
 {
     links % 2 == 0
 }
 
-fn minus_sound(links: u8) -> bool
+pub fn minus_sound(links: u8) -> bool
     ensures { λ r. ⌜ r ≡ eqb (links / 2 % 2) 0 ⌝ }
 {
     links / 2 % 2 == 0

@@ -2,5 +2,7 @@
 mod around;
 mod entry;
 mod judge;
+mod last;
 mod order;
 mod place;
+pub mod toward;

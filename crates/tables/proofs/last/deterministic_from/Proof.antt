@@ -1,0 +1,40 @@
+use Rattle.tables.specs.Last.{deterministicFrom}
+use borrow.Author.Needs.{needs}
+use Rattle.tables.proofs.last.deterministic_from.Statement.{statement}
+use Rattle.tables.proofs.last.deterministic_from.Tie as tie
+use Rattle.tables.proofs.last.deterministic_from.Reads as reads
+use Rattle.tables.proofs.last.deterministic_from.Lts as lts
+use Rattle.logic.proofs.pick_bool.Reads as pick-bool-reads
+use Rattle.tables.proofs.judge.deterministic_hop.Reads as deterministic-hop-reads
+use Rattle.tables.proofs.judge.minus_sound.Reads as minus-sound-reads
+use Rattle.tables.proofs.judge.plus_sound.Reads as plus-sound-reads
+
+plus-sound-requires : tie.Need-plus-sound-requires
+plus-sound-requires c κs = search needs
+
+deterministic-hop-requires : tie.Need-deterministic-hop-requires
+deterministic-hop-requires c κs = search needs
+
+minus-sound-requires : tie.Need-minus-sound-requires
+minus-sound-requires c κs = search needs
+
+deterministic-hop-requires-2 : tie.Need-deterministic-hop-requires-2
+deterministic-hop-requires-2 c κs = search needs
+
+pick-bool-requires : tie.Need-pick-bool-requires
+pick-bool-requires c κs = search needs
+
+returns : tie.Need-returns
+unfolding deterministicFrom
+returns c = cc
+
+pub deterministic-from-spec : {M : Type 1} → statement M
+deterministic-from-spec =
+    tie.close
+    (tie.spec
+    plus-sound-requires
+    deterministic-hop-requires
+    minus-sound-requires
+    deterministic-hop-requires-2
+    pick-bool-requires
+    returns)

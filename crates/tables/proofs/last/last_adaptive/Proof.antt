@@ -1,0 +1,38 @@
+use Rattle.tables.specs.Last.{lastAdaptive}
+use borrow.Author.Needs.{needs}
+use Rattle.tables.proofs.last.last_adaptive.Statement.{statement}
+use Rattle.tables.proofs.last.last_adaptive.Tie as tie
+use Rattle.tables.proofs.last.last_adaptive.Reads as reads
+use Rattle.tables.proofs.last.last_adaptive.Lts as lts
+use Rattle.logic.proofs.both.Reads as both-reads
+use Rattle.tables.proofs.last.adaptive_from.Reads as adaptive-from-reads
+
+adaptive-from-requires : tie.Need-adaptive-from-requires
+adaptive-from-requires c κs = search needs
+
+adaptive-from-requires-2 : tie.Need-adaptive-from-requires-2
+adaptive-from-requires-2 c κs = search needs
+
+adaptive-from-requires-3 : tie.Need-adaptive-from-requires-3
+adaptive-from-requires-3 c κs = search needs
+
+both-requires : tie.Need-both-requires
+both-requires c κs = search needs
+
+both-requires-2 : tie.Need-both-requires-2
+both-requires-2 c κs = search needs
+
+returns : tie.Need-returns
+unfolding lastAdaptive
+returns c = cc
+
+pub last-adaptive-spec : {M : Type 1} → statement M
+last-adaptive-spec =
+    tie.close
+    (tie.spec
+    adaptive-from-requires
+    adaptive-from-requires-2
+    adaptive-from-requires-3
+    both-requires
+    both-requires-2
+    returns)
