@@ -4,3 +4,4 @@ mod entry;
 mod judge;
 mod order;
 mod place;
+pub mod toward;
