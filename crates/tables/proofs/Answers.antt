@@ -1,8 +1,8 @@
--- The table toward a target, as it is answered: at a node its entry, and 0 elsewhere; and what a turn of its loop gives.
-use Prim.Native.Nat.{ℕ, _+_, _≤_, _<_}
+-- What a table answers: at a node its entry, and 0 elsewhere; and what a turn of its loop gives.
+use Prim.Native.Nat.{ℕ, _≤_, _<_}
 use mathlib.Core.Bool.{Bool, true, false, and-false}
 use mathlib.Core.List.{List}
-use mathlib.Core.Path.{_≡_, refl, sym, ap, _∙_}
+use mathlib.Core.Path.{_≡_, sym, _∙_}
 use lib.ListN.{getD, replicate}
 use lib.Dec.{eqb}
 use borrow.Author.Tests.{eq-eqb, lt-ltb, le-ltb}
@@ -18,13 +18,17 @@ use Rattle.machine.proofs.Numbers.{inside}
 use Rattle.machine.proofs.ByCoords.{neighbour-below}
 use Rattle.machine.proofs.Nodes.{Node}
 use Rattle.tables.specs.declared.place.Place.{Place}
-use Rattle.tables.specs.Entry.{soundBy, entry, towardAnswer}
+use Rattle.tables.specs.declared.fill.Legs.{Legs}
+use Rattle.tables.specs.declared.fill.Legs.the-variants.{Toward, Outward}
+use Rattle.tables.specs.Entry.{soundBy, entry, towardAnswer, outwardAnswer}
+use Rattle.tables.specs.Fill.{answerOf, valueIn}
 use Rattle.tables.specs.Around.{aroundIn}
 use Rattle.tables.specs.Judge.{judged}
 use Rattle.tables.proofs.Visits.{visit-before}
 use Rattle.tables.proofs.Neighbours.{dirOf, byteOf, number-here, byte-of}
 use Rattle.tables.proofs.Filling.{Visiting}
 use Rattle.tables.proofs.Judging.{judged-entry}
+use Rattle.tables.proofs.LastJudging.{judged-last}
 
 -- ---- what is answered of a node
 pub is-node : (s : Shape) (n : ℕ) → Node s n → isNode s n ≡ true
@@ -44,34 +48,53 @@ inside-of s n c k e = rw (coords-of s n c k e) (inside s (k .sound) n (k .below)
 pub count-of : (s : Shape) (r : ℕ) → shapeError s ≡ 0 → r ≡ countAnswer s → r ≡ nodeCount s
 count-of s r h e = e ∙ rw (eq-eqb (shapeError s) 0 h)
 
--- ---- the table toward a target
+-- ---- what a table answers
 module _ (s : Shape) (masks : List ℕ) (t : ℕ) where
   toward-node : (n : ℕ) → Node s n → Node s t → towardAnswer s masks t n ≡ entry s (soundBy masks) n t
   unfolding towardAnswer arePair
   toward-node n k l = rw (is-node s n k, is-node s t l)
 
-  pub toward-past : (n : ℕ) → nodeCount s ≤ n → towardAnswer s masks t n ≡ 0
-  unfolding towardAnswer arePair
-  toward-past n k = rw (past-node s n k)
+  outward-node : (n : ℕ) → Node s n → Node s t → outwardAnswer s masks t n ≡ entry s (soundBy masks) t n
+  unfolding outwardAnswer arePair
+  outward-node n k l = rw (is-node s n k, is-node s t l)
 
-  pub toward-none : isNode s t ≡ false → (n : ℕ) → getD (replicate 4096 0) n 0 ≡ towardAnswer s masks t n
-  unfolding towardAnswer arePair
-  toward-none e n = getD-same 0 4096 n ∙ rw (e, and-false (isNode s n))
+  pub past : (legs : Legs) (n : ℕ) → nodeCount s ≤ n → answerOf legs s masks t n ≡ 0
+  unfolding answerOf towardAnswer outwardAnswer arePair
+  past Toward n k = rw (past-node s n k)
+  past Outward n k = rw (past-node s n k, and-false (isNode s t))
 
-  -- The value of the node that is visited, as it is judged.
-  pub toward-value : Node s t → (table : List ℕ) (n : ℕ) (x y z : Place) → Visiting s t (towardAnswer s masks t) table n x y z → (v : ℕ) → v ≡ judged x y z (getD masks (x .here + y .here + z .here) 0) (aroundIn x y z table) → v ≡ towardAnswer s masks t n
-  toward-value k table n x y z w v e =
-      let h = k .sound in
-      let ht = k .below in
-      let hn = w .below in
-      e
-      ∙ rw (number-here s h t n ht hn x y z (w .in-x) (w .in-y) (w .in-z)) (judged-entry s h masks t ht n hn (aroundIn x y z table) ahead x y z (w .in-x) (w .in-y) (w .in-z))
-      ∙ sym (toward-node n (record { sound = h; below = hn }) k)
-    where
-      ahead : (d : Dim) (plus : Bool) → useful s n t (dirOf d plus) ≡ true → byteOf (aroundIn x y z table) d plus ≡ entry s (soundBy masks) (neighbour s n (dirOf d plus)) t
-      ahead d plus u =
-          let dir = dirOf d plus in
-          let next = neighbour-below s (k .sound) n (w .below) dir in
-          byte-of s (k .sound) t n (k .below) (w .below) x y z (w .in-x) (w .in-y) (w .in-z) table d plus
-          ∙ w .earlier _ next (visit-before s (k .sound) t (k .below) n (w .below) dir u)
-          ∙ toward-node _ (record { sound = k .sound; below = next }) k
+  pub none : (legs : Legs) → isNode s t ≡ false → (n : ℕ) → getD (replicate 4096 0) n 0 ≡ answerOf legs s masks t n
+  unfolding answerOf towardAnswer outwardAnswer arePair
+  none Toward e n = getD-same 0 4096 n ∙ rw (e, and-false (isNode s n))
+  none Outward e n = getD-same 0 4096 n ∙ rw e
+
+  module _ (k : Node s t) (table : List ℕ) (n : ℕ) (x y z : Place) where
+    -- A neighbour's byte of the table, where a hop toward the centre is useful.
+    nearer : (F : ℕ → ℕ) → Visiting s t F table n x y z → (d : Dim) (plus : Bool) → useful s n t (dirOf d plus) ≡ true → byteOf (aroundIn x y z table) d plus ≡ F (neighbour s n (dirOf d plus))
+    nearer F w d plus u =
+        let dir = dirOf d plus in
+        byte-of s (k .sound) t n (k .below) (w .below) x y z (w .in-x) (w .in-y) (w .in-z) table d plus
+        ∙ w .earlier _ (neighbour-below s (k .sound) n (w .below) dir) (visit-before s (k .sound) t (k .below) n (w .below) dir u)
+
+    next-node : n < nodeCount s → (dir : ℕ) → Node s (neighbour s n dir)
+    next-node hn dir = record { sound = k .sound; below = neighbour-below s (k .sound) n hn dir }
+
+    -- The value of the node that is visited, as it is judged.
+    pub value-is : (legs : Legs) → Visiting s t (answerOf legs s masks t) table n x y z → (v : ℕ) → v ≡ valueIn legs x y z masks table → v ≡ answerOf legs s masks t n
+    unfolding valueIn answerOf
+    value-is Toward w v e =
+        let h = k .sound in
+        e
+        ∙ rw (number-here s h t n (k .below) (w .below) x y z (w .in-x) (w .in-y) (w .in-z))
+        (judged-entry s h masks t (k .below) n (w .below) (aroundIn x y z table)
+        (λ d plus u. nearer (towardAnswer s masks t) w d plus u ∙ toward-node _ (next-node (w .below) (dirOf d plus)) k)
+        x y z (w .in-x) (w .in-y) (w .in-z))
+        ∙ sym (toward-node n (record { sound = h; below = w .below }) k)
+    value-is Outward w v e =
+        let h = k .sound in
+        e
+        ∙ judged-last s h masks t (k .below) n (w .below) (aroundIn x y z masks) (aroundIn x y z table)
+        (λ d plus. byte-of s h t n (k .below) (w .below) x y z (w .in-x) (w .in-y) (w .in-z) masks d plus)
+        (λ d plus u. nearer (outwardAnswer s masks t) w d plus u ∙ outward-node _ (next-node (w .below) (dirOf d plus)) k)
+        x y z (w .in-x) (w .in-y) (w .in-z)
+        ∙ sym (outward-node n (record { sound = h; below = w .below }) k)

@@ -1,13 +1,13 @@
 -- A node judged from those one hop nearer to the target has its entry.
-use Prim.Native.Nat.{ℕ, zero, suc, _+_, _*_, _/_, _%_, _≤_, _<_}
-use mathlib.Core.Bool.{Bool, true, false, cond, not, _&&_}
+use Prim.Native.Nat.{ℕ, zero, suc, _+_, _/_, _%_, _<_}
+use mathlib.Core.Bool.{Bool, true, false, cond, _&&_}
 use mathlib.Core.List.{List}
 use mathlib.Core.Path.{_≡_, refl, sym, ap, _∙_}
 use native.Mathlib.Omega.{arith}
 use lib.ListN.{getD}
 use lib.Dec.{leb, eqb}
 use borrow.Author.Tests.{eq-eqb, eqb-false}
-use Rattle.theory.specs.Clear.{clear, every}
+use Rattle.theory.specs.Clear.{every}
 use Rattle.theory.proofs.Bools.{eqb-same}
 use Rattle.theory.proofs.Cases.{test}
 use Rattle.theory.proofs.Clear.{clear-ahead}
@@ -17,7 +17,6 @@ use Rattle.shape.specs.declared.shape.Dim.{Dim}
 use Rattle.shape.specs.declared.shape.Dim.the-variants.{X, Y, Z}
 use Rattle.shape.specs.Shape.{shapeError, extentOf, wrappedIn, coordOf, put}
 use Rattle.shape.proofs.AxisLaws.{axis-zero, axis-self}
-use Rattle.machine.specs.declared.leg.Mode.{Mode}
 use Rattle.machine.specs.declared.leg.Mode.the-variants.{Adaptive, Deterministic}
 use Rattle.machine.specs.Number.{nodeCount, coordsOf}
 use Rattle.machine.specs.Hop.{dirPlus, plusDir, minusDir, along, same, part, distance, neighbour, useful, firstDirection}
@@ -41,18 +40,18 @@ and-right : (b : Bool) → (b && true) ≡ b
 and-right true = refl
 and-right false = refl
 
-shuffle : (a b c d e f : Bool) → ((a && b) && ((c && d) && (e && f))) ≡ (a && (b && (c && (d && (e && (f && true))))))
+pub shuffle : (a b c d e f : Bool) → ((a && b) && ((c && d) && (e && f))) ≡ (a && (b && (c && (d && (e && (f && true))))))
 shuffle false b c d e f = refl
 shuffle true false c d e f = refl
 shuffle true true false d e f = refl
 shuffle true true true false e f = refl
 shuffle true true true true e f = ap (λ g. e && g) (sym (and-right f))
 
-under : (b x y : Bool) → (b ≡ true → x ≡ y) → cond b x true ≡ cond b y true
+pub under : (b x y : Bool) → (b ≡ true → x ≡ y) → cond b x true ≡ cond b y true
 under true x y h = h refl
 under false x y h = refl
 
-every-six : (G : ℕ → Bool) → every 6 G ≡ (G 5 && (G 4 && (G 3 && (G 2 && (G 1 && (G 0 && true))))))
+pub every-six : (G : ℕ → Bool) → every 6 G ≡ (G 5 && (G 4 && (G 3 && (G 2 && (G 1 && (G 0 && true))))))
 unfolding every
 every-six G = refl
 
@@ -72,12 +71,12 @@ unfolding every
 every-none G = refl
 
 -- ---- the bits of a mask from a dimension's plus direction on
-abbrev linksOf : ℕ → Dim → ℕ
+abbrev pub linksOf : ℕ → Dim → ℕ
 linksOf mask X = mask
 linksOf mask Y = mask / 4
 linksOf mask Z = mask / 16
 
-plus-bit : (mask : ℕ) (d : Dim) → eqb (linksOf mask d % 2) 0 ≡ soundBit mask (plusDir d)
+pub plus-bit : (mask : ℕ) (d : Dim) → eqb (linksOf mask d % 2) 0 ≡ soundBit mask (plusDir d)
 unfolding soundBit
 plus-bit mask X = ap (λ k. eqb (k % 2) 0) (one mask)
   where
@@ -86,7 +85,7 @@ plus-bit mask X = ap (λ k. eqb (k % 2) 0) (one mask)
 plus-bit mask Y = refl
 plus-bit mask Z = refl
 
-minus-bit : (mask : ℕ) (d : Dim) → eqb (linksOf mask d / 2 % 2) 0 ≡ soundBit mask (minusDir d)
+pub minus-bit : (mask : ℕ) (d : Dim) → eqb (linksOf mask d / 2 % 2) 0 ≡ soundBit mask (minusDir d)
 unfolding soundBit
 minus-bit mask X = refl
 minus-bit mask Y = ap (λ k. eqb (k % 2) 0) (eight mask)
@@ -139,29 +138,29 @@ module _ (s : Shape) (c t : Coords) where
   first-none e f g = rw (e, f, g)
 
 module _ (s : Shape) (h : shapeError s ≡ 0) (masks : List ℕ) (t : ℕ) (ht : t < nodeCount s) (n : ℕ) (hn : n < nodeCount s) where
-  abbrev snd : ℕ → ℕ → Bool
+  abbrev pub snd : ℕ → ℕ → Bool
   snd = soundBy masks
 
   abbrev mask : ℕ
   mask = getD masks n 0
 
-  abbrev seen : Dim → Place
+  abbrev pub seen : Dim → Place
   seen d = placeOf s (coordsOf s t) d (along s n d)
 
   -- ---- what the place of a dimension says
-  plus-is : (d : Dim) → seen d .plus ≡ useful s n t (plusDir d)
+  pub plus-is : (d : Dim) → seen d .plus ≡ useful s n t (plusDir d)
   unfolding placeOf
   plus-is d = sym (plus-of s h n hn t d)
 
-  minus-is : (d : Dim) → seen d .minus ≡ useful s n t (minusDir d)
+  pub minus-is : (d : Dim) → seen d .minus ≡ useful s n t (minusDir d)
   unfolding placeOf
   minus-is d = sym (minus-of s h n hn t d)
 
-  hops-are : distance s n t ≡ seen X .hops + seen Y .hops + seen Z .hops
+  pub hops-are : distance s n t ≡ seen X .hops + seen Y .hops + seen Z .hops
   unfolding placeOf distance
   hops-are = refl
 
-  none-is : (d : Dim) → eqb (seen d .hops) 0 ≡ same s n t d
+  pub none-is : (d : Dim) → eqb (seen d .hops) 0 ≡ same s n t d
   unfolding placeOf
   none-is d =
       eqb-same (part s n t d) 0 (along s n d) (along s t d)

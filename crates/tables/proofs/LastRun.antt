@@ -26,11 +26,8 @@ use Rattle.machine.proofs.Numbers.{inside}
 use Rattle.machine.proofs.ByCoords.{inside-at, neighbour-below, neighbour-coords, plus-of, minus-of, first-at}
 use Rattle.machine.proofs.Laws.{useful-lowers, useful-link, distance-self, distance-zero, same-node, first-useful, low, neighbour-back}
 use Rattle.tables.specs.Entry.{clearFrom}
+use Rattle.tables.proofs.Neighbours.{dirOf}
 use Rattle.tables.proofs.LastHop.{clear-hop, clear-from, self-clear}
-
--- The direction along a dimension.
-abbrev pub dirOf : Dim → Bool → ℕ
-dirOf d plus = cond plus (plusDir d) (minusDir d)
 
 same-place : (c t : Coords) → c .x ≡ t .x → c .y ≡ t .y → c .z ≡ t .z → c ≡ t
 same-place c t e f g = λ i. record { x = e i; y = f i; z = g i }
@@ -65,7 +62,7 @@ module _ (s : Shape) where
   pick-way true false a b = refl
   pick-way false m a b = refl
 
-  toward-dir : (c t : Coords) (d : Dim) → towardAt s c t d ≡ dirOf d (usefulAlong s c t d true)
+  pub toward-dir : (c t : Coords) (d : Dim) → towardAt s c t d ≡ dirOf d (usefulAlong s c t d true)
   toward-dir c t d = pick-way (usefulAlong s c t d true) (usefulAlong s c t d false) (plusDir d) (minusDir d)
 
   first-x : (c t : Coords) → (c .x ≡ t .x → ⊥) → firstAt s c t ≡ dirOf X (usefulAlong s c t X true)
@@ -239,14 +236,14 @@ module _ (s : Shape) (h : shapeError s ≡ 0) (sound : ℕ → ℕ → Bool) whe
     abbrev pub way : Bool
     way = usefulAlong s (coordsOf s u) (coordsOf s v) d true
 
-    way-useful : (b : Bool) → usefulAlong s (coordsOf s u) (coordsOf s v) d true ≡ b → usefulAlong s (coordsOf s u) (coordsOf s v) d b ≡ true
+    pub way-useful : (b : Bool) → usefulAlong s (coordsOf s u) (coordsOf s v) d true ≡ b → usefulAlong s (coordsOf s u) (coordsOf s v) d b ≡ true
     way-useful true e = e
     way-useful false e =
         ⊎-elim (λ t. absurd (false≢true (sym e ∙ t))) (λ t. t)
         (axis-some (extentOf s d) (wrappedIn s d) (coordOf (coordsOf s u) d) (coordOf (coordsOf s v) d) (inside-at s _ (inside s h u hu) d) (inside-at s _ (inside s h v hv) d) ne)
 
     -- Seen from v the hop back is useful to u.
-    back-useful : (b : Bool) → usefulAlong s (coordsOf s u) (coordsOf s v) d b ≡ true → useful s v u (dirOf d (not b)) ≡ true
+    pub back-useful : (b : Bool) → usefulAlong s (coordsOf s u) (coordsOf s v) d b ≡ true → useful s v u (dirOf d (not b)) ≡ true
     back-useful true t =
         minus-of s h v hv u d ∙ mirror (extentOf s d) (wrappedIn s d) (coordOf (coordsOf s u) d) (coordOf (coordsOf s v) d) true (inside-at s _ (inside s h u hu) d) (inside-at s _ (inside s h v hv) d) ∙ t
     back-useful false t =

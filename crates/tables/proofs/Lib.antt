@@ -4,6 +4,7 @@ pub mod Entries
 pub mod Neighbours
 pub mod Filling
 pub mod Judging
-pub mod Answers
 pub mod LastHop
 pub mod LastRun
+pub mod LastJudging
+pub mod Answers

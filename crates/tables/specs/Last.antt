@@ -9,7 +9,7 @@ use Rattle.tables.specs.Judge.{adaptiveHop, deterministicHop}
 
 -- above, below: the masks of the places after and before, from the dimension's plus direction on.
 unfoldable pub adaptiveFrom : Place → ℕ → ℕ → ℕ → ℕ → Bool
-adaptiveFrom p above below up down = adaptiveHop (p .plus) (eqb (above / 2 % 2) 0) up && adaptiveHop (p .minus) (eqb (below % 2) 0) down
+adaptiveFrom p above below up down = adaptiveHop (p .minus) (eqb (below % 2) 0) down && adaptiveHop (p .plus) (eqb (above / 2 % 2) 0) up
 
 unfoldable pub deterministicFrom : Place → ℕ → ℕ → ℕ → ℕ → Bool
 deterministicFrom p above below up down = cond (p .fromplus) (deterministicHop (eqb (below % 2) 0) down) (deterministicHop (eqb (above / 2 % 2) 0) up)

@@ -5,3 +5,4 @@ pub mod Places
 pub mod Around
 pub mod Judge
 pub mod Last
+pub mod Fill

@@ -20,7 +20,7 @@ fn adaptive_from(p: Place, above: u8, below: u8, up: u8, down: u8) -> bool
 {
     let plus = adaptive_hop(p.minus, plus_sound(below), down);
     let minus = adaptive_hop(p.plus, minus_sound(above), up);
-    both(minus, plus)
+    both(plus, minus)
 }
 
 fn deterministic_from(p: Place, above: u8, below: u8, up: u8, down: u8) -> bool

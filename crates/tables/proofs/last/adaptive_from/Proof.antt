@@ -2,12 +2,6 @@ use Rattle.tables.specs.Last.{adaptiveFrom}
 use borrow.Author.Needs.{needs}
 use Rattle.tables.proofs.last.adaptive_from.Statement.{statement}
 use Rattle.tables.proofs.last.adaptive_from.Tie as tie
-use Rattle.tables.proofs.last.adaptive_from.Reads as reads
-use Rattle.tables.proofs.last.adaptive_from.Lts as lts
-use Rattle.logic.proofs.both.Reads as both-reads
-use Rattle.tables.proofs.judge.adaptive_hop.Reads as adaptive-hop-reads
-use Rattle.tables.proofs.judge.minus_sound.Reads as minus-sound-reads
-use Rattle.tables.proofs.judge.plus_sound.Reads as plus-sound-reads
 
 plus-sound-requires : tie.Need-plus-sound-requires
 plus-sound-requires c κs = search needs

@@ -2,12 +2,6 @@ use Rattle.tables.specs.Last.{judgedLast}
 use borrow.Author.Needs.{needs}
 use Rattle.tables.proofs.last.judge_last.Statement.{statement}
 use Rattle.tables.proofs.last.judge_last.Tie as tie
-use Rattle.tables.proofs.last.judge_last.Reads as reads
-use Rattle.tables.proofs.last.judge_last.Lts as lts
-use Rattle.tables.proofs.around.look_around.Reads as look-around-reads
-use Rattle.tables.proofs.entry.pack.Reads as pack-reads
-use Rattle.tables.proofs.last.last_adaptive.Reads as last-adaptive-reads
-use Rattle.tables.proofs.last.last_deterministic.Reads as last-deterministic-reads
 
 look-around-requires : tie.Need-look-around-requires
 look-around-requires c κs = search needs

@@ -2,10 +2,6 @@ use Rattle.tables.specs.Last.{lastAdaptive}
 use borrow.Author.Needs.{needs}
 use Rattle.tables.proofs.last.last_adaptive.Statement.{statement}
 use Rattle.tables.proofs.last.last_adaptive.Tie as tie
-use Rattle.tables.proofs.last.last_adaptive.Reads as reads
-use Rattle.tables.proofs.last.last_adaptive.Lts as lts
-use Rattle.logic.proofs.both.Reads as both-reads
-use Rattle.tables.proofs.last.adaptive_from.Reads as adaptive-from-reads
 
 adaptive-from-requires : tie.Need-adaptive-from-requires
 adaptive-from-requires c κs = search needs

@@ -3,9 +3,6 @@ use borrow.Author.Tests.{eq-eqb, ne-eqb}
 use borrow.Author.Needs.{needs}
 use Rattle.tables.proofs.last.last_deterministic.Statement.{statement}
 use Rattle.tables.proofs.last.last_deterministic.Tie as tie
-use Rattle.tables.proofs.last.last_deterministic.Reads as reads
-use Rattle.tables.proofs.last.last_deterministic.Lts as lts
-use Rattle.tables.proofs.last.deterministic_from.Reads as deterministic-from-reads
 
 deterministic-from-requires : tie.Need-deterministic-from-requires
 deterministic-from-requires c κs = search needs

@@ -1,12 +1,10 @@
-use Rattle.tables.proofs.Answers.{toward-none}
 use mathlib.Core.Path.{sym, _∙_}
+use Rattle.tables.specs.declared.fill.Legs.the-variants.{Toward}
+use Rattle.tables.specs.Fill.{answerOf}
+use Rattle.tables.proofs.Answers.{none}
 use borrow.Author.Needs.{needs}
 use Rattle.tables.proofs.toward.toward.Statement.{statement}
 use Rattle.tables.proofs.toward.toward.Tie as tie
-use Rattle.tables.proofs.toward.toward.Reads as reads
-use Rattle.tables.proofs.toward.toward.Lts as lts
-use Rattle.machine.proofs.node.is_node.Reads as is-node-reads
-use Rattle.tables.proofs.toward.fill.Reads as fill-reads
 
 is-node-requires : tie.Need-is-node-requires
 is-node-requires c κs = search needs
@@ -15,10 +13,12 @@ fill-requires : tie.Need-fill-requires
 fill-requires c κs = sym (c .before .is-node .ensures) ∙ c .if1 .taken
 
 returns : tie.Need-returns
-returns c = search needs
+unfolding answerOf
+returns c = c .fill .ensures
 
 returns-2 : tie.Need-returns-2
-returns-2 c = toward-none _ _ _ (sym (c .before .is-node .ensures) ∙ c .if1 .left)
+unfolding answerOf
+returns-2 c = none _ _ _ Toward (sym (c .before .is-node .ensures) ∙ c .if1 .left)
 
 pub toward-spec : {M : Type 1} → statement M
 toward-spec = tie.close (tie.spec is-node-requires fill-requires returns returns-2)

@@ -1,26 +1,19 @@
-use Rattle.tables.proofs.Answers.{coords-of, inside-of, count-of, toward-past, toward-value}
+use Rattle.tables.proofs.Answers.{coords-of, inside-of, count-of, past, value-is}
 use Rattle.tables.proofs.Filling.{Known, Filling, begin, ended, turn, visiting, again}
-use Rattle.tables.specs.Entry.{towardAnswer}
+use Rattle.tables.specs.Fill.{answerOf}
 use Rattle.machine.proofs.Nodes.{node-of}
 use Prim.Native.Nat.{_-_}
 use mathlib.Core.Path.{refl, _∙_}
 use native.Mathlib.Omega.{arith}
 use borrow.Author.Needs.{needs}
-use Rattle.tables.proofs.toward.fill.Statement.{statement}
-use Rattle.tables.proofs.toward.fill.Tie as tie
-use Rattle.tables.proofs.toward.fill.Reads as reads
-use Rattle.tables.proofs.toward.fill.Lts as lts
-use Rattle.machine.proofs.node.coords.Reads as coords-reads
-use Rattle.machine.proofs.node.count.Reads as count-reads
-use Rattle.tables.proofs.judge.judge.Reads as judge-reads
-use Rattle.tables.proofs.order.next.Reads as next-reads
-use Rattle.tables.proofs.place.places.Reads as places-reads
+use Rattle.tables.proofs.fill.fill.Statement.{statement}
+use Rattle.tables.proofs.fill.fill.Tie as tie
 
 abbrev Inv-loop : tie.InvT-loop
-Inv-loop shape masks target xs ys zs all table₀ ranks₀ m₀ table ranks m = Known shape target xs ys zs all × Filling shape target (towardAnswer shape masks target) table ranks m
+Inv-loop legs shape masks node xs ys zs all table₀ ranks₀ m₀ table ranks m = Known shape node xs ys zs all × Filling shape node (answerOf legs shape masks node) table ranks m
 
 abbrev μ-loop : tie.MeasureT-loop
-μ-loop shape masks target xs ys zs all table₀ ranks₀ m₀ table ranks m = all - m
+μ-loop legs shape masks node xs ys zs all table₀ ranks₀ m₀ table ranks m = all - m
 
 coords-requires : tie.Need-coords-requires Inv-loop μ-loop
 coords-requires c κs = search needs
@@ -96,35 +89,32 @@ add-n-2 c = let w = turn _ _ _ _ _ _ _ _ _ _ (c .before .before .before .before 
 cast-n : tie.Need-cast-n Inv-loop μ-loop
 cast-n c = let w = turn _ _ _ _ _ _ _ _ _ _ (c .before .before .before .before .before .before .before .before .before .before .loop .inv) (c .before .before .before .before .before .before .before .before .before .loop-test .taken) in omega (arith, w .close .here)
 
-element-copy-out-judge : tie.Need-element-copy-out-judge Inv-loop μ-loop
-element-copy-out-judge c = turn _ _ _ _ _ _ _ _ _ _ (c .before .before .before .before .before .before .before .before .before .before .loop .inv) (c .before .before .before .before .before .before .before .before .before .loop-test .taken) .close .here
-
-judge-requires : tie.Need-judge-requires Inv-loop μ-loop
-judge-requires c κs = turn _ _ _ _ _ _ _ _ _ _ (c .before .before .before .before .before .before .before .before .before .before .before .before .loop .inv) (c .before .before .before .before .before .before .before .before .before .before .before .loop-test .taken) .close
+value-requires : tie.Need-value-requires Inv-loop μ-loop
+value-requires c κs = turn _ _ _ _ _ _ _ _ _ _ (c .before .before .before .before .before .before .before .before .before .before .before .loop .inv) (c .before .before .before .before .before .before .before .before .before .before .loop-test .taken) .close
 
 array-write-table : tie.Need-array-write-table Inv-loop μ-loop
-array-write-table c = turn _ _ _ _ _ _ _ _ _ _ (c .before .before .before .before .before .before .before .before .before .before .before .before .before .loop .inv) (c .before .before .before .before .before .before .before .before .before .before .before .before .loop-test .taken) .close .here
+array-write-table c = turn _ _ _ _ _ _ _ _ _ _ (c .before .before .before .before .before .before .before .before .before .before .before .before .loop .inv) (c .before .before .before .before .before .before .before .before .before .before .before .loop-test .taken) .close .here
 
 next-requires : tie.Need-next-requires Inv-loop μ-loop
-next-requires c κs = let w = turn _ _ _ _ _ _ _ _ _ _ (c .before .before .before .before .before .before .before .before .before .before .before .before .before .loop .inv) (c .before .before .before .before .before .before .before .before .before .before .before .before .loop-test .taken) in (w .ok, w .inner)
+next-requires c κs = let w = turn _ _ _ _ _ _ _ _ _ _ (c .before .before .before .before .before .before .before .before .before .before .before .before .loop .inv) (c .before .before .before .before .before .before .before .before .before .before .before .loop-test .taken) in (w .ok, w .inner)
 
 add-m : tie.Need-add-m Inv-loop μ-loop
-add-m c = let q = c .before .before .before .before .before .before .before .before .before .before .before .before .before .before .loop .inv .0 .count in omega arith
+add-m c = let q = c .before .before .before .before .before .before .before .before .before .before .before .before .before .loop .inv .0 .count in omega arith
 
 loop-less : tie.Need-loop-less Inv-loop μ-loop
 loop-less c = omega arith
 
 loop-again : tie.Need-loop-again Inv-loop μ-loop
 loop-again c =
-    let i = c .before .before .before .before .before .before .before .before .before .before .before .before .before .before .loop .inv in
-    let l = c .before .before .before .before .before .before .before .before .before .before .before .before .before .loop-test .taken in
+    let i = c .before .before .before .before .before .before .before .before .before .before .before .before .before .loop .inv in
+    let l = c .before .before .before .before .before .before .before .before .before .before .before .before .loop-test .taken in
     let v = visiting _ _ _ _ _ _ _ _ _ _ i l _ _ _ refl refl refl in
-    again _ _ _ _ _ _ _ _ _ _ i l _ _ _ refl refl refl _ (toward-value _ _ _ (i .0 .node) _ _ _ _ _ v _ (c .before .judge .ensures)) _ (c .next .ensures)
+    again _ _ _ _ _ _ _ _ _ _ i l _ _ _ refl refl refl _ (value-is _ _ _ (i .0 .node) _ _ _ _ _ _ v _ (c .before .value .ensures)) _ (c .next .ensures)
 
 returns : tie.Need-returns Inv-loop μ-loop
 returns c =
     let i = c .before .loop .inv in
-    ended _ _ _ (i .0 .node) _ _ _ (i .1) (omega (arith, i .0 .count, c .loop-test .left)) (toward-past _ _ _)
+    ended _ _ _ (i .0 .node) _ _ _ (i .1) (omega (arith, i .0 .count, c .loop-test .left)) (past _ _ _ _)
 
 pub fill-spec : {M : Type 1} → statement M
 fill-spec =
@@ -151,8 +141,7 @@ fill-spec =
     add-n
     add-n-2
     cast-n
-    element-copy-out-judge
-    judge-requires
+    value-requires
     array-write-table
     next-requires
     add-m

@@ -1,0 +1,24 @@
+use mathlib.Core.Path.{sym, _∙_}
+use Rattle.tables.specs.declared.fill.Legs.the-variants.{Outward}
+use Rattle.tables.specs.Fill.{answerOf}
+use Rattle.tables.proofs.Answers.{none}
+use borrow.Author.Needs.{needs}
+use Rattle.tables.proofs.outward.outward.Statement.{statement}
+use Rattle.tables.proofs.outward.outward.Tie as tie
+
+is-node-requires : tie.Need-is-node-requires
+is-node-requires c κs = search needs
+
+fill-requires : tie.Need-fill-requires
+fill-requires c κs = sym (c .before .is-node .ensures) ∙ c .if1 .taken
+
+returns : tie.Need-returns
+unfolding answerOf
+returns c = c .fill .ensures
+
+returns-2 : tie.Need-returns-2
+unfolding answerOf
+returns-2 c = none _ _ _ Outward (sym (c .before .is-node .ensures) ∙ c .if1 .left)
+
+pub outward-spec : {M : Type 1} → statement M
+outward-spec = tie.close (tie.spec is-node-requires fill-requires returns returns-2)
