@@ -14,7 +14,7 @@ use Rattle.shape.specs.declared.shape.Coords.{Coords}
 use Rattle.shape.specs.declared.shape.Dim.the-variants.{X, Y, Z}
 use Rattle.shape.specs.Shape.{shapeError}
 use Rattle.shape.proofs.Shapes.{sound}
-use Rattle.machine.specs.Number.{nodeCount, numberOf, coordsOf, Inside}
+use Rattle.machine.specs.Number.{nodeCount, coordsOf, Inside}
 use Rattle.machine.specs.Hop.{along}
 use Rattle.machine.proofs.Numbers.{coords-number, inside}
 use Rattle.machine.proofs.Nodes.{Node}

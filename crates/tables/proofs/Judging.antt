@@ -1,13 +1,13 @@
 -- A node judged from those one hop nearer to the target has its entry.
-use Prim.Native.Nat.{ℕ, zero, suc, _+_, _*_, _/_, _%_, _≤_, _<_}
-use mathlib.Core.Bool.{Bool, true, false, cond, not, _&&_}
+use Prim.Native.Nat.{ℕ, zero, suc, _+_, _/_, _%_, _<_}
+use mathlib.Core.Bool.{Bool, true, false, cond, _&&_}
 use mathlib.Core.List.{List}
 use mathlib.Core.Path.{_≡_, refl, sym, ap, _∙_}
 use native.Mathlib.Omega.{arith}
 use lib.ListN.{getD}
 use lib.Dec.{leb, eqb}
 use borrow.Author.Tests.{eq-eqb, eqb-false}
-use Rattle.theory.specs.Clear.{clear, every}
+use Rattle.theory.specs.Clear.{every}
 use Rattle.theory.proofs.Bools.{eqb-same}
 use Rattle.theory.proofs.Cases.{test}
 use Rattle.theory.proofs.Clear.{clear-ahead}
@@ -17,7 +17,6 @@ use Rattle.shape.specs.declared.shape.Dim.{Dim}
 use Rattle.shape.specs.declared.shape.Dim.the-variants.{X, Y, Z}
 use Rattle.shape.specs.Shape.{shapeError, extentOf, wrappedIn, coordOf, put}
 use Rattle.shape.proofs.AxisLaws.{axis-zero, axis-self}
-use Rattle.machine.specs.declared.leg.Mode.{Mode}
 use Rattle.machine.specs.declared.leg.Mode.the-variants.{Adaptive, Deterministic}
 use Rattle.machine.specs.Number.{nodeCount, coordsOf}
 use Rattle.machine.specs.Hop.{dirPlus, plusDir, minusDir, along, same, part, distance, neighbour, useful, firstDirection}
@@ -223,9 +222,6 @@ module _ (s : Shape) (h : shapeError s ≡ 0) (masks : List ℕ) (t : ℕ) (ht :
         (λ b. rw b (one true (f-is ∙ rw b)))
         (λ b. rw b (one false (f-is ∙ rw b))))
       where
-        f : ℕ
-        f = firstDirection s n t
-
         f-is : firstDirection s n t ≡ dirOf d (goesPlus s (put (coordsOf s t) d (along s n d)) (coordsOf s t))
         f-is = q ∙ toward-is s (coordsOf s n) (coordsOf s t) d differ
 

@@ -2,16 +2,14 @@
 use Prim.Native.Nat.{ℕ, _+_, _*_, _%_, _≤_, _<_}
 use mathlib.Core.Bool.{Bool, true, false, cond}
 use mathlib.Core.List.{List}
-use mathlib.Core.Path.{_≡_, refl, sym, ap, _∙_}
+use mathlib.Core.Path.{_≡_, ap, _∙_}
 use native.Mathlib.Nat.{mul-add, mul-zero}
 use native.Mathlib.Omega.{arith}
 use lib.ListN.{getD}
 use Rattle.shape.specs.declared.shape.Shape.{Shape}
-use Rattle.shape.specs.declared.shape.Coords.{Coords}
 use Rattle.shape.specs.declared.shape.Dim.{Dim}
 use Rattle.shape.specs.declared.shape.Dim.the-variants.{X, Y, Z}
-use Rattle.shape.specs.Shape.{shapeError, extentOf, coordOf, put}
-use Rattle.shape.specs.Axis.{place}
+use Rattle.shape.specs.Shape.{shapeError, extentOf}
 use Rattle.shape.proofs.Shapes.{sound, count-most}
 use Rattle.shape.proofs.AxisLaws.{place-below}
 use Rattle.machine.specs.Number.{nodeCount, numberOf, coordsOf, Inside}
@@ -20,7 +18,7 @@ use Rattle.machine.proofs.Numbers.{number-coords, number-fits, inside}
 use Rattle.machine.proofs.ByCoords.{along-small, neighbour-below}
 use Rattle.tables.specs.declared.place.Place.{Place}
 use Rattle.tables.specs.declared.around.Around.{Around}
-use Rattle.tables.specs.Places.{origin, added, placeOf}
+use Rattle.tables.specs.Places.{added, placeOf}
 use Rattle.tables.specs.Around.{Near, aroundIn}
 
 -- The direction of a dimension, plus or minus, and the neighbour's byte in it.

@@ -1,6 +1,6 @@
 -- The order in which the nodes are visited from a centre: by the numbers that their ranks would have as coordinates. Each node is visited once, and
 -- after the nodes to which a useful hop toward the centre leads.
-use Prim.Native.Nat.{ℕ, suc, _+_, _*_, _%_, _/_, _≤_, _<_}
+use Prim.Native.Nat.{ℕ, suc, _+_, _*_, _/_, _≤_, _<_}
 use mathlib.Core.Bool.{Bool, true, not}
 use mathlib.Core.Path.{_≡_, refl, sym, ap, _∙_}
 use native.Mathlib.Nat.{mul-le-mul-left, mul-suc, mul-add, mod-lt}
@@ -14,7 +14,6 @@ use Rattle.shape.specs.declared.shape.Coords.{Coords}
 use Rattle.shape.specs.declared.shape.Dim.{Dim}
 use Rattle.shape.specs.declared.shape.Dim.the-variants.{X, Y, Z}
 use Rattle.shape.specs.Shape.{shapeError, extentOf, coordOf, wrappedIn, put}
-use Rattle.shape.specs.Axis.{place}
 use Rattle.shape.proofs.Shapes.{sound}
 use Rattle.shape.proofs.AxisLaws.{place-below}
 use Rattle.machine.specs.Number.{nodeCount, numberOf, coordsOf, Inside}

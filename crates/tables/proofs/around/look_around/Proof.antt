@@ -2,9 +2,6 @@ use Rattle.tables.specs.Around.{aroundIn}
 use borrow.Author.Needs.{needs}
 use Rattle.tables.proofs.around.look_around.Statement.{statement}
 use Rattle.tables.proofs.around.look_around.Tie as tie
-use Rattle.tables.proofs.around.look_around.Reads as reads
-use Rattle.tables.proofs.around.look_around.Lts as lts
-use Rattle.tables.proofs.around.look.Reads as look-reads
 
 look-requires : tie.Need-look-requires
 look-requires c κs = search needs

@@ -2,12 +2,6 @@ use Rattle.tables.specs.Judge.{adaptiveAlong}
 use borrow.Author.Needs.{needs}
 use Rattle.tables.proofs.judge.adaptive_along.Statement.{statement}
 use Rattle.tables.proofs.judge.adaptive_along.Tie as tie
-use Rattle.tables.proofs.judge.adaptive_along.Reads as reads
-use Rattle.tables.proofs.judge.adaptive_along.Lts as lts
-use Rattle.logic.proofs.both.Reads as both-reads
-use Rattle.tables.proofs.judge.adaptive_hop.Reads as adaptive-hop-reads
-use Rattle.tables.proofs.judge.minus_sound.Reads as minus-sound-reads
-use Rattle.tables.proofs.judge.plus_sound.Reads as plus-sound-reads
 
 minus-sound-requires : tie.Need-minus-sound-requires
 minus-sound-requires c κs = search needs

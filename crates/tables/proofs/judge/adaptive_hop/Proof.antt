@@ -1,11 +1,6 @@
 use borrow.Author.Needs.{needs}
 use Rattle.tables.proofs.judge.adaptive_hop.Statement.{statement}
 use Rattle.tables.proofs.judge.adaptive_hop.Tie as tie
-use Rattle.tables.proofs.judge.adaptive_hop.Reads as reads
-use Rattle.tables.proofs.judge.adaptive_hop.Lts as lts
-use Rattle.logic.proofs.both.Reads as both-reads
-use Rattle.logic.proofs.pick_bool.Reads as pick-bool-reads
-use Rattle.tables.proofs.entry.adaptive.Reads as adaptive-reads
 
 adaptive-requires : tie.Need-adaptive-requires
 adaptive-requires c κs = search needs

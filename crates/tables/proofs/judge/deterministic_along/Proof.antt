@@ -2,12 +2,6 @@ use Rattle.tables.specs.Judge.{deterministicAlong}
 use borrow.Author.Needs.{needs}
 use Rattle.tables.proofs.judge.deterministic_along.Statement.{statement}
 use Rattle.tables.proofs.judge.deterministic_along.Tie as tie
-use Rattle.tables.proofs.judge.deterministic_along.Reads as reads
-use Rattle.tables.proofs.judge.deterministic_along.Lts as lts
-use Rattle.logic.proofs.pick_bool.Reads as pick-bool-reads
-use Rattle.tables.proofs.judge.deterministic_hop.Reads as deterministic-hop-reads
-use Rattle.tables.proofs.judge.minus_sound.Reads as minus-sound-reads
-use Rattle.tables.proofs.judge.plus_sound.Reads as plus-sound-reads
 
 plus-sound-requires : tie.Need-plus-sound-requires
 plus-sound-requires c κs = search needs

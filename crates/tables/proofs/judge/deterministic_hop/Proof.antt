@@ -1,10 +1,6 @@
 use borrow.Author.Needs.{needs}
 use Rattle.tables.proofs.judge.deterministic_hop.Statement.{statement}
 use Rattle.tables.proofs.judge.deterministic_hop.Tie as tie
-use Rattle.tables.proofs.judge.deterministic_hop.Reads as reads
-use Rattle.tables.proofs.judge.deterministic_hop.Lts as lts
-use Rattle.logic.proofs.both.Reads as both-reads
-use Rattle.tables.proofs.entry.deterministic.Reads as deterministic-reads
 
 deterministic-requires : tie.Need-deterministic-requires
 deterministic-requires c κs = search needs

@@ -2,12 +2,6 @@ use Rattle.tables.specs.Judge.{judged}
 use borrow.Author.Needs.{needs}
 use Rattle.tables.proofs.judge.judge.Statement.{statement}
 use Rattle.tables.proofs.judge.judge.Tie as tie
-use Rattle.tables.proofs.judge.judge.Reads as reads
-use Rattle.tables.proofs.judge.judge.Lts as lts
-use Rattle.tables.proofs.around.look_around.Reads as look-around-reads
-use Rattle.tables.proofs.entry.pack.Reads as pack-reads
-use Rattle.tables.proofs.judge.judge_adaptive.Reads as judge-adaptive-reads
-use Rattle.tables.proofs.judge.judge_deterministic.Reads as judge-deterministic-reads
 
 look-around-requires : tie.Need-look-around-requires
 look-around-requires c κs = search needs

@@ -2,10 +2,6 @@ use Rattle.tables.specs.Judge.{judgedAdaptive}
 use borrow.Author.Needs.{needs}
 use Rattle.tables.proofs.judge.judge_adaptive.Statement.{statement}
 use Rattle.tables.proofs.judge.judge_adaptive.Tie as tie
-use Rattle.tables.proofs.judge.judge_adaptive.Reads as reads
-use Rattle.tables.proofs.judge.judge_adaptive.Lts as lts
-use Rattle.logic.proofs.both.Reads as both-reads
-use Rattle.tables.proofs.judge.adaptive_along.Reads as adaptive-along-reads
 
 adaptive-along-requires : tie.Need-adaptive-along-requires
 adaptive-along-requires c κs = search needs

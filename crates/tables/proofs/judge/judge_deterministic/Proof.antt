@@ -3,9 +3,6 @@ use Rattle.tables.specs.Judge.{judgedDeterministic}
 use borrow.Author.Needs.{needs}
 use Rattle.tables.proofs.judge.judge_deterministic.Statement.{statement}
 use Rattle.tables.proofs.judge.judge_deterministic.Tie as tie
-use Rattle.tables.proofs.judge.judge_deterministic.Reads as reads
-use Rattle.tables.proofs.judge.judge_deterministic.Lts as lts
-use Rattle.tables.proofs.judge.deterministic_along.Reads as deterministic-along-reads
 
 deterministic-along-requires : tie.Need-deterministic-along-requires
 deterministic-along-requires c κs = search needs

@@ -3,8 +3,6 @@ use Rattle.tables.specs.Order.{further}
 use borrow.Author.Needs.{needs}
 use Rattle.tables.proofs.order.next.Statement.{statement}
 use Rattle.tables.proofs.order.next.Tie as tie
-use Rattle.tables.proofs.order.next.Reads as reads
-use Rattle.tables.proofs.order.next.Lts as lts
 
 add-if1 : tie.Need-add-if1
 add-if1 c = search needs

@@ -3,9 +3,6 @@ use Rattle.tables.specs.Order.{placeAt}
 use borrow.Author.Needs.{needs}
 use Rattle.tables.proofs.order.place_at.Statement.{statement}
 use Rattle.tables.proofs.order.place_at.Tie as tie
-use Rattle.tables.proofs.order.place_at.Reads as reads
-use Rattle.tables.proofs.order.place_at.Lts as lts
-use Rattle.tables.proofs.order.turned.Reads as turned-reads
 
 turned-requires : tie.Need-turned-requires
 turned-requires c κs = search needs

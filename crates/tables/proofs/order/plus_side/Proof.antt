@@ -3,8 +3,6 @@ use native.Mathlib.Omega.{arith}
 use borrow.Author.Needs.{needs}
 use Rattle.tables.proofs.order.plus_side.Statement.{statement}
 use Rattle.tables.proofs.order.plus_side.Tie as tie
-use Rattle.tables.proofs.order.plus_side.Reads as reads
-use Rattle.tables.proofs.order.plus_side.Lts as lts
 
 add-result : tie.Need-add-result
 add-result c = search needs

@@ -4,8 +4,6 @@ use native.Mathlib.Omega.{arith}
 use borrow.Author.Needs.{needs}
 use Rattle.tables.proofs.order.turned.Statement.{statement}
 use Rattle.tables.proofs.order.turned.Tie as tie
-use Rattle.tables.proofs.order.turned.Reads as reads
-use Rattle.tables.proofs.order.turned.Lts as lts
 
 add-result : tie.Need-add-result
 add-result c = search needs

@@ -1,10 +1,6 @@
 use borrow.Author.Needs.{needs}
 use Rattle.tables.proofs.place.added.Statement.{statement}
 use Rattle.tables.proofs.place.added.Tie as tie
-use Rattle.tables.proofs.place.added.Reads as reads
-use Rattle.tables.proofs.place.added.Lts as lts
-use Rattle.machine.proofs.hop.number_at.Reads as number-at-reads
-use Rattle.shape.proofs.shape.with_coord.Reads as with-coord-reads
 
 with-coord-requires : tie.Need-with-coord-requires
 with-coord-requires c κs = search needs

@@ -1,9 +1,6 @@
 use borrow.Author.Needs.{needs}
 use Rattle.tables.proofs.place.goes_plus.Statement.{statement}
 use Rattle.tables.proofs.place.goes_plus.Tie as tie
-use Rattle.tables.proofs.place.goes_plus.Reads as reads
-use Rattle.tables.proofs.place.goes_plus.Lts as lts
-use Rattle.machine.proofs.hop.first_at.Reads as first-at-reads
 
 first-at-requires : tie.Need-first-at-requires
 first-at-requires c κs = search needs

@@ -2,17 +2,6 @@ use Rattle.tables.specs.Places.{placeOf}
 use borrow.Author.Needs.{needs}
 use Rattle.tables.proofs.place.place_of.Statement.{statement}
 use Rattle.tables.proofs.place.place_of.Tie as tie
-use Rattle.tables.proofs.place.place_of.Reads as reads
-use Rattle.tables.proofs.place.place_of.Lts as lts
-use Rattle.shape.proofs.axis.distance.Reads as distance-reads
-use Rattle.shape.proofs.axis.next_place.Reads as next-place-reads
-use Rattle.shape.proofs.axis.useful.Reads as useful-reads
-use Rattle.shape.proofs.shape.coord.Reads as coord-reads
-use Rattle.shape.proofs.shape.extent.Reads as extent-reads
-use Rattle.shape.proofs.shape.with_coord.Reads as with-coord-reads
-use Rattle.shape.proofs.shape.wrapped.Reads as wrapped-reads
-use Rattle.tables.proofs.place.added.Reads as added-reads
-use Rattle.tables.proofs.place.goes_plus.Reads as goes-plus-reads
 
 extent-requires : tie.Need-extent-requires
 extent-requires c κs = search needs

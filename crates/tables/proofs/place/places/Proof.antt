@@ -11,14 +11,6 @@ use native.Mathlib.Omega.{arith}
 use borrow.Author.Needs.{needs}
 use Rattle.tables.proofs.place.places.Statement.{statement}
 use Rattle.tables.proofs.place.places.Tie as tie
-use Rattle.tables.proofs.place.places.Reads as reads
-use Rattle.tables.proofs.place.places.Lts as lts
-use Rattle.shape.proofs.shape.coord.Reads as coord-reads
-use Rattle.shape.proofs.shape.extent.Reads as extent-reads
-use Rattle.shape.proofs.shape.wrapped.Reads as wrapped-reads
-use Rattle.tables.proofs.order.place_at.Reads as place-at-reads
-use Rattle.tables.proofs.order.plus_side.Reads as plus-side-reads
-use Rattle.tables.proofs.place.place_of.Reads as place-of-reads
 
 abbrev Inv-loop : tie.InvT-loop
 Inv-loop shape centre d len q side places₀ i₀ places i = (len ≤ 16) × (side ≤ len) × (q < len) × (i ≤ len) × (length places ≡ 16) × Filled noPlace (λ k. placeOf shape centre d (placeAt len side q k)) i places

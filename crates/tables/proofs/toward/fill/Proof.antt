@@ -8,13 +8,6 @@ use native.Mathlib.Omega.{arith}
 use borrow.Author.Needs.{needs}
 use Rattle.tables.proofs.toward.fill.Statement.{statement}
 use Rattle.tables.proofs.toward.fill.Tie as tie
-use Rattle.tables.proofs.toward.fill.Reads as reads
-use Rattle.tables.proofs.toward.fill.Lts as lts
-use Rattle.machine.proofs.node.coords.Reads as coords-reads
-use Rattle.machine.proofs.node.count.Reads as count-reads
-use Rattle.tables.proofs.judge.judge.Reads as judge-reads
-use Rattle.tables.proofs.order.next.Reads as next-reads
-use Rattle.tables.proofs.place.places.Reads as places-reads
 
 abbrev Inv-loop : tie.InvT-loop
 Inv-loop shape masks target xs ys zs all table₀ ranks₀ m₀ table ranks m = Known shape target xs ys zs all × Filling shape target (towardAnswer shape masks target) table ranks m

@@ -3,10 +3,6 @@ use mathlib.Core.Path.{sym, _∙_}
 use borrow.Author.Needs.{needs}
 use Rattle.tables.proofs.toward.toward.Statement.{statement}
 use Rattle.tables.proofs.toward.toward.Tie as tie
-use Rattle.tables.proofs.toward.toward.Reads as reads
-use Rattle.tables.proofs.toward.toward.Lts as lts
-use Rattle.machine.proofs.node.is_node.Reads as is-node-reads
-use Rattle.tables.proofs.toward.fill.Reads as fill-reads
 
 is-node-requires : tie.Need-is-node-requires
 is-node-requires c κs = search needs
