@@ -222,9 +222,6 @@ module _ (s : Shape) (h : shapeError s ≡ 0) (masks : List ℕ) (t : ℕ) (ht :
         (λ b. rw b (one true (f-is ∙ rw b)))
         (λ b. rw b (one false (f-is ∙ rw b))))
       where
-        f : ℕ
-        f = firstDirection s n t
-
         f-is : firstDirection s n t ≡ dirOf d (goesPlus s (put (coordsOf s t) d (along s n d)) (coordsOf s t))
         f-is = q ∙ toward-is s (coordsOf s n) (coordsOf s t) d differ
 
