@@ -28,8 +28,9 @@ use Rattle.choice.specs.Choice.{Choice, Direct, Via, legsTo, Admits, choices, l
 use Rattle.choice.specs.Pair.{chosen}
 use Rattle.choice.proofs.Choices.{before-order, admits-lists, lists-admits}
 use Rattle.planner.specs.Outcome.{told}
-use Rattle.planner.specs.Score.{lengthPlace, detsPlace, viasPlace, nodePlace, scoreOf, unclear, legScore, firstScore, viaScore, leastScore, decoded, outcomeIn}
-use Rattle.planner.proofs.Scores.{AtVia, least-first, least-via, least-one}
+use Rattle.planner.specs.Least.{least}
+use Rattle.planner.specs.Score.{lengthPlace, detsPlace, viasPlace, nodePlace, scoreOf, unclear, legScore, firstScore, viaScore, scoreAt, decoded, outcomeIn}
+use Rattle.planner.proofs.Leasts.{ReachedAt, least-first, least-each, least-one}
 use Rattle.planner.proofs.Order.{Small, low-places, before-score}
 use Rattle.planner.proofs.Entries.{LegScore, entry-score}
 use Rattle.planner.proofs.Outcomes.{decoded-none, decoded-score}
@@ -60,9 +61,9 @@ first-leg : (e : ℕ) → (legScore e ≤ firstScore e) × (firstScore e ≤ leg
 unfolding firstScore
 first-leg e = (omega arith, omega arith)
 
-via-parts : (v f g : ℕ) → viaScore v f g ≡ firstScore f + (legScore g + (viasPlace + v * nodePlace))
-unfolding viaScore
-via-parts v f g = refl
+score-parts : (from toward : List ℕ) (v : ℕ) → scoreAt from toward v ≡ firstScore (getD from v 0) + (legScore (getD toward v 0) + (viasPlace + v * nodePlace))
+unfolding scoreAt viaScore
+score-parts from toward v = refl
 
 module _ (s : Shape) (sound : ℕ → ℕ → Bool) (S D : ℕ) where
   abbrev okay : Choice → Bool
@@ -95,8 +96,11 @@ module _ (s : Shape) (sound : ℕ → ℕ → Bool) (S D : ℕ) where
     abbrev first : ℕ
     first = firstScore (getD from D 0)
 
-    abbrev least : ℕ
-    least = leastScore from toward first (nodeCount s)
+    abbrev found : ℕ
+    found = least (scoreAt from toward) first 0 (nodeCount s)
+
+    found-first : found ≤ first
+    found-first = least-first (scoreAt from toward) first 0 (nodeCount s)
 
     out-score : (v : ℕ) → v < nodeCount s → LegScore (distance s S v) (getD from v 0) (λ m. clearFrom s sound m S v)
     out-score v h = entry-score s sound S v (getD from v 0) (T .out v h)
@@ -105,13 +109,13 @@ module _ (s : Shape) (sound : ℕ → ℕ → Bool) (S D : ℕ) where
     back-score v h = entry-score s sound v D (getD toward v 0) (T .back v h)
 
     -- No admitted choice that is clear has a lower number.
-    least-below : (c : Choice) → Admits s S D c → okay c ≡ true → least ≤ scoreOf s S D c
-    least-below (Direct m) a ok =
+    found-below : (c : Choice) → Admits s S D c → okay c ≡ true → found ≤ scoreOf s S D c
+    found-below (Direct m) a ok =
         let clear = sym (okay-direct m) ∙ ok in
-        omega (arith, least-first from toward first (nodeCount s), out-score D (T .target) .first-most m clear, score-direct m)
-    least-below (Via v m n) a ok =
-        let clear = and-true _ _ (sym (okay-via v m n) ∙ ok) in
-        omega (arith, least-via from toward first (nodeCount s) v (a .0), via-parts v (getD from v 0) (getD toward v 0), out-score v (a .0) .first-most m (clear .0), back-score v (a .0) .leg-most n (clear .1), score-via v m n)
+        omega (arith, found-first, out-score D (T .target) .first-most m clear, score-direct m)
+    found-below (Via v m n) a ok =
+        let clear = and-true (clearFrom s sound m S v) (clearFrom s sound n v D) (sym (okay-via v m n) ∙ ok) in
+        omega (arith, least-each (scoreAt from toward) first 0 (nodeCount s) v (omega arith) (omega (arith, a .0)), score-parts from toward v, out-score v (a .0) .first-most m (clear .0), back-score v (a .0) .leg-most n (clear .1), score-via v m n)
 
     -- The source to itself: the number of its direct and adaptive route is 0.
     self-first : S ≡ D → first ≤ 0
@@ -122,16 +126,16 @@ module _ (s : Shape) (sound : ℕ → ℕ → Bool) (S D : ℕ) where
     self-mode Deterministic e f = absurd (omega (arith, self-first e))
 
     -- A via that is an end of the pair is never the least: the direct choice is lower.
-    not-source : (v : ℕ) → least ≡ viaScore v (getD from v 0) (getD toward v 0) → v ≡ S → ⊥
+    not-source : (v : ℕ) → found ≡ scoreAt from toward v → v ≡ S → ⊥
     not-source v e q =
         let same : getD toward v 0 ≡ getD from D 0 = rw q (T .back S (T .source) ∙ sym (T .out D (T .target))) in
-        omega (arith, least-first from toward first (nodeCount s), via-parts v (getD from v 0) (getD toward v 0), ap legScore same, first-leg (getD from D 0) .1)
+        omega (arith, found-first, score-parts from toward v, ap legScore same, first-leg (getD from D 0) .1)
 
-    not-target : (v : ℕ) → least ≡ viaScore v (getD from v 0) (getD toward v 0) → v ≡ D → ⊥
+    not-target : (v : ℕ) → found ≡ scoreAt from toward v → v ≡ D → ⊥
     not-target v e q =
-        omega (arith, least-first from toward first (nodeCount s), via-parts v (getD from v 0) (getD toward v 0), ap (λ (n : ℕ). firstScore (getD from n 0)) q)
+        omega (arith, found-first, score-parts from toward v, ap (λ (n : ℕ). firstScore (getD from n 0)) q)
 
-    at-direct : least < unclear → least ≡ first → Reached least
+    at-direct : found < unclear → found ≡ first → Reached found
     at-direct h e =
         let f = out-score D (T .target) .found (omega (arith, first-leg (getD from D 0) .0)) in
         record {
@@ -141,21 +145,22 @@ module _ (s : Shape) (sound : ℕ → ℕ → Bool) (S D : ℕ) where
           score = omega (arith, f .first-is, score-direct (f .mode));
         }
 
-    at-via : least < unclear → AtVia from toward first (nodeCount s) least → Reached least
+    at-via : found < unclear → ReachedAt (scoreAt from toward) first 0 (nodeCount s) found → Reached found
     at-via h a =
-        let v = a .via in
-        let parts = via-parts v (getD from v 0) (getD toward v 0) in
-        let f = out-score v (a .below) .found (omega (arith, parts, a .score, first-leg (getD from v 0) .0)) in
-        let g = back-score v (a .below) .found (omega (arith, parts, a .score)) in
+        let v = a .node in
+        let inside : v < nodeCount s = omega (arith, a .below) in
+        let parts = score-parts from toward v in
+        let f = out-score v inside .found (omega (arith, parts, a .is, first-leg (getD from v 0) .0)) in
+        let g = back-score v inside .found (omega (arith, parts, a .is)) in
         record {
           choice = Via v (f .mode) (g .mode);
-          admitted = (a .below, not-source v (a .score), not-target v (a .score), λ q. omega (arith, self-first q, least-first from toward first (nodeCount s), parts, a .score));
+          admitted = (inside, not-source v (a .is), not-target v (a .is), λ q. omega (arith, self-first q, found-first, parts, a .is));
           passes = okay-via v (f .mode) (g .mode) ∙ rw (f .clear, g .clear);
-          score = omega (arith, parts, a .score, f .first-is, g .leg-is, score-via v (f .mode) (g .mode));
+          score = omega (arith, parts, a .is, f .first-is, g .leg-is, score-via v (f .mode) (g .mode));
         }
 
-    reached : least < unclear → Reached least
-    reached h = ⊎-elim (at-direct h) (at-via h) (least-one from toward first (nodeCount s))
+    reached : found < unclear → Reached found
+    reached h = ⊎-elim (at-direct h) (at-via h) (least-one (scoreAt from toward) first 0 (nodeCount s))
 
     small : (c : Choice) → Admits s S D c → Small c
     small (Direct m) a = tt
@@ -176,18 +181,18 @@ module _ (s : Shape) (sound : ℕ → ℕ → Bool) (S D : ℕ) where
     abbrev all : List Choice
     all = choices (nodeCount s) S D
 
-    refused : Best order okay all none → unclear ≤ least
-    refused b = by-le unclear least (λ h. h)
+    refused : Best order okay all none → unclear ≤ found
+    refused b = by-le unclear found (λ h. h)
         (λ h.
         let r = reached h in
         absurd (true≢false (sym (r .passes) ∙ b .refused .0 refl (r .choice) (admits-lists s S D (r .choice) (r .admitted)))))
 
-    first-in-order : (c : Choice) → Best order okay all (some c) → least ≡ scoreOf s S D c
+    first-in-order : (c : Choice) → Best order okay all (some c) → found ≡ scoreOf s S D c
     first-in-order c b =
         let f = b .chosen c refl in
         let a = lists-admits s S D c (f .listed) in
-        let below = least-below c a (f .passes) in
-        by-le (scoreOf s S D c) least (λ h. omega arith)
+        let below = found-below c a (f .passes) in
+        by-le (scoreOf s S D c) found (λ h. omega arith)
         (λ h.
         let r = reached (omega (arith, score-clear c a)) in
         let lower : scoreOf s S D (r .choice) < scoreOf s S D c = omega (arith, r .score) in
@@ -195,11 +200,11 @@ module _ (s : Shape) (sound : ℕ → ℕ → Bool) (S D : ℕ) where
         let later = f .least (r .choice) (admits-lists s S D (r .choice) (r .admitted)) (r .passes) other in
         absurd (omega (arith, ltb-true (scoreOf s S D c) (scoreOf s S D (r .choice)) (sym (before-score s S D c (r .choice) (small c a) (small (r .choice) (r .admitted))) ∙ later))))
 
-    at : (o : Option Choice) → Best order okay all o → decoded least ≡ told (chosen s S D o)
-    at none b = decoded-none least (refused b)
+    at : (o : Option Choice) → Best order okay all o → decoded found ≡ told (chosen s S D o)
+    at none b = decoded-none found (refused b)
     at (some c) b =
         let a = lists-admits s S D c (b .chosen c refl .listed) in
-        decoded-score s S D least c (small c a) (omega (arith, short c a)) (first-in-order c b)
+        decoded-score s S D found c (small c a) (omega (arith, short c a)) (first-in-order c b)
 
     pub outcome-planned : outcomeIn from toward (nodeCount s) D ≡ told (chosen s S D (planned (torus s) sound (legsTo D) order S all))
     unfolding outcomeIn planned

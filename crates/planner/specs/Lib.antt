@@ -1,2 +1,4 @@
 pub mod Outcome
+pub mod Least
 pub mod Score
+pub mod Rank

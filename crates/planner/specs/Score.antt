@@ -1,14 +1,15 @@
--- A choice's place in the order as one number, and the least of the numbers that two tables of legs give.
-use Prim.Native.Nat.{ℕ, zero, suc, _+_, _-_, _*_, _/_, _%_}
+-- A choice's place in the order as one number, and the outcome that two tables of legs give.
+use Prim.Native.Nat.{ℕ, _+_, _-_, _*_, _/_, _%_}
 use mathlib.Core.Bool.{Bool, true, false, cond}
 use mathlib.Core.List.{List}
 use lib.ListN.{getD}
-use lib.Dec.{ltb, leb, eqb}
+use lib.Dec.{leb, eqb}
 use Rattle.shape.specs.declared.shape.Shape.{Shape}
 use Rattle.machine.specs.declared.leg.Mode.{Mode}
 use Rattle.machine.specs.declared.leg.Mode.the-variants.{Adaptive, Deterministic}
 use Rattle.choice.specs.Choice.{Choice, lengthOf, det, detLegs, viaCount, viaNode, firstMode}
 use Rattle.planner.specs.declared.outcome.Outcome.{Outcome}
+use Rattle.planner.specs.Least.{least}
 
 -- Place values of the order: length; number of deterministic legs; number of vias; via's node number. The first leg's mode has the last place.
 abbrev pub lengthPlace : ℕ
@@ -58,13 +59,8 @@ firstScore e = legScore e + (1 - e % 2)
 unfoldable pub viaScore : ℕ → ℕ → ℕ → ℕ
 viaScore v f g = firstScore f + (legScore g + (viasPlace + v * nodePlace))
 
-abbrev pub lower : ℕ → ℕ → ℕ
-lower a b = cond (ltb a b) a b
-
--- The least of a number and those of the nodes below n as vias.
-unfoldable pub leastScore : List ℕ → List ℕ → ℕ → ℕ → ℕ
-leastScore from toward first zero = first
-leastScore from toward first (suc v) = lower (viaScore v (getD from v 0) (getD toward v 0)) (leastScore from toward first v)
+unfoldable pub scoreAt : List ℕ → List ℕ → ℕ → ℕ
+scoreAt from toward v = viaScore v (getD from v 0) (getD toward v 0)
 
 -- A number read back.
 abbrev pub modeOf : Bool → Mode
@@ -83,4 +79,4 @@ decoded n =
 
 -- The outcome for a destination D, from the legs from the source and those to D, of which nodes below n are vias.
 unfoldable pub outcomeIn : List ℕ → List ℕ → ℕ → ℕ → Outcome
-outcomeIn from toward n D = decoded (leastScore from toward (firstScore (getD from D 0)) n)
+outcomeIn from toward n D = decoded (least (scoreAt from toward) (firstScore (getD from D 0)) 0 n)

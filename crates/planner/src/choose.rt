@@ -1,25 +1,27 @@
 // The first clear choice in the order, from the tables of the legs from the source and to the destination.
 use crate::outcome::Outcome;
+use crate::rank::best_row;
 use crate::score::decode;
 use crate::score::first_score;
-use crate::score::lower_by;
+use crate::score::lower;
+use crate::score::via_score;
 ghost use mathlib.Core.Path.{_≡_};
-ghost use Prim.Native.Nat.{_≤_, _<_};
-ghost use Rattle.planner.specs.Score.{leastScore, outcomeIn};
+ghost use Prim.Native.Nat.{_-_, _≤_, _<_};
+ghost use Rattle.planner.specs.Least.{least};
+ghost use Rattle.planner.specs.Score.{scoreAt, outcomeIn};
 
-// The least of the number `first` and those of the nodes below `count` as vias.
-fn least_score(count: u16, from: &[u8; 4096], toward: &[u8; 4096], first: u32) -> u32
-    requires { ⌜ count ≤ 4096 ⌝ }
-    ensures { λ r. ⌜ r ≡ leastScore (now (from .entry)) (now (toward .entry)) first count ⌝ }
+// The least of the number `first` and those of the nodes from `lo` to below `hi` as vias.
+fn least_score(from: &[u8; 4096], toward: &[u8; 4096], lo: usize, hi: usize, first: u32) -> u32
+    requires { ⌜ (lo ≤ hi) × (hi ≤ 4096) ⌝ }
+    ensures { λ r. ⌜ r ≡ least (scoreAt (now (from .entry)) (now (toward .entry))) first lo (hi - lo) ⌝ }
 {
-    let mut least = first;
-    let mut v: u16 = 0;
-    while v < count {
-        let at = v as usize;
-        least = lower_by(least, v, from[at], toward[at]);
+    let mut score = first;
+    let mut v = lo;
+    while v < hi {
+        score = lower(via_score(v as u16, from[v], toward[v]), score);
         v = v + 1;
     }
-    least
+    score
 }
 
 pub fn choose(count: u16, from: &[u8; 4096], toward: &[u8; 4096], d: u16) -> Outcome
@@ -27,5 +29,6 @@ pub fn choose(count: u16, from: &[u8; 4096], toward: &[u8; 4096], d: u16) -> Out
     ensures { λ r. ⌜ r ≡ outcomeIn (now (from .entry)) (now (toward .entry)) count d ⌝ }
 {
     let at = d as usize;
-    decode(least_score(count, from, toward, first_score(from[at])))
+    let row = best_row(count as usize, from, toward);
+    decode(least_score(from, toward, row.lo, row.hi, first_score(from[at])))
 }

@@ -4,7 +4,8 @@ use machine::leg::Mode;
 ghost use mathlib.Core.Path.{_≡_};
 ghost use mathlib.Core.Bool.{cond};
 ghost use Prim.Native.Nat.{_*_, _≤_, _<_};
-ghost use Rattle.planner.specs.Score.{unclear, adaptiveIn, deterministicIn, hopsIn, modeScore, legScore, firstScore, viaScore, lower, modeOf, decoded};
+ghost use Rattle.planner.specs.Least.{lower};
+ghost use Rattle.planner.specs.Score.{unclear, adaptiveIn, deterministicIn, hopsIn, modeScore, legScore, firstScore, viaScore, modeOf, decoded};
 
 // Place values of a choice's number, after the order: of its length,
 const LENGTH: u32 = 65536;
@@ -67,21 +68,16 @@ pub fn first_score(e: u8) -> u32
     leg_score(e) + (1 - e % 2) as u32
 }
 
-fn via_score(v: u16, f: u8, g: u8) -> u32
+pub fn via_score(v: u16, f: u8, g: u8) -> u32
     ensures { λ r. ⌜ r ≡ viaScore v f g ⌝ }
 {
     first_score(f) + (leg_score(g) + (VIAS + v as u32 * NODE))
 }
 
-// The lower of the number `least` and that of the via v. Most vias are longer, and no number is made of them.
-pub fn lower_by(least: u32, v: u16, f: u8, g: u8) -> u32
-    ensures { λ r. ⌜ r ≡ lower (viaScore v f g) least ⌝ }
+pub fn lower(a: u32, b: u32) -> u32
+    ensures { λ r. ⌜ r ≡ lower a b ⌝ }
 {
-    if least / LENGTH < hops(f) + hops(g) {
-        return least;
-    }
-    let score = via_score(v, f, g);
-    pick(score < least, score, least)
+    pick(a < b, a, b)
 }
 
 fn mode(adaptive: bool) -> Mode
