@@ -7,7 +7,7 @@ use mathlib.Core.Bool.{Bool, true, false, _&&_, true≢false}
 use mathlib.Core.List.{List}
 use mathlib.Core.Option.{Option, none, some}
 use lib.ListN.{getD}
-use borrow.Author.Tests.{ltb-true}
+use borrow.Author.Tests.{eq-eqb, lt-ltb, ltb-true}
 use Rattle.theory.specs.Clear.{clear, clearIn, clearLegs}
 use Rattle.theory.specs.Choice.{Best, best}
 use Rattle.theory.specs.Plan.{planned}
@@ -23,7 +23,9 @@ use Rattle.machine.specs.Number.{nodeCount}
 use Rattle.machine.specs.Hop.{distance}
 use Rattle.machine.specs.Torus.{torus}
 use Rattle.machine.proofs.Laws.{distance-self, distance-most}
-use Rattle.tables.specs.Entry.{clearFrom, entry}
+use Rattle.machine.specs.Node.{isNode, arePair}
+use Rattle.machine.proofs.Nodes.{Node, node-of}
+use Rattle.tables.specs.Entry.{soundBy, clearFrom, entry, towardAnswer, outwardAnswer}
 use Rattle.choice.specs.Choice.{Choice, Direct, Via, legsTo, Admits, choices, lengthFrom, lengthOf, det, detLegs, viaCount, viaNode, firstMode, beforeIn}
 use Rattle.choice.specs.Pair.{chosen}
 use Rattle.choice.proofs.Choices.{before-order, admits-lists, lists-admits}
@@ -42,6 +44,33 @@ pub record Tables (s : Shape) (sound : ℕ → ℕ → Bool) (S D : ℕ) (from t
   pub target : D < nodeCount s
   pub out : (n : ℕ) → n < nodeCount s → getD from n 0 ≡ entry s sound S n
   pub back : (n : ℕ) → n < nodeCount s → getD toward n 0 ≡ entry s sound n D
+
+is-node : (s : Shape) (n : ℕ) → shapeError s ≡ 0 → n < nodeCount s → isNode s n ≡ true
+unfolding isNode
+is-node s n h l = rw (eq-eqb (shapeError s) 0 h, lt-ltb n (nodeCount s) l)
+
+-- Such are the tables that are filled for two nodes.
+pub tables-of :
+    (s : Shape) (masks : List ℕ) (S D : ℕ) (from toward : List ℕ) →
+    isNode s S ≡ true →
+    isNode s D ≡ true →
+    ((n : ℕ) → getD from n 0 ≡ outwardAnswer s masks S n) →
+    ((n : ℕ) → getD toward n 0 ≡ towardAnswer s masks D n) →
+    Tables s (soundBy masks) S D from toward
+unfolding outwardAnswer towardAnswer arePair
+tables-of s masks S D from toward hS hD out back = record {
+  ok = source .sound;
+  source = source .below;
+  target = target .below;
+  out = λ n l. out n ∙ rw (hS, is-node s n (source .sound) l);
+  back = λ n l. back n ∙ rw (hD, is-node s n (source .sound) l);
+}
+  where
+    source : Node s S
+    source = node-of s S hS
+
+    target : Node s D
+    target = node-of s D hD
 
 pub nodes-most : (s : Shape) → shapeError s ≡ 0 → nodeCount s ≤ 4096
 unfolding nodeCount

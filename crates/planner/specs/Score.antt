@@ -77,6 +77,7 @@ decoded n =
     (pickOutcome (eqb (n % detsPlace / viasPlace) 0) (Outcome.Direct (modeOf (eqb (n % nodePlace) 0)) (n / lengthPlace))
     (Outcome.Via (n % viasPlace / nodePlace) (modeOf (eqb (n % nodePlace) 0)) (modeOf (eqb (n % lengthPlace / detsPlace) (n % nodePlace))) (n / lengthPlace)))
 
--- The outcome for a destination D, from the legs from the source and those to D, of which nodes below n are vias.
+-- The outcome for the destination D, from the tables of the legs from the source and to D, with all n nodes as vias: as an end of the pair is no via
+-- whose number is below that of the direct choice, none is left out.
 unfoldable pub outcomeIn : List ℕ → List ℕ → ℕ → ℕ → Outcome
 outcomeIn from toward n D = decoded (least (scoreAt from toward) (firstScore (getD from D 0)) 0 n)

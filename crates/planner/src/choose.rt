@@ -24,6 +24,7 @@ fn least_score(from: &[u8; 4096], toward: &[u8; 4096], lo: usize, hi: usize, fir
     score
 }
 
+// The outcome for the destination d. The ends of the pair need no test: as vias their numbers are above that of the direct choice.
 pub fn choose(count: u16, from: &[u8; 4096], toward: &[u8; 4096], d: u16) -> Outcome
     requires { ⌜ (count ≤ 4096) × (d < 4096) ⌝ }
     ensures { λ r. ⌜ r ≡ outcomeIn (now (from .entry)) (now (toward .entry)) count d ⌝ }

@@ -30,6 +30,7 @@ fn lower(a: u8, b: u8) -> u8
     pick(a < b, a, b)
 }
 
+// 4 for each hop, and 1 where the leg is clear in its deterministic mode only.
 fn leg_rank(e: u8) -> u8
     ensures { λ r. ⌜ r ≡ legRank e ⌝ }
 {
