@@ -5,3 +5,4 @@ pub mod Ranks
 pub mod Entries
 pub mod Outcomes
 pub mod Planned
+pub mod Pairs

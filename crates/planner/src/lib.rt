@@ -1,5 +1,6 @@
-// Planning: the choice for a pair, from two tables of clear legs.
+// Planning: a pair, and the sheet of a source.
 mod choose;
 pub mod outcome;
+pub mod pair;
 mod rank;
 mod score;
