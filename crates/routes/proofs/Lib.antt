@@ -1,0 +1,12 @@
+pub mod Sheets
+pub mod Entries
+pub mod Finding
+pub mod Lookups
+pub mod Encoding
+pub mod Writings
+pub mod Rising
+pub mod Listed
+pub mod Many
+pub mod Readings
+pub mod Rewriting
+pub mod Saying

@@ -1,0 +1,17 @@
+use Rattle.routes.specs.Layout.{entryCount}
+use borrow.Author.Needs.{needs}
+use Rattle.routes.proofs.layout.count_in.Statement.{statement}
+use Rattle.routes.proofs.layout.count_in.Tie as tie
+
+word-at-requires : tie.Need-word-at-requires
+word-at-requires c κs = search needs
+
+cast-result : tie.Need-cast-result
+cast-result c = search needs
+
+returns : tie.Need-returns
+unfolding entryCount
+returns c = c .word-at .ensures .0
+
+pub count-in-spec : {M : Type 1} → statement M
+count-in-spec = tie.close (tie.spec word-at-requires cast-result returns)

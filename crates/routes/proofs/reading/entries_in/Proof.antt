@@ -1,0 +1,62 @@
+use Rattle.routes.proofs.Readings.{Filling, begin, onward, ended}
+use native.Mathlib.Omega.{arith}
+use Prim.Native.Nat.{_-_}
+use Rattle.routes.proofs.reading.entries_in.Statement.{statement}
+use Rattle.routes.proofs.reading.entries_in.Tie as tie
+
+abbrev Inv-loop : tie.InvT-loop
+Inv-loop sheet count entries₀ i₀ entries i = Filling sheet count entries i
+
+abbrev μ-loop : tie.MeasureT-loop
+μ-loop sheet count entries₀ i₀ entries i = count - i
+
+count-in-requires : tie.Need-count-in-requires Inv-loop μ-loop
+count-in-requires c κs = tt
+
+cast-count : tie.Need-cast-count Inv-loop μ-loop
+cast-count c = omega arith
+
+loop-holds : tie.Need-loop-holds Inv-loop μ-loop
+loop-holds c = begin _ _ (c .before .before .pre) (c .count-in .ensures)
+
+cast-entry-in : tie.Need-cast-entry-in Inv-loop μ-loop
+cast-entry-in c = omega arith
+
+entry-in-requires : tie.Need-entry-in-requires Inv-loop μ-loop
+entry-in-requires c κs = tt
+
+mul-entries : tie.Need-mul-entries Inv-loop μ-loop
+mul-entries c = omega arith
+
+array-set-from-entries : tie.Need-array-set-from-entries Inv-loop μ-loop
+array-set-from-entries c = omega arith
+
+add-i : tie.Need-add-i Inv-loop μ-loop
+add-i c = omega arith
+
+loop-less : tie.Need-loop-less Inv-loop μ-loop
+loop-less c = omega arith
+
+loop-again : tie.Need-loop-again Inv-loop μ-loop
+loop-again c = onward _ _ _ _ (c .before .before .loop .inv) _ (c .entry-in .ensures) (c .before .loop-test .taken)
+
+returns : tie.Need-returns Inv-loop μ-loop
+returns c = ended _ _ _ _ (c .before .loop .inv) (c .loop-test .left)
+
+pub entries-in-spec : {M : Type 1} → statement M
+entries-in-spec =
+    tie.close
+    (tie.spec
+    Inv-loop
+    μ-loop
+    count-in-requires
+    cast-count
+    loop-holds
+    cast-entry-in
+    entry-in-requires
+    mul-entries
+    array-set-from-entries
+    add-i
+    loop-less
+    loop-again
+    returns)

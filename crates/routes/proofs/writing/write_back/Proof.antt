@@ -1,0 +1,18 @@
+use borrow.Author.Needs.{needs}
+use Rattle.routes.proofs.writing.write_back.Statement.{statement}
+use Rattle.routes.proofs.writing.write_back.Tie as tie
+
+check-requires : tie.Need-check-requires
+check-requires c κs = search needs
+
+put-sheet-requires : tie.Need-put-sheet-requires
+put-sheet-requires c κs = search needs
+
+same-length : tie.Need-same-length
+same-length c = search needs
+
+returns : tie.Need-returns
+returns c = (cc, cc)
+
+pub write-back-spec : {M : Type 1} → statement M
+write-back-spec = tie.close (tie.spec check-requires put-sheet-requires same-length returns)

@@ -1,0 +1,9 @@
+pub mod Layout
+pub mod Kinds
+pub mod Said
+pub mod Checks
+pub mod Lookup
+pub mod Says
+pub mod Reading
+pub mod Writing
+pub mod Steps

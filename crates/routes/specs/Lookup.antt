@@ -1,0 +1,40 @@
+-- Looking up a destination gives the entry as the very five bytes of the lent sheet.
+use Prim.Native.Nat.{ℕ, _+_, _*_}
+use mathlib.Core.Path.{_≡_}
+use mathlib.Core.Bool.{Bool, not, cond, _&&_}
+use mathlib.Core.List.{List, [], _∷_}
+use lib.ListN.{take, drop}
+use lib.Dec.{ltb, eqb}
+use denote.Ref.{RefT, ptr, now}
+use Rattle.theory.specs.Checks.{declined, _then_}
+use Rattle.machine.specs.Node.{isNode}
+use Rattle.plan.specs.Layout.{shapeOf}
+use Rattle.routes.specs.declared.layout.Entry.{Entry}
+use Rattle.routes.specs.Layout.{entryCount, entriesAt, entriesOf}
+use Rattle.routes.specs.Checks.{sheetError}
+
+-- A lookup checks 1 to 8, 13, then 9.
+unfoldable pub lookupError : List ℕ → List ℕ → ℕ → ℕ
+lookupError p s d = sheetError p s then declined (not (isNode (shapeOf p) d)) 9
+
+-- The number of the first entry for the destination d, or how many entries there are where none is.
+unfoldable pub find : List Entry → ℕ → ℕ
+find [] d = 0
+find (e ∷ es) d = cond (eqb (e .dest) d) 0 (find es d + 1)
+
+-- The lookup is not declined, and the destination is listed.
+unfoldable pub isListed : List ℕ → List ℕ → ℕ → Bool
+isListed p s d = eqb (lookupError p s d) 0 && ltb (find (entriesOf s) d) (entryCount s)
+
+-- That part is empty, at the sheet's start, if the destination is not listed or the lookup is declined.
+unfoldable pub partStart : List ℕ → List ℕ → ℕ → ℕ
+partStart p s d = cond (isListed p s d) (entriesAt + 5 * find (entriesOf s) d) 0
+
+unfoldable pub partLength : List ℕ → List ℕ → ℕ → ℕ
+partLength p s d = cond (isListed p s d) 5 0
+
+-- r is the part of the slice s of len bytes from byte at on: the same memory, and so the same bytes.
+pub record PartOf (s r : RefT (List ℕ)) (at len : ℕ) : Type 0 where
+  pub block : ptr r .0 ≡ ptr s .0
+  pub offset : ptr r .1 ≡ ptr s .1 + at
+  pub bytes : now r ≡ take len (drop at (now s))

@@ -1,0 +1,89 @@
+// Checks 1 to 8 of the plan, then 13; 0 where none declines.
+use crate::kinds::has_via;
+use crate::kinds::is_plain;
+use crate::layout::ENTRIES_AT;
+use crate::layout::Entry;
+use crate::layout::VERSION;
+use crate::layout::count_in;
+use crate::layout::entry_in;
+use crate::layout::size_after;
+use crate::layout::source_in;
+use logic::both;
+use logic::pick;
+use logic::pick_bool;
+use machine::node::is_node;
+use plan::layout::bytes_after;
+use plan::layout::length_in;
+use plan::layout::shape_in;
+use plan::layout::version_in;
+use shape::Shape;
+ghost use mathlib.Core.Path.{_≡_};
+ghost use Rattle.routes.specs.Layout.{entriesOf};
+ghost use Rattle.routes.specs.Checks.{headGood, viaGood, entryGood, entriesGood, sheetGood, sheetError};
+
+fn head_good(sheet: &[u8]) -> bool
+    ensures { λ r. ⌜ r ≡ headGood (now (sheet .entry)) ⌝ }
+{
+    let field = length_in(sheet);
+    let long = both(ENTRIES_AT <= sheet.len(), version_in(sheet) == VERSION);
+    let lent = both(long, field == bytes_after(sheet));
+    both(lent, field == size_after(count_in(sheet)))
+}
+
+fn via_good(shape: Shape, source: u16, e: Entry) -> bool
+    ensures { λ r. ⌜ r ≡ viaGood shape source e ⌝ }
+{
+    let other = both(e.via != source, e.via != e.dest);
+    pick_bool(
+        has_via(e.kind),
+        both(is_node(shape, e.via), other),
+        both(is_plain(e.kind), e.via == 0),
+    )
+}
+
+fn entry_good(shape: Shape, source: u16, e: Entry) -> bool
+    ensures { λ r. ⌜ r ≡ entryGood shape source e ⌝ }
+{
+    let dest = both(is_node(shape, e.dest), e.dest != source);
+    both(dest, via_good(shape, source, e))
+}
+
+fn entries_good(sheet: &[u8], shape: Shape, source: u16) -> bool
+    ensures { λ r. ⌜ r ≡ entriesGood shape source 0 (entriesOf (now (sheet .entry))) ⌝ }
+{
+    let count = count_in(sheet);
+    let mut least: u32 = 0;
+    let mut i: u16 = 0;
+    while i < count {
+        let e = entry_in(sheet, i);
+        let dest = e.dest as u32;
+        if dest < least {
+            return false;
+        }
+        if !entry_good(shape, source, e) {
+            return false;
+        }
+        least = dest + 1;
+        i = i + 1;
+    }
+    true
+}
+
+fn sheet_good(shape: Shape, sheet: &[u8]) -> bool
+    ensures { λ r. ⌜ r ≡ sheetGood shape (now (sheet .entry)) ⌝ }
+{
+    if !head_good(sheet) {
+        return false;
+    }
+    let source = source_in(sheet);
+    both(is_node(shape, source), entries_good(sheet, shape, source))
+}
+
+// The number of the first check that declines the sheet under the plan; 0 where none does.
+pub fn check(plan: &[u8], sheet: &[u8]) -> u8
+    ensures { λ r. ⌜ r ≡ sheetError (now (plan .entry)) (now (sheet .entry)) ⌝ }
+{
+    let error = plan::check(plan);
+    let wrong = pick(sheet_good(shape_in(plan), sheet), 0, 13);
+    pick(error == 0, wrong, error)
+}

@@ -1,0 +1,48 @@
+// The bytes of a route sheet, of at most 4,095 entries.
+use crate::layout::ENTRIES_AT;
+use crate::layout::Entry;
+use crate::layout::VERSION;
+use crate::layout::size_after;
+use crate::reading::Routes;
+use sheet::put_byte;
+use sheet::put_word;
+ghost use mathlib.Core.Path.{_≡_};
+ghost use Prim.Native.Nat.{_+_, _*_, _≤_};
+ghost use lib.ListN.{length, take};
+ghost use Rattle.routes.specs.Steps.{putHead, putEntry};
+ghost use Rattle.routes.specs.Writing.{sheetOf};
+
+fn put_head(bytes: &mut [u8], source: u16, count: u16)
+    requires { ⌜ count ≤ 4095 ⌝ }
+    ensures { λ _. ⌜ now (bytes .exit) ≡ putHead (now (bytes .entry)) source count ⌝ }
+{
+    put_byte(bytes, 0, VERSION);
+    put_word(bytes, 1, size_after(count) as u16);
+    put_word(bytes, 3, source);
+    put_word(bytes, 5, count);
+}
+
+fn put_entry(bytes: &mut [u8], i: u16, e: Entry)
+    ensures { λ _. ⌜ now (bytes .exit) ≡ putEntry (now (bytes .entry)) i e ⌝ }
+{
+    let at = ENTRIES_AT + 5 * (i as usize);
+    put_word(bytes, at, e.dest);
+    put_byte(bytes, at + 2, e.kind);
+    put_word(bytes, at + 3, e.via);
+}
+
+// The sheet at the front of `bytes`.
+pub fn encode(routes: Routes, bytes: &mut [u8])
+    requires { ⌜ routes .count ≤ 4095 ⌝ }
+    requires { ⌜ 7 + 5 * routes .count ≤ length (now bytes) ⌝ }
+    ensures { λ _. ⌜ take (7 + 5 * routes .count) (now (bytes .exit)) ≡ sheetOf routes ⌝ }
+{
+    let count = routes.count;
+    let entries = routes.entries;
+    put_head(bytes, routes.source, count);
+    let mut i: u16 = 0;
+    while i < count {
+        put_entry(bytes, i, entries[i as usize]);
+        i = i + 1;
+    }
+}
