@@ -6,3 +6,4 @@ pub mod Entries
 pub mod Outcomes
 pub mod Planned
 pub mod Pairs
+pub mod Dests

@@ -1,5 +1,6 @@
 // Planning: a pair, and the sheet of a source.
 mod choose;
+pub mod dest;
 pub mod outcome;
 pub mod pair;
 mod rank;
