@@ -7,3 +7,5 @@ pub mod Outcomes
 pub mod Planned
 pub mod Pairs
 pub mod Dests
+pub mod Planning
+pub mod Writing

@@ -5,3 +5,4 @@ pub mod outcome;
 pub mod pair;
 mod rank;
 mod score;
+pub mod sheets;
