@@ -5,3 +5,5 @@ pub mod Lines
 pub mod Sources
 pub mod Filling
 pub mod Texts
+pub mod Long
+pub mod Fits

@@ -12,7 +12,7 @@ use Rattle.planner.specs.Outcome.{told}
 use Rattle.listing_text.specs.declared.field.Field.{Field}
 use Rattle.listing_text.specs.declared.field.Field.the-variants.{Number}
 use Rattle.listing_text.specs.Decimal.{decimal}
-use Rattle.listing_text.specs.Text.{blank, newline, line, refusal, kindField, viaField, lengthField, destLine, destLines}
+use Rattle.listing_text.specs.Text.{blank, newline, line, refusal, kindText, viaText, lengthText, destLine, destLines}
 use Rattle.listing_text.specs.Steps.{putAll, Put, refusedWord, headLine, fieldText, kindIn, viaIn, lengthIn, noOutcome, outcomeLine, outcomeLines}
 use Rattle.listing_text.proofs.Puts.{put-none, put-then}
 
@@ -91,7 +91,7 @@ module _ (o : List ℕ) (at all : ℕ) (os : List Outcome) where
 
 -- The line of what is told is the line of the answer.
 pub line-told : (D : ℕ) (a : Answer) → outcomeLine D (told a) ≡ destLine D a
-unfolding outcomeLine destLine told kindIn viaIn lengthIn fieldText kindField viaField lengthField
+unfolding outcomeLine destLine told kindIn viaIn lengthIn fieldText kindText viaText lengthText
 line-told D (Route (Direct m) len) = refl
 line-told D (Route (Via v m n) len) = refl
 line-told D (Refused e) = refl

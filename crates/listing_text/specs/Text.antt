@@ -1,19 +1,16 @@
 -- 'The listing program': its text, for its input.
 use Prim.Native.Nat.{ℕ, zero, suc}
-use mathlib.Core.Bool.{not}
 use mathlib.Core.List.{List, [], _∷_, _++_}
 use lib.ListN.{length, drop}
 use lib.Dec.{ltb}
 use Rattle.theory.specs.Checks.{declined, _then_}
 use Rattle.sheet.specs.Bytes.{word}
 use Rattle.machine.specs.Number.{nodeCount}
-use Rattle.machine.specs.Node.{isNode}
-use Rattle.plan.specs.Layout.{shapeOf, faultCount, faultsOf}
-use Rattle.plan.specs.Checks.{large, planError}
-use Rattle.dead.specs.Dead.{deadNode}
+use Rattle.plan.specs.Layout.{shapeOf, faultCount}
 use Rattle.choice.specs.Choice.{Direct, Via}
 use Rattle.choice.specs.Pair.{Answer, Route, Refused, pair}
 use Rattle.routes.specs.Kinds.{kindOf}
+use Rattle.planner.specs.Sheet.{sourceError}
 use Rattle.listing_text.specs.Decimal.{decimal}
 
 -- A two-byte source, then a plan sheet.
@@ -23,17 +20,7 @@ sourceIn i = word i 0
 abbrev pub planIn : List ℕ → List ℕ
 planIn i = drop 2 i
 
--- After 1 to 8 the source is checked for 9, then 10.
-unfoldable pub sourceError : List ℕ → ℕ → ℕ
-sourceError p S =
-    planError large p
-    -- a node number outside the plan
-    then declined (not (isNode (shapeOf p) S)) 9
-    -- a dead source
-    then declined (deadNode (faultsOf p) S) 10
-    then 0
-
--- Under two bytes is 1.
+-- After 1 to 8 the source is checked for 9, then 10. Under two bytes is 1.
 unfoldable pub listingError : List ℕ → ℕ
 listingError i = declined (ltb (length i) 2) 1 then sourceError (planIn i) (sourceIn i)
 
@@ -58,24 +45,24 @@ unfoldable pub header : List ℕ → ℕ → List ℕ
 header p S = line (decimal S ∷ decimal (nodeCount (shapeOf p)) ∷ decimal (faultCount p) ∷ [])
 
 -- Kind (0 for direct adaptive).
-unfoldable pub kindField : Answer → List ℕ
-kindField (Route c len) = decimal (kindOf c)
-kindField (Refused e) = decimal e
+unfoldable pub kindText : Answer → List ℕ
+kindText (Route c len) = decimal (kindOf c)
+kindText (Refused e) = decimal e
 
 -- Via or `-` (kinds 0, 1, 10, 11).
-unfoldable pub viaField : Answer → List ℕ
-viaField (Route (Direct m) len) = dash
-viaField (Route (Via v m n) len) = decimal v
-viaField (Refused e) = dash
+unfoldable pub viaText : Answer → List ℕ
+viaText (Route (Direct m) len) = dash
+viaText (Route (Via v m n) len) = decimal v
+viaText (Refused e) = dash
 
 -- Length or `-` (kinds 10 and 11).
-unfoldable pub lengthField : Answer → List ℕ
-lengthField (Route c len) = decimal len
-lengthField (Refused e) = dash
+unfoldable pub lengthText : Answer → List ℕ
+lengthText (Route c len) = decimal len
+lengthText (Refused e) = dash
 
 -- The line of the destination D, for which planning answers a.
 unfoldable pub destLine : ℕ → Answer → List ℕ
-destLine D a = line (decimal D ∷ kindField a ∷ viaField a ∷ lengthField a ∷ [])
+destLine D a = line (decimal D ∷ kindText a ∷ viaText a ∷ lengthText a ∷ [])
 
 -- A line for each node below n in rising order, the source included.
 unfoldable pub destLines : List ℕ → ℕ → ℕ → List ℕ

@@ -6,7 +6,8 @@ use plan::check;
 use plan::layout::shape_in;
 use sheet::word_at;
 ghost use mathlib.Core.Path.{_≡_};
-ghost use Rattle.listing_text.specs.Text.{sourceIn, sourceError, listingError};
+ghost use Rattle.planner.specs.Sheet.{sourceError};
+ghost use Rattle.listing_text.specs.Text.{sourceIn, listingError};
 
 fn source_error(plan: &[u8], source: u16) -> u8
     ensures { λ r. ⌜ r ≡ sourceError (now (plan .entry)) source ⌝ }

@@ -8,4 +8,6 @@ mod outcomes;
 mod refusal;
 pub mod text;
 
+pub use text::INPUT_BYTES;
+pub use text::TEXT_BYTES;
 pub use text::listing_text;

@@ -15,7 +15,7 @@ ghost use Rattle.machine.specs.Number.{nodeCount};
 ghost use Rattle.plan.specs.Layout.{shapeOf};
 ghost use Rattle.choice.specs.Pair.{pair};
 ghost use Rattle.planner.specs.Outcome.{told};
-ghost use Rattle.listing_text.specs.Text.{sourceError};
+ghost use Rattle.planner.specs.Sheet.{sourceError};
 ghost use Rattle.listing_text.specs.Steps.{noOutcome, Planned};
 
 // By the destination's number, of the first `all`. Each destination is planned once.

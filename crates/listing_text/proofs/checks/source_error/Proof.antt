@@ -1,4 +1,4 @@
-use Rattle.listing_text.proofs.Sources.{source-error}
+use Rattle.planner.proofs.Writing.{source-error}
 use borrow.Author.Needs.{needs}
 use Rattle.listing_text.proofs.checks.source_error.Statement.{statement}
 use Rattle.listing_text.proofs.checks.source_error.Tie as tie
