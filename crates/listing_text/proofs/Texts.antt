@@ -9,7 +9,7 @@ use Rattle.plan.specs.Layout.{shapeOf}
 use Rattle.choice.specs.Pair.{pair}
 use Rattle.planner.specs.declared.outcome.Outcome.{Outcome}
 use Rattle.planner.specs.Outcome.{told}
-use Rattle.listing_text.specs.declared.text.Head.{Head}
+use Rattle.listing_text.specs.declared.writing.Head.{Head}
 use Rattle.listing_text.specs.Text.{sourceIn, planIn, listingError, header, refusal, listingOf}
 use Rattle.listing_text.specs.Steps.{Put, noOutcome, headLine, headOf, outcomeLines, outcomesText}
 use Rattle.listing_text.proofs.Puts.{put-then}

@@ -15,7 +15,7 @@ use Rattle.choice.specs.Choice.{Direct, Via}
 use Rattle.routes.specs.Kinds.{kindOf}
 use Rattle.listing_text.specs.declared.field.Field.{Field}
 use Rattle.listing_text.specs.declared.field.Field.the-variants.{Number, Dash}
-use Rattle.listing_text.specs.declared.text.Head.{Head}
+use Rattle.listing_text.specs.declared.writing.Head.{Head}
 use Rattle.listing_text.specs.Decimal.{decimal}
 use Rattle.listing_text.specs.Text.{dash, line}
 

@@ -6,8 +6,8 @@ mod header;
 mod line;
 mod outcomes;
 mod refusal;
-pub mod text;
+pub mod writing;
 
-pub use text::INPUT_BYTES;
-pub use text::TEXT_BYTES;
-pub use text::listing_text;
+pub use writing::INPUT_BYTES;
+pub use writing::TEXT_BYTES;
+pub use writing::listing_text;

@@ -1,7 +1,7 @@
 use Rattle.listing_text.proofs.Texts.{text-put}
 use borrow.Author.Needs.{needs}
-use Rattle.listing_text.proofs.text.put_text.Statement.{statement}
-use Rattle.listing_text.proofs.text.put_text.Tie as tie
+use Rattle.listing_text.proofs.writing.put_text.Statement.{statement}
+use Rattle.listing_text.proofs.writing.put_text.Tie as tie
 
 put-header-requires : tie.Need-put-header-requires
 put-header-requires c κs = search needs

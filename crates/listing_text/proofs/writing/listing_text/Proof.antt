@@ -3,8 +3,8 @@ use borrow.Author.Needs.{needs}
 use mathlib.Core.Path.{sym, _∙_}
 use Rattle.listing_text.proofs.Sources.{rest, long-input, source-sound}
 use Rattle.listing_text.proofs.Texts.{head-small, refused-text, planned-text}
-use Rattle.listing_text.proofs.text.listing_text.Statement.{statement}
-use Rattle.listing_text.proofs.text.listing_text.Tie as tie
+use Rattle.listing_text.proofs.writing.listing_text.Statement.{statement}
+use Rattle.listing_text.proofs.writing.listing_text.Tie as tie
 
 listing-error-requires : tie.Need-listing-error-requires
 listing-error-requires c κs = tt

@@ -1,7 +1,7 @@
 use Rattle.listing_text.proofs.Puts.{too-short, wrote}
 use borrow.Author.Needs.{needs}
-use Rattle.listing_text.proofs.text.write_text.Statement.{statement}
-use Rattle.listing_text.proofs.text.write_text.Tie as tie
+use Rattle.listing_text.proofs.writing.write_text.Statement.{statement}
+use Rattle.listing_text.proofs.writing.write_text.Tie as tie
 
 slice-aggregate-put-text : tie.Need-slice-aggregate-put-text
 slice-aggregate-put-text c = search needs

@@ -1,7 +1,7 @@
 use Rattle.listing_text.proofs.Puts.{too-short, wrote}
 use borrow.Author.Needs.{needs}
-use Rattle.listing_text.proofs.text.write_refusal.Statement.{statement}
-use Rattle.listing_text.proofs.text.write_refusal.Tie as tie
+use Rattle.listing_text.proofs.writing.write_refusal.Statement.{statement}
+use Rattle.listing_text.proofs.writing.write_refusal.Tie as tie
 
 slice-aggregate-put-refusal : tie.Need-slice-aggregate-put-refusal
 slice-aggregate-put-refusal c = search needs

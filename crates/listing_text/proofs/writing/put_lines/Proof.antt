@@ -2,8 +2,8 @@ use native.Mathlib.Omega.{arith}
 use Prim.Native.Nat.{_-_}
 use Rattle.listing_text.proofs.Lines.{Writing, begin, onward, ended}
 use Rattle.listing_text.proofs.Puts.{put-same}
-use Rattle.listing_text.proofs.text.put_lines.Statement.{statement}
-use Rattle.listing_text.proofs.text.put_lines.Tie as tie
+use Rattle.listing_text.proofs.writing.put_lines.Statement.{statement}
+use Rattle.listing_text.proofs.writing.put_lines.Tie as tie
 
 abbrev Inv-loop : tie.InvT-loop
 Inv-loop out₀ at all outcomes next₀ d₀ out next d = Writing out₀ at all outcomes out next d

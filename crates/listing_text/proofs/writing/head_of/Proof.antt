@@ -1,7 +1,7 @@
 use Rattle.listing_text.specs.Steps.{headOf}
 use borrow.Author.Needs.{needs}
-use Rattle.listing_text.proofs.text.head_of.Statement.{statement}
-use Rattle.listing_text.proofs.text.head_of.Tie as tie
+use Rattle.listing_text.proofs.writing.head_of.Statement.{statement}
+use Rattle.listing_text.proofs.writing.head_of.Tie as tie
 
 shape-in-requires : tie.Need-shape-in-requires
 shape-in-requires c κs = search needs
