@@ -1,8 +1,7 @@
 // The answer to one line.
-use case_fields::unreadable;
+use case_fields::answers::unreadable;
 use packet_cases::step;
 use packet_cases::walk;
-use plan_cases::dead_cases;
 use plan_cases::read_cases;
 use plan_cases::write_cases;
 use text::compare::same;
