@@ -1,5 +1,4 @@
 // Answers each line of the standard input, a test case, by a line of the standard output: the case and what the planner answers.
-mod answer;
 mod lines;
 
 use libc::STDIN_FILENO;
@@ -31,12 +30,12 @@ fn write_line(line: &[u8], out: &mut [u8], skip: bool) {
     if skip {
         return;
     }
-    let count = answer::answer(line, out);
+    let count = operations::answer(line, out);
     io::write_all(STDOUT_FILENO, front(out, count));
 }
 
 fn write_too_long(start: &[u8], out: &mut [u8]) {
-    let count = answer::too_long(start, out);
+    let count = operations::too_long(start, out);
     io::write_all(STDOUT_FILENO, front(out, count));
 }
 

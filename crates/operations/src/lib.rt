@@ -1,4 +1,4 @@
-// The answer to one line.
+// The answer to a test case, which is one line: the operation that its first word names is asked.
 use case_fields::answers::unreadable;
 use packet_cases::step;
 use packet_cases::walk;
