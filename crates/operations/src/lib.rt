@@ -4,6 +4,8 @@ use packet_cases::step;
 use packet_cases::walk;
 use plan_cases::read_cases;
 use plan_cases::write_cases;
+use route_cases::back_cases;
+use route_cases::lookup_cases;
 use text::compare::same;
 use text::field;
 use text::part::front;
@@ -38,6 +40,17 @@ fn plan_operation(name: &[u8], given: &[u8], out: &mut [u8], at: usize) -> usize
     }
     if same(name, b"masks") {
         return dead_cases::answer_masks(given, out, at);
+    }
+    route_operation(name, given, out, at)
+}
+
+// The operations on route sheets.
+fn route_operation(name: &[u8], given: &[u8], out: &mut [u8], at: usize) -> usize {
+    if same(name, b"lookup") {
+        return lookup_cases::answer(given, out, at);
+    }
+    if same(name, b"back") {
+        return back_cases::answer(given, out, at);
     }
     unreadable(out, at)
 }
