@@ -6,3 +6,6 @@ pub mod Entries
 pub mod Outcomes
 pub mod Planned
 pub mod Pairs
+pub mod Dests
+pub mod Planning
+pub mod Writing

@@ -106,7 +106,7 @@ module _ (p masks : List ℕ) (S D : ℕ) (A : Accepted p S D) (are : (n : ℕ) 
   to-node : Node (shapeOf p) D
   to-node = node-of (shapeOf p) D (A .target)
 
-  route-is : planned (torus (shapeOf p)) (soundBy masks) (legsTo D) (beforeIn (shapeOf p) S D) S (choices (nodeCount (shapeOf p)) S D) ≡ routeIn p S D
+  pub route-is : planned (torus (shapeOf p)) (soundBy masks) (legsTo D) (beforeIn (shapeOf p) S D) S (choices (nodeCount (shapeOf p)) S D) ≡ routeIn p S D
   unfolding routeIn
   route-is =
       route-same (shapeOf p) (from-node .sound) S D (from-node .below) (to-node .below) (soundBy masks) (soundIn p)

@@ -28,7 +28,7 @@ fn pick(b: bool, x: u32, y: u32) -> u32
     if b { x } else { y }
 }
 
-fn adaptive(e: u8) -> bool
+pub fn adaptive(e: u8) -> bool
     ensures { λ r. ⌜ r ≡ adaptiveIn e ⌝ }
 {
     e % 2 == 1
@@ -40,7 +40,7 @@ fn deterministic(e: u8) -> bool
     e / 2 % 2 == 1
 }
 
-fn hops(e: u8) -> u32
+pub fn hops(e: u8) -> u32
     ensures { λ r. ⌜ r ≡ hopsIn e ⌝ }
     ensures { λ r. ⌜ r < 64 ⌝ }
 {
