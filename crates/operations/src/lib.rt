@@ -4,6 +4,9 @@ use packet_cases::step;
 use packet_cases::walk;
 use plan_cases::read_cases;
 use plan_cases::write_cases;
+use planner_cases::pair_cases;
+use planner_cases::run_cases;
+use planner_cases::sheet_cases;
 use route_cases::back_cases;
 use route_cases::lookup_cases;
 use text::compare::same;
@@ -51,6 +54,20 @@ fn route_operation(name: &[u8], given: &[u8], out: &mut [u8], at: usize) -> usiz
     }
     if same(name, b"back") {
         return back_cases::answer(given, out, at);
+    }
+    planner_operation(name, given, out, at)
+}
+
+// The operations that plan.
+fn planner_operation(name: &[u8], given: &[u8], out: &mut [u8], at: usize) -> usize {
+    if same(name, b"pair") {
+        return pair_cases::answer(given, out, at);
+    }
+    if same(name, b"sheet") {
+        return sheet_cases::answer(given, out, at);
+    }
+    if same(name, b"run") {
+        return run_cases::answer(given, out, at);
     }
     unreadable(out, at)
 }
