@@ -5,7 +5,6 @@ use packet_cases::walk;
 use plan_cases::read_cases;
 use plan_cases::write_cases;
 use planner_cases::pair_cases;
-use planner_cases::run_cases;
 use planner_cases::sheet_cases;
 use route_cases::back_cases;
 use route_cases::lookup_cases;

@@ -1,19 +1,21 @@
-// The operation `run`: a pair is planned, and its new packet is given to a list of step and walk calls under the plan's extents and wrap.
-use crate::calls::make_calls;
-use crate::outcomes::new_packet;
-use crate::outcomes::number_of;
-use crate::outcomes::put_legs;
+// Test cases of runs, a line each: a pair is planned, and its new packet is given to a list of step and walk calls under the plan's extents and wrap.
+mod new_packet;
+
+use calls::make_calls;
 use case_fields::answers::put_number;
 use case_fields::answers::unreadable;
 use case_fields::nodes::read_destination;
 use case_fields::nodes::read_source;
 use case_fields::sheets::PLAN_BYTES;
 use case_fields::sheets::read_plan;
+use new_packet::new_packet;
 use packet::Packet;
 use packet_cases::packets::put_packet;
 use plan::shape_of;
 use planner::outcome::Outcome;
 use planner::pair::pair;
+use planner_cases::outcomes::number_of;
+use planner_cases::outcomes::put_legs;
 use shape::Shape;
 use text::decimal::Word;
 use text::field;

@@ -2,8 +2,8 @@ use mathlib.Core.Path.{_≡_}
 use Prim.Native.Nat.{_+_, _-_}
 use lib.ListN.{length}
 use native.Mathlib.Omega.{arith}
-use Rattle.planner_cases.proofs.calls.make_calls.Statement.{statement}
-use Rattle.planner_cases.proofs.calls.make_calls.Tie as tie
+use Rattle.calls.proofs.make_calls.Statement.{statement}
+use Rattle.calls.proofs.make_calls.Tie as tie
 
 abbrev Inv-loop : tie.InvT-loop
 Inv-loop s shape out₀ at run₀ start₀ out run start = length out ≡ length out₀
