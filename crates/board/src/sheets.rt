@@ -62,7 +62,7 @@ pub extern "C" fn nafthurm_lookup(plan: &[u8], sheet: &[u8], destination: u16) -
 }
 
 #[no_mangle]
-pub extern "C" fn nafthurm_route(plan: &[u8], sheet: &[u8], destination: u16) -> RouteForm
+pub extern "C" fn nafthurm_lookup_route(plan: &[u8], sheet: &[u8], destination: u16) -> RouteForm
     ensures { λ r. ⌜ r ≡ routeFor (told (says (now (plan .entry)) (now (sheet .entry)) destination)) ⌝ }
 {
     route_for(route(plan, sheet, destination))
