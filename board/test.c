@@ -313,18 +313,18 @@ static void stack_use(void) {
     HOLD(most <= NAFTHURM_STACK);
     HOLD(of_pair <= NAFTHURM_STACK_PAIR);
     HOLD(of_sheet <= NAFTHURM_STACK_SHEET);
-    printf("stack: pair %zu, write_sheet %zu, any other call at most %zu bytes\n", of_pair, of_sheet, most);
+    printf("nafthurm_pair %zu bytes, nafthurm_write_sheet %zu, any other call at most %zu\n", of_pair, of_sheet, most);
 }
 
+/* test [--stack]: a sanitizer and valgrind have stacks of their own, so that the stack is asked for by itself. */
 int main(int count, char **words) {
+    if (count > 1 && strcmp(words[1], "--stack") == 0) return stack_use(), 0;
     forms();
     worked_pairs();
     worked_plans();
     worked_sheet();
     worked_lookups();
     worked_packets();
-    /* A sanitizer and valgrind have stacks of their own. */
-    if (count > 1 && strcmp(words[1], "--stack") == 0) stack_use();
-    puts("W and its edges: as document 01 has them");
+    puts("W and its edges are as document 01 has them");
     return 0;
 }
