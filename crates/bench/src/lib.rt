@@ -1,8 +1,12 @@
-// What the bench calls from Rust: a walk of a packet with two legs, mode 0 adaptive, else deterministic.
+// What the bench calls from Rust.
 use machine::leg::Leg;
 use machine::leg::Mode;
 use packet::Packet;
+use planner::outcome::Outcome;
+use planner::pair::pair;
+use planner::sheets::write_sheet;
 use shape::Shape;
+use sheet::output::Written;
 
 fn mode_of(mode: u8) -> Mode {
     if mode == 0 {
@@ -12,7 +16,7 @@ fn mode_of(mode: u8) -> Mode {
     }
 }
 
-// The hops that the walk takes.
+// The hops that the walk of a packet with two legs takes; mode 0 is adaptive, any other deterministic.
 #[no_mangle]
 pub extern "C" fn nafthurm_walk(
     x: u8,
@@ -42,4 +46,23 @@ pub extern "C" fn nafthurm_walk(
     };
     let walked = packet.walk(shape, dirs);
     walked.hops
+}
+
+// The route's length; 255 where there is none.
+#[no_mangle]
+pub extern "C" fn nafthurm_pair(plan: &[u8], source: u16, dest: u16) -> u8 {
+    match pair(plan, source, dest) {
+        Outcome::Direct(_, length) => length,
+        Outcome::Via(_, _, _, length) => length,
+        Outcome::Refused(_) => 255,
+    }
+}
+
+// The bytes of the source's sheet; 0 where it is refused.
+#[no_mangle]
+pub extern "C" fn nafthurm_sheet(plan: &[u8], source: u16, out: &mut [u8]) -> usize {
+    match write_sheet(plan, source, out) {
+        Written::Bytes(n) => n,
+        Written::Refused(_) => 0,
+    }
 }

@@ -1,13 +1,14 @@
 -- Planning one destination of a source answers what planning the pair does.
-use Prim.Native.Nat.{ℕ, zero, suc, _+_, _≤_, _<_}
+use Prim.Native.Nat.{ℕ, zero, suc, _+_, _*_, _/_, _%_, _≤_, _<_}
 use native.Mathlib.Omega.{arith}
 use mathlib.Core.Path.{_≡_, refl, sym, ap, _∙_}
-use mathlib.Core.Bool.{true, false}
+use mathlib.Core.Bool.{Bool, true, false, false≢true}
+use mathlib.Core.Logic.{_⊎_, inl, inr, ⊎-elim}
 use mathlib.Core.List.{List, [], _∷_}
 use mathlib.Core.Option.{some}
 use lib.ListN.{getD, length}
 use lib.Dec.{eqb}
-use borrow.Author.Tests.{eq-eqb, ne-eqb, eqb-true, le-ltb}
+use borrow.Author.Tests.{eq-eqb, ne-eqb, eqb-true, eqb-false, le-ltb, le-leb, lt-leb}
 use Rattle.theory.proofs.Cases.{test, by-le}
 use Rattle.sheet.specs.Bytes.{listFrom}
 use Rattle.sheet.proofs.Records.{from-length, from-at}
@@ -15,13 +16,17 @@ use Rattle.shape.specs.declared.shape.Shape.{Shape}
 use Rattle.shape.specs.Shape.{shapeError}
 use Rattle.machine.specs.declared.leg.Mode.the-variants.{Adaptive}
 use Rattle.machine.specs.Number.{nodeCount}
+use Rattle.machine.specs.Hop.{distance}
 use Rattle.machine.specs.Node.{isNode, arePair, countAnswer}
 use Rattle.machine.proofs.Nodes.{node-of}
+use Rattle.machine.proofs.Laws.{triangle}
 use Rattle.plan.specs.Layout.{shapeOf, faultsOf}
 use Rattle.plan.specs.Checks.{large, planError}
 use Rattle.plan.specs.Reading.{isPlan}
 use Rattle.dead.specs.Dead.{deadNode, bitOf, maskAnswer, nodeAnswer}
 use Rattle.tables.specs.Entry.{soundBy, clearFrom, entry, towardAnswer, outwardAnswer}
+use Rattle.tables.specs.Fill.{nearAnswer}
+use Rattle.tables.proofs.Between.{near-between, near-either}
 use Rattle.tables.proofs.Entries.{entry-adaptive, entry-hops}
 use Rattle.choice.specs.Choice.{Direct, legsTo, lengthFrom}
 use Rattle.choice.specs.Pair.{Route, routeIn, pairError, chosen, answered, pair}
@@ -29,9 +34,10 @@ use Rattle.choice.proofs.First.{direct-first}
 use Rattle.planner.specs.declared.outcome.Outcome.{Outcome}
 use Rattle.planner.specs.Outcome.{told}
 use Rattle.planner.specs.Least.{least}
-use Rattle.planner.specs.Score.{adaptiveIn, hopsIn, scoreAt, firstScore, decoded, outcomeIn}
-use Rattle.planner.specs.Dest.{outcomeTo}
-use Rattle.planner.proofs.Planned.{nodes-most}
+use Rattle.planner.specs.Score.{lengthPlace, detsPlace, viasPlace, unclear, adaptiveIn, hopsIn, modeScore, legScore, firstScore, viaScore, scoreAt, decoded, outcomeIn}
+use Rattle.planner.specs.Dest.{lengthIs, scannedTo, outcomeTo}
+use Rattle.planner.proofs.Planned.{Tables, nodes-most, tables-of}
+use Rattle.planner.proofs.Leasts.{least-first, least-each, least-one}
 use Rattle.planner.proofs.Pairs.{Accepted, route-is, outcome-is}
 
 -- ---- two tables that agree
@@ -62,12 +68,25 @@ node-low s n h =
     (λ e. rw e)
 
 -- The table toward D as a list.
+toward-past : (s : Shape) (masks : List ℕ) (D n : ℕ) → 4096 ≤ n → towardAnswer s masks D n ≡ 0
+unfolding towardAnswer arePair
+toward-past s masks D n h = rw (node-low s n h)
+
 toward-list : (s : Shape) (masks : List ℕ) (D n : ℕ) → getD (listFrom (towardAnswer s masks D) 0 4096) n 0 ≡ towardAnswer s masks D n
 unfolding towardAnswer arePair
 toward-list s masks D n =
     by-le 4096 n
     (λ h. get-past (listFrom (towardAnswer s masks D) 0 4096) n (omega (arith, from-length (towardAnswer s masks D) 4096 0)) ∙ rw (node-low s n h))
     (λ h. from-at (towardAnswer s masks D) 4096 0 n 0 h ∙ ap (towardAnswer s masks D) (omega arith))
+
+-- The limited table as a list.
+near-list : (s : Shape) (masks : List ℕ) (D S n : ℕ) → getD (listFrom (nearAnswer s masks D S) 0 4096) n 0 ≡ nearAnswer s masks D S n
+near-list s masks D S n =
+    by-le 4096 n
+    (λ h.
+    get-past (listFrom (nearAnswer s masks D S) 0 4096) n (omega (arith, from-length (nearAnswer s masks D S) 4096 0))
+    ∙ ⊎-elim (λ e. sym (e ∙ toward-past s masks D n h)) sym (near-either s masks D S n))
+    (λ h. from-at (nearAnswer s masks D S) 4096 0 n 0 h ∙ ap (nearAnswer s masks D S) (omega arith))
 
 -- ---- the code's steps
 pub node-small : (s : Shape) (n : ℕ) → isNode s n ≡ true → n < 4096
@@ -76,39 +95,123 @@ node-small s n k = omega (arith, node-of s n k .below, nodes-most s (node-of s n
 pub count-of : (s : Shape) (n r : ℕ) → isNode s n ≡ true → r ≡ countAnswer s → r ≡ nodeCount s
 count-of s n r k e = e ∙ rw (eq-eqb (shapeError s) 0 (node-of s n k .sound))
 
-pub count-small : (s : Shape) (n r : ℕ) → isNode s n ≡ true → r ≡ countAnswer s → r ≤ 4096
-count-small s n r k e = omega (arith, count-of s n r k e, nodes-most s (node-of s n k .sound))
+pub count-small : (s : Shape) (r : ℕ) → r ≡ countAnswer s → r ≤ 4096
+count-small s r e =
+    test (eqb (shapeError s) 0)
+    (λ z. omega (arith, (rw z at e), nodes-most s (eqb-true (shapeError s) 0 z)))
+    (λ z. omega (arith, (rw z at e)))
 
-module _ (s : Shape) (masks dead from : List ℕ) (D : ℕ) where
-  pub no-node : isNode s D ≡ false → Outcome.Refused 9 ≡ outcomeTo s masks dead from D
+module _ (s : Shape) (masks from : List ℕ) (S D : ℕ) where
+  abbrev nearOutcome : Outcome
+  nearOutcome = outcomeIn from (listFrom (nearAnswer s masks D S) 0 4096) (countAnswer s) D
+
+  near-outcome : (part : List ℕ) (all : ℕ) (o : Outcome) → all ≡ countAnswer s → ((n : ℕ) → getD part n 0 ≡ nearAnswer s masks D S n) → o ≡ outcomeIn from part all D → o ≡ nearOutcome
+  near-outcome part all o c are q = q ∙ rw c (outcome-same from part (listFrom (nearAnswer s masks D S) 0 4096) (countAnswer s) D (λ v. are v ∙ sym (near-list s masks D S v)))
+
+  pub found-near :
+      (part : List ℕ) (all : ℕ) (o : Outcome) (len : ℕ) (b : Bool) → all ≡ countAnswer s → ((n : ℕ) → getD part n 0 ≡ nearAnswer s masks D S n) → o ≡ outcomeIn from part all D →
+      len ≡ hopsIn (getD from D 0) → b ≡ lengthIs o len → b ≡ true → o ≡ scannedTo s masks from S D
+  unfolding scannedTo
+  found-near part all o len b c are q el eb t =
+      let e = near-outcome part all o c are q in
+      let short : lengthIs nearOutcome (hopsIn (getD from D 0)) ≡ true = rw (e, el) at (sym eb ∙ t) in
+      e ∙ rw short
+
+  pub found-far :
+      (part toward : List ℕ) (all : ℕ) (o r : Outcome) (len : ℕ) (b : Bool) → all ≡ countAnswer s → ((n : ℕ) → getD part n 0 ≡ nearAnswer s masks D S n) → o ≡ outcomeIn from part all D →
+      len ≡ hopsIn (getD from D 0) → b ≡ lengthIs o len → b ≡ false →
+      ((n : ℕ) → getD toward n 0 ≡ towardAnswer s masks D n) → r ≡ outcomeIn from toward all D → r ≡ scannedTo s masks from S D
+  unfolding scannedTo
+  found-far part toward all o r len b c are q el eb t back er =
+      let e = near-outcome part all o c are q in
+      let short : lengthIs nearOutcome (hopsIn (getD from D 0)) ≡ false = rw (e, el) at (sym eb ∙ t) in
+      er ∙ rw (short, c) (outcome-same from toward (listFrom (towardAnswer s masks D) 0 4096) (countAnswer s) D (λ v. back v ∙ sym (toward-list s masks D v)))
+
+module _ (s : Shape) (masks dead from : List ℕ) (S D : ℕ) where
+  pub no-node : isNode s D ≡ false → Outcome.Refused 9 ≡ outcomeTo s masks dead from S D
   unfolding outcomeTo
   no-node e = rw e
 
   module _ (node : isNode s D ≡ true) where
-    pub dead-dest : (getD dead D 0 ≡ 0 → ⊥) → Outcome.Refused 10 ≡ outcomeTo s masks dead from D
+    pub dead-dest : (getD dead D 0 ≡ 0 → ⊥) → Outcome.Refused 10 ≡ outcomeTo s masks dead from S D
     unfolding outcomeTo
     dead-dest h = rw (node, ne-eqb (getD dead D 0) 0 h)
 
     module _ (sound : getD dead D 0 ≡ 0) where
-      pub direct-dest : (k : ℕ) → adaptiveIn (getD from D 0) ≡ true → k ≡ hopsIn (getD from D 0) → Outcome.Direct Adaptive k ≡ outcomeTo s masks dead from D
+      pub direct-dest : (k : ℕ) → adaptiveIn (getD from D 0) ≡ true → k ≡ hopsIn (getD from D 0) → Outcome.Direct Adaptive k ≡ outcomeTo s masks dead from S D
       unfolding outcomeTo
       direct-dest k a e = rw (node, eq-eqb (getD dead D 0) 0 sound, a, e)
 
-      scanned-dest : adaptiveIn (getD from D 0) ≡ false → outcomeIn from (listFrom (towardAnswer s masks D) 0 4096) (nodeCount s) D ≡ outcomeTo s masks dead from D
+      pub scanned-dest : adaptiveIn (getD from D 0) ≡ false → scannedTo s masks from S D ≡ outcomeTo s masks dead from S D
       unfolding outcomeTo
       scanned-dest a = rw (node, eq-eqb (getD dead D 0) 0 sound, a)
 
-      pub planned-dest :
-          (toward : List ℕ) (count : ℕ) (r : Outcome) →
-          adaptiveIn (getD from D 0) ≡ false →
-          ((n : ℕ) → getD toward n 0 ≡ towardAnswer s masks D n) →
-          count ≡ countAnswer s →
-          r ≡ outcomeIn from toward count D →
-          r ≡ outcomeTo s masks dead from D
-      planned-dest toward count r a back c q =
-          q
-          ∙ rw (count-of s D count node c) (outcome-same from toward (listFrom (towardAnswer s masks D) 0 4096) (nodeCount s) D (λ v. back v ∙ sym (toward-list s masks D v)))
-          ∙ scanned-dest a
+-- ---- a route among the nodes near the shortest ways that is as short as these is the first of all
+decoded-length : (k h : ℕ) → lengthIs (decoded k) h ≡ true → (k < unclear) × (k / lengthPlace ≡ h)
+unfolding decoded lengthIs
+decoded-length k h e =
+    by-le unclear k
+    (λ l. absurd (false≢true (rw (le-leb unclear k l) at e)))
+    (λ l. (l, test (eqb (k % detsPlace / viasPlace) 0) (λ b. eqb-true (k / lengthPlace) h (rw (lt-leb unclear k l, b) at e)) (λ b. eqb-true (k / lengthPlace) h (rw (lt-leb unclear k l, b) at e))))
+
+score-least : (from toward : List ℕ) (v : ℕ) → (hopsIn (getD from v 0) + hopsIn (getD toward v 0)) * lengthPlace ≤ scoreAt from toward v
+unfolding scoreAt viaScore firstScore legScore
+score-least from toward v = omega arith
+
+score-unclear : (from toward : List ℕ) (v : ℕ) → getD toward v 0 ≡ 0 → unclear ≤ scoreAt from toward v
+unfolding scoreAt viaScore firstScore legScore modeScore
+score-unclear from toward v e = rw e (omega arith)
+
+module _ (s : Shape) (sound : ℕ → ℕ → Bool) (S D : ℕ) (from toward part : List ℕ) (T : Tables s sound S D from toward)
+    (either : (n : ℕ) → n < nodeCount s → (getD part n 0 ≡ getD toward n 0) ⊎ (getD part n 0 ≡ 0))
+    (between : (n : ℕ) → n < nodeCount s → distance s S n + distance s n D ≡ distance s S D → getD part n 0 ≡ getD toward n 0) where
+  abbrev direct-score : ℕ
+  direct-score = firstScore (getD from D 0)
+
+  abbrev near-score : ℕ
+  near-score = least (scoreAt from part) direct-score 0 (nodeCount s)
+
+  abbrev full-score : ℕ
+  full-score = least (scoreAt from toward) direct-score 0 (nodeCount s)
+
+  full-most : near-score < unclear → full-score ≤ near-score
+  full-most h =
+      ⊎-elim
+      (λ e. omega (arith, least-first (scoreAt from toward) direct-score 0 (nodeCount s)))
+      (λ a.
+      let v = a .node in
+      let l : v < nodeCount s = omega (arith, a .below) in
+      ⊎-elim
+      (λ q. omega (arith, a .is, score-same from part toward v q, least-each (scoreAt from toward) direct-score 0 (nodeCount s) v (omega arith) (a .below)))
+      (λ q. absurd (omega (arith, a .is, score-unclear from part v q)))
+      (either v l))
+      (least-one (scoreAt from part) direct-score 0 (nodeCount s))
+
+  near-most : near-score / lengthPlace ≡ distance s S D → near-score ≤ full-score
+  near-most q =
+      ⊎-elim
+      (λ e. omega (arith, least-first (scoreAt from part) direct-score 0 (nodeCount s)))
+      (λ a.
+      let v = a .node in
+      let l : v < nodeCount s = omega (arith, a .below) in
+      let way = triangle s (T .ok) (distance s S v) S v D (T .source) l (T .target) refl in
+      test (eqb (distance s S v + distance s v D) (distance s S D))
+      (λ b. omega (arith, a .is, score-same from part toward v (between v l (eqb-true (distance s S v + distance s v D) (distance s S D) b)), least-each (scoreAt from part) direct-score 0 (nodeCount s) v (omega arith) (a .below)))
+      (λ b.
+      let f : hopsIn (getD from v 0) ≡ distance s S v = rw (T .out v l) (entry-hops s sound S v) in
+      let g : hopsIn (getD toward v 0) ≡ distance s v D = rw (T .back v l) (entry-hops s sound v D) in
+      let more : distance s S D + 1 ≤ hopsIn (getD from v 0) + hopsIn (getD toward v 0) = omega (arith, eqb-false (distance s S v + distance s v D) (distance s S D) b) in
+      omega (arith, a .is, score-least from toward v)))
+      (least-one (scoreAt from toward) direct-score 0 (nodeCount s))
+
+  near-first : lengthIs (outcomeIn from part (nodeCount s) D) (distance s S D) ≡ true → outcomeIn from part (nodeCount s) D ≡ outcomeIn from toward (nodeCount s) D
+  unfolding outcomeIn
+  near-first e =
+      let k = decoded-length near-score (distance s S D) e in
+      let a = full-most (k .0) in
+      let c = near-most (k .1) in
+      let same : near-score ≡ full-score = omega arith in
+      ap decoded same
 
 told-direct : (k : ℕ) → Outcome.Direct Adaptive k ≡ told (Route (Direct Adaptive) k)
 unfolding told
@@ -153,18 +256,42 @@ module _ (p : List ℕ) (S : ℕ) (s : Shape) (masks dead from : List ℕ) (r : 
       let route : routeIn p S D ≡ some (Direct Adaptive) = sym (route-is p masks S D A (r .links)) ∙ direct-first (shapeOf p) (from-node .sound) S D (from-node .below) (to-node .below) (soundBy masks) clear in
       rw (route, leg-is, entry-hops (shapeOf p) (soundBy masks) S D) (ap (Route (Direct Adaptive)) (omega arith))
 
-  scanned : outcomeIn from (listFrom (towardAnswer s masks D) 0 4096) (nodeCount s) D ≡ told (chosen (shapeOf p) S D (routeIn p S D))
-  scanned =
-      outcome-is p masks S D A (r .links) from (listFrom (towardAnswer s masks D) 0 4096) (nodeCount s) (rw (r .shape) at (r .legs))
-      (λ n. rw (r .shape) (toward-list (shapeOf p) masks D n)) (ap nodeCount (r .shape))
+  tables : Tables (shapeOf p) (soundBy masks) S D from (listFrom (towardAnswer (shapeOf p) masks D) 0 4096)
+  tables = tables-of (shapeOf p) masks S D from _ (r .source) node (rw (r .shape) at (r .legs)) (λ n. toward-list (shapeOf p) masks D n)
 
-  pub dest-planned : outcomeTo s masks dead from D ≡ told (pair p S D)
+  full : outcomeIn from (listFrom (towardAnswer (shapeOf p) masks D) 0 4096) (nodeCount (shapeOf p)) D ≡ told (chosen (shapeOf p) S D (routeIn p S D))
+  full = outcome-is p masks S D A (r .links) from (listFrom (towardAnswer (shapeOf p) masks D) 0 4096) (nodeCount (shapeOf p)) (rw (r .shape) at (r .legs)) (λ n. toward-list (shapeOf p) masks D n) refl
+
+  pair-is : arePair (shapeOf p) S D ≡ true
+  unfolding arePair
+  pair-is = rw (r .source, node)
+
+  short : lengthIs (outcomeIn from (listFrom (nearAnswer (shapeOf p) masks D S) 0 4096) (nodeCount (shapeOf p)) D) (distance (shapeOf p) S D) ≡ true →
+      outcomeIn from (listFrom (nearAnswer (shapeOf p) masks D S) 0 4096) (nodeCount (shapeOf p)) D ≡ outcomeIn from (listFrom (towardAnswer (shapeOf p) masks D) 0 4096) (nodeCount (shapeOf p)) D
+  short =
+      near-first (shapeOf p) (soundBy masks) S D from (listFrom (towardAnswer (shapeOf p) masks D) 0 4096) (listFrom (nearAnswer (shapeOf p) masks D S) 0 4096) tables
+      (λ n l. ⊎-elim (λ e. inl (near-list (shapeOf p) masks D S n ∙ e ∙ sym (toward-list (shapeOf p) masks D n))) (λ e. inr (near-list (shapeOf p) masks D S n ∙ e)) (near-either (shapeOf p) masks D S n))
+      (λ n l q. near-list (shapeOf p) masks D S n ∙ near-between (shapeOf p) D S pair-is masks n l q ∙ sym (toward-list (shapeOf p) masks D n))
+
+  hops-are : hopsIn (getD from D 0) ≡ distance (shapeOf p) S D
+  hops-are = rw leg-is (entry-hops (shapeOf p) (soundBy masks) S D)
+
+  scanned : scannedTo (shapeOf p) masks from S D ≡ told (chosen (shapeOf p) S D (routeIn p S D))
+  unfolding scannedTo
+  scanned =
+      let c : countAnswer (shapeOf p) ≡ nodeCount (shapeOf p) = rw (eq-eqb (shapeError (shapeOf p)) 0 (node-of (shapeOf p) D node .sound)) in
+      rw (c, hops-are)
+      (test (lengthIs (outcomeIn from (listFrom (nearAnswer (shapeOf p) masks D S) 0 4096) (nodeCount (shapeOf p)) D) (distance (shapeOf p) S D))
+      (λ e. rw e (short e ∙ full))
+      (λ e. rw e full))
+
+  pub dest-planned : outcomeTo s masks dead from S D ≡ told (pair p S D)
   dest-planned =
       let here : isNode s D ≡ true = rw (r .shape) node in
       test (deadNode (faultsOf p) D)
-      (λ d. sym (dead-dest s masks dead from D here (λ z. omega (arith, sym z ∙ dead-is ∙ ap bitOf d))) ∙ sym (pair-dead d))
+      (λ d. sym (dead-dest s masks dead from S D here (λ z. omega (arith, sym z ∙ dead-is ∙ ap bitOf d))) ∙ sym (pair-dead d))
       (λ d.
       let alive : getD dead D 0 ≡ 0 = dead-is ∙ ap bitOf d in
       test (adaptiveIn (getD from D 0))
-      (λ a. sym (direct-dest s masks dead from D here alive (hopsIn (getD from D 0)) a refl) ∙ told-direct (hopsIn (getD from D 0)) ∙ sym (ap told (pair-alive d ∙ direct a)))
-      (λ a. sym (scanned-dest s masks dead from D here alive a) ∙ scanned ∙ sym (ap told (pair-alive d))))
+      (λ a. sym (direct-dest s masks dead from S D here alive (hopsIn (getD from D 0)) a refl) ∙ told-direct (hopsIn (getD from D 0)) ∙ sym (ap told (pair-alive d ∙ direct a)))
+      (λ a. sym (scanned-dest s masks dead from S D here alive a) ∙ rw (r .shape) scanned ∙ sym (ap told (pair-alive d))))

@@ -174,7 +174,7 @@ module _ (p : List ℕ) (S : ℕ) where
     pub onward :
         (shape : Shape) (masks dead from : List ℕ) → Ready p S shape masks dead from →
         (o : Outcome) (r : Route) (more : Bool) (at : ℕ) (new put : Entry) (next : ℕ) →
-        o ≡ outcomeTo shape masks dead from d →
+        o ≡ outcomeTo shape masks dead from S d →
         r ≡ routeOf o →
         more ≡ isListed r →
         at ≡ lastAt listed →
@@ -234,7 +234,7 @@ module _ (p : List ℕ) (S : ℕ) (s : Shape) (masks dead from : List ℕ) (all 
 
   pub turn :
       d < all → (o : Outcome) (r : Route) (more : Bool) (at : ℕ) (new put : Entry) (next : ℕ) →
-      o ≡ outcomeTo s masks dead from d →
+      o ≡ outcomeTo s masks dead from S d →
       r ≡ routeOf o →
       more ≡ isListed r →
       at ≡ lastAt listed →

@@ -7,9 +7,45 @@ use machine::leg::Mode;
 use machine::node::count;
 use machine::node::is_node;
 use shape::Shape;
+use tables::near::near;
 use tables::toward::toward;
 ghost use mathlib.Core.Path.{_≡_};
-ghost use Rattle.planner.specs.Dest.{outcomeTo};
+ghost use Prim.Native.Nat.{_≤_, _<_};
+ghost use lib.ListN.{getD};
+ghost use Rattle.planner.specs.Dest.{lengthIs, scannedTo, outcomeTo};
+
+// A route of this length.
+fn length_is(outcome: Outcome, length: u32) -> bool
+    ensures { λ r. ⌜ r ≡ lengthIs outcome length ⌝ }
+{
+    match outcome {
+        Outcome::Direct(_, found) => found as u32 == length,
+        Outcome::Via(_, _, _, found) => found as u32 == length,
+        Outcome::Refused(_) => false,
+    }
+}
+
+// The first clear choice: sought first among the nodes near the shortest ways; where it is longer than these, among all.
+fn scanned_to(
+    shape: Shape,
+    masks: &[u8; 4096],
+    from: &[u8; 4096],
+    source: u16,
+    dest: u16,
+) -> Outcome
+    requires { ⌜ dest < 4096 ⌝ }
+    ensures { λ r. ⌜ r ≡ scannedTo shape (now (masks .entry)) (now (from .entry)) source dest ⌝ }
+{
+    let all = count(shape);
+    let at = dest as usize;
+    let part = near(shape, masks, dest, source);
+    let first = choose(all, from, &part, dest);
+    if length_is(first, hops(from[at])) {
+        return first;
+    }
+    let to = toward(shape, masks, dest);
+    choose(all, from, &to, dest)
+}
 
 // `masks` and `dead`: the dead links and nodes; `from`: the legs from the source, which is sound. A direct adaptive leg that is clear is the first
 // choice.
@@ -18,9 +54,10 @@ pub fn outcome_to(
     masks: &[u8; 4096],
     dead: &[u8; 4096],
     from: &[u8; 4096],
+    source: u16,
     dest: u16,
 ) -> Outcome
-    ensures { λ r. ⌜ r ≡ outcomeTo shape (now (masks .entry)) (now (dead .entry)) (now (from .entry)) dest ⌝ }
+    ensures { λ r. ⌜ r ≡ outcomeTo shape (now (masks .entry)) (now (dead .entry)) (now (from .entry)) source dest ⌝ }
 {
     if !is_node(shape, dest) {
         return Outcome::Refused(9);
@@ -33,6 +70,5 @@ pub fn outcome_to(
     if adaptive(leg) {
         return Outcome::Direct(Mode::Adaptive, hops(leg) as u8);
     }
-    let to = toward(shape, masks, dest);
-    choose(count(shape), from, &to, dest)
+    scanned_to(shape, masks, from, source, dest)
 }

@@ -99,7 +99,7 @@ fn routes_from(plan: &[u8], source: u16) -> Routes
     let mut listed: usize = 0;
     let mut d: u16 = 0;
     while d < all {
-        let route = route_of(outcome_to(shape, &masks, &dead, &from, d));
+        let route = route_of(outcome_to(shape, &masks, &dead, &from, source, d));
         let more = is_listed(route);
         let at = last_at(listed);
         entries[at] = pick_entry(more, entry_for(d, route), entries[at]);

@@ -8,3 +8,4 @@ pub mod LastHop
 pub mod LastRun
 pub mod LastJudging
 pub mod Answers
+pub mod Between

@@ -10,11 +10,7 @@ use Rattle.theory.proofs.Bools.{and-true}
 use Rattle.theory.proofs.Cases.{by-le}
 use Rattle.shape.specs.Axis.{place, axisUseful, ahead}
 use Rattle.shape.proofs.AxisLaws.{place-below, useful-is}
-use Rattle.tables.specs.Order.{plusSide, turned, placeAt}
-
--- The number of a place in the order.
-pub rank : ℕ → ℕ → ℕ → ℕ → ℕ
-rank len side q p = turned len side (ahead len q p)
+use Rattle.tables.specs.Order.{plusSide, turned, placeAt, rank}
 
 -- ---- the side of plus keeps its hops, the other is turned round
 module _ (len side : ℕ) where

@@ -1,7 +1,7 @@
 -- The order in which the nodes are visited from a centre: by the numbers that their ranks would have as coordinates. Each node is visited once, and
--- after the nodes to which a useful hop toward the centre leads.
+-- after the nodes to which a useful hop toward the centre leads. The visit may be limited to the lower ranks of each dimension.
 use Prim.Native.Nat.{ℕ, suc, _+_, _*_, _/_, _≤_, _<_}
-use mathlib.Core.Bool.{Bool, true, not}
+use mathlib.Core.Bool.{Bool, true}
 use mathlib.Core.Path.{_≡_, refl, sym, ap, _∙_}
 use native.Mathlib.Nat.{mul-le-mul-left, mul-suc, mul-add, mod-lt}
 use native.Mathlib.Omega.{arith}
@@ -14,41 +14,40 @@ use Rattle.shape.specs.declared.shape.Coords.{Coords}
 use Rattle.shape.specs.declared.shape.Dim.{Dim}
 use Rattle.shape.specs.declared.shape.Dim.the-variants.{X, Y, Z}
 use Rattle.shape.specs.Shape.{shapeError, extentOf, coordOf, wrappedIn, put}
+use Rattle.shape.specs.Axis.{place}
 use Rattle.shape.proofs.Shapes.{sound}
 use Rattle.shape.proofs.AxisLaws.{place-below}
 use Rattle.machine.specs.Number.{nodeCount, numberOf, coordsOf, Inside}
 use Rattle.machine.specs.Hop.{dirDim, dirPlus, neighbour, useful}
-use Rattle.machine.specs.ByCoords.{movedAlong, usefulAlong, movedAt, usefulAt}
+use Rattle.machine.specs.ByCoords.{movedAlong, movedAt, usefulAt}
 use Rattle.machine.proofs.Numbers.{number-below, coords-number, number-coords, inside, low-digit, high-digit}
-use Rattle.machine.proofs.ByCoords.{inside-at, neighbour-coords, useful-at}
+use Rattle.machine.proofs.ByCoords.{inside-at, neighbour-below, neighbour-coords, useful-at}
 use Rattle.tables.specs.Order.{plusSide, further}
-use Rattle.tables.specs.Places.{rankedPlace}
-use Rattle.tables.proofs.Ranks.{rank, rank-place, place-rank, rank-below, place-in, side-most, useful-rank, previous-rank}
+use Rattle.tables.specs.Places.{rankedPlace, rankIn, ranked, Limits}
+use Rattle.tables.proofs.Ranks.{rank-place, place-rank, rank-below, place-in, side-most, useful-rank}
 
 abbrev side : Shape → Coords → Dim → ℕ
 side s t d = plusSide (extentOf s d) (wrappedIn s d) (coordOf t d)
 
--- The rank of a place of dimension d.
-abbrev pub rankIn : Shape → Coords → Dim → ℕ → ℕ
-rankIn s t d p = rank (extentOf s d) (side s t d) (coordOf t d) p
-
--- The coordinates with these ranks, and the ranks of coordinates.
+-- The coordinates with these ranks.
 abbrev pub placed : Shape → Coords → Coords → Coords
 placed s t ranks = record { x = rankedPlace s t X (ranks .x); y = rankedPlace s t Y (ranks .y); z = rankedPlace s t Z (ranks .z) }
 
-abbrev pub ranked : Shape → Coords → Coords → Coords
-ranked s t c = record { x = rankIn s t X (c .x); y = rankIn s t Y (c .y); z = rankIn s t Z (c .z) }
+-- The node n is a node of the shape, and its ranks as seen from t are below the limits.
+pub record In (s L : Shape) (t n : ℕ) : Type 0 where
+  pub below : n < nodeCount s
+  pub ranks : Inside L (ranked s (coordsOf s t) (coordsOf s n))
 
 -- With t as the centre: the node that is visited as number m, and the number in the order of a node n.
-pub nodeAt : Shape → ℕ → ℕ → ℕ
-nodeAt s t m = numberOf s (placed s (coordsOf s t) (coordsOf s m))
+pub nodeAt : Shape → Shape → ℕ → ℕ → ℕ
+nodeAt s L t m = numberOf s (placed s (coordsOf s t) (coordsOf L m))
 
-pub visit : Shape → ℕ → ℕ → ℕ
-visit s t n = numberOf s (ranked s (coordsOf s t) (coordsOf s n))
+pub visit : Shape → Shape → ℕ → ℕ → ℕ
+visit s L t n = numberOf L (ranked s (coordsOf s t) (coordsOf s n))
 
-pub node-at : (s : Shape) (t m : ℕ) → nodeAt s t m ≡ numberOf s (placed s (coordsOf s t) (coordsOf s m))
+pub node-at : (s L : Shape) (t m : ℕ) → nodeAt s L t m ≡ numberOf s (placed s (coordsOf s t) (coordsOf L m))
 unfolding nodeAt
-node-at s t m = refl
+node-at s L t m = refl
 
 pub inside-along : (s : Shape) (c : Coords) → Inside s c → (d : Dim) (plus : Bool) → Inside s (movedAlong s c d plus)
 inside-along s c i X plus = record { x = place-below (s .x) (c .x) plus (i .x); y = i .y; z = i .z }
@@ -149,24 +148,6 @@ module _ (s : Shape) (h : shapeError s ≡ 0) where
         one : (d : Dim) (k : ℕ) → k < extentOf s d → rankIn s centre d (rankedPlace s centre d k) ≡ k
         one d k l = rank-place (extentOf s d) (coordOf centre d) (within d) (side s centre d) (most d) k l
 
-    -- ---- each node is visited once
-    pub node-below : (m : ℕ) → m < nodeCount s → nodeAt s t m < nodeCount s
-    unfolding nodeAt
-    node-below m k = number-below s h _ (inside-placed _ (inside s h m k))
-
-    pub visit-below : (n : ℕ) → n < nodeCount s → visit s t n < nodeCount s
-    unfolding visit
-    visit-below n k = number-below s h _ (inside-ranked _ (inside s h n k))
-
-    pub visit-node : (m : ℕ) → m < nodeCount s → visit s t (nodeAt s t m) ≡ m
-    unfolding visit nodeAt
-    visit-node m k = let i = inside s h m k in rw (coords-number s h _ (inside-placed _ i), ranked-placed _ i) (number-coords s h m)
-
-    pub node-visit : (n : ℕ) → n < nodeCount s → nodeAt s t (visit s t n) ≡ n
-    unfolding visit nodeAt
-    node-visit n k = let i = inside s h n k in rw (coords-number s h _ (inside-ranked _ i), placed-ranked _ i) (number-coords s h n)
-
-    -- ---- and after the nodes that are one hop nearer
     ranked-put : (c : Coords) (d : Dim) (v : ℕ) → ranked s centre (put c d v) ≡ put (ranked s centre c) d (rankIn s centre d v)
     ranked-put c X v = refl
     ranked-put c Y v = refl
@@ -177,24 +158,56 @@ module _ (s : Shape) (h : shapeError s ≡ 0) where
     ranked-at c Y = refl
     ranked-at c Z = refl
 
-    lower : (c : Coords) (d : Dim) (v : ℕ) → rankIn s centre d v < rankIn s centre d (coordOf c d) → numberOf s (ranked s centre (put c d v)) < numberOf s (ranked s centre c)
-    lower c d v l = rw (ranked-put c d v) (number-put s (ranked s centre c) d _ (sound s h X .low) (sound s h Y .low) (rw (ranked-at c d) l))
+    module _ (L : Shape) (lim : Limits s L) where
+      pub inside-limits : (ranks : Coords) → Inside L ranks → Inside s ranks
+      inside-limits ranks i =
+          let a = i .x in
+          let b = i .y in
+          let c = i .z in
+          record { x = omega (arith, lim .x); y = omega (arith, lim .y); z = omega (arith, lim .z) }
 
-    module _ (n : ℕ) (hn : n < nodeCount s) where
-      at : (d : Dim) → coordOf (coordsOf s n) d < extentOf s d
-      at d = inside-at s (coordsOf s n) (inside s h n hn) d
+      -- ---- each node is visited once
+      pub node-in : (m : ℕ) → m < nodeCount L → In s L t (nodeAt s L t m)
+      unfolding nodeAt
+      node-in m k =
+          let i = inside L (lim .ok) m k in
+          let j = inside-placed _ (inside-limits _ i) in
+          record { below = number-below s h _ j; ranks = rw (coords-number s h _ j, ranked-placed _ (inside-limits _ i)) i }
 
-      -- Toward the centre a useful hop leads to a node that is visited before.
-      pub visit-before : (dir : ℕ) → useful s n t dir ≡ true → visit s t (neighbour s n dir) < visit s t n
-      unfolding visit movedAt usefulAt
-      visit-before dir u =
-          let d = dirDim dir in
-          rw (neighbour-coords s h n hn dir)
-          (lower (coordsOf s n) d _ (useful-rank (extentOf s d) (wrappedIn s d) _ (coordOf centre d) (dirPlus dir) (at d) (within d) (and-true (leb dir 5) _ (rw (useful-at s h n hn t dir) at u) .1)))
-
-      -- On the way from the centre in a dimension, in a useful direction, the node before n is visited before n.
-      pub visit-previous : (d : Dim) (plus : Bool) → usefulAlong s centre (coordsOf s n) d plus ≡ true → visit s t (numberOf s (movedAlong s (coordsOf s n) d (not plus))) < visit s t n
+      pub visit-below : (n : ℕ) → In s L t n → visit s L t n < nodeCount L
       unfolding visit
-      visit-previous d plus u =
-          rw (coords-number s h _ (inside-along s (coordsOf s n) (inside s h n hn) d (not plus)))
-          (lower (coordsOf s n) d _ (previous-rank (extentOf s d) (wrappedIn s d) _ (coordOf centre d) plus (at d) (within d) u))
+      visit-below n k = number-below L (lim .ok) _ (k .ranks)
+
+      pub visit-node : (m : ℕ) → m < nodeCount L → visit s L t (nodeAt s L t m) ≡ m
+      unfolding visit nodeAt
+      visit-node m k =
+          let i = inside-limits _ (inside L (lim .ok) m k) in
+          rw (coords-number s h _ (inside-placed _ i), ranked-placed _ i) (number-coords L (lim .ok) m)
+
+      pub node-visit : (n : ℕ) → In s L t n → nodeAt s L t (visit s L t n) ≡ n
+      unfolding visit nodeAt
+      node-visit n k = rw (coords-number L (lim .ok) _ (k .ranks), placed-ranked _ (inside s h n (k .below))) (number-coords s h n)
+
+      -- ---- and after the nodes that are one hop nearer, which are within the limits as well
+      lower : (c : Coords) (d : Dim) (v : ℕ) → rankIn s centre d v < rankIn s centre d (coordOf c d) → numberOf L (ranked s centre (put c d v)) < numberOf L (ranked s centre c)
+      lower c d v l = rw (ranked-put c d v) (number-put L (ranked s centre c) d _ (sound L (lim .ok) X .low) (sound L (lim .ok) Y .low) (rw (ranked-at c d) l))
+
+      lower-in : (c : Coords) (d : Dim) (v : ℕ) → rankIn s centre d v < rankIn s centre d (coordOf c d) → Inside L (ranked s centre c) → Inside L (ranked s centre (put c d v))
+      lower-in c X v l i = let a = i .x in record { x = omega arith; y = i .y; z = i .z }
+      lower-in c Y v l i = let a = i .y in record { x = i .x; y = omega arith; z = i .z }
+      lower-in c Z v l i = let a = i .z in record { x = i .x; y = i .y; z = omega arith }
+
+      module _ (n : ℕ) (k : In s L t n) (dir : ℕ) (u : useful s n t dir ≡ true) where
+        drop : rankIn s centre (dirDim dir) (place (extentOf s (dirDim dir)) (coordOf (coordsOf s n) (dirDim dir)) (dirPlus dir)) < rankIn s centre (dirDim dir) (coordOf (coordsOf s n) (dirDim dir))
+        unfolding usefulAt
+        drop =
+            let d = dirDim dir in
+            useful-rank (extentOf s d) (wrappedIn s d) _ (coordOf centre d) (dirPlus dir) (inside-at s (coordsOf s n) (inside s h n (k .below)) d) (within d) (and-true (leb dir 5) _ (rw (useful-at s h n (k .below) t dir) at u) .1)
+
+        pub visit-before : visit s L t (neighbour s n dir) < visit s L t n
+        unfolding visit movedAt
+        visit-before = rw (neighbour-coords s h n (k .below) dir) (lower (coordsOf s n) (dirDim dir) _ drop)
+
+        pub in-before : In s L t (neighbour s n dir)
+        unfolding movedAt
+        in-before = record { below = neighbour-below s h n (k .below) dir; ranks = rw (neighbour-coords s h n (k .below) dir) (lower-in (coordsOf s n) (dirDim dir) _ drop (k .ranks)) }

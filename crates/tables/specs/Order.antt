@@ -4,6 +4,7 @@ use mathlib.Core.Bool.{Bool, cond}
 use lib.Dec.{ltb}
 use Rattle.shape.specs.declared.shape.Shape.{Shape}
 use Rattle.shape.specs.declared.shape.Coords.{Coords}
+use Rattle.shape.specs.Axis.{ahead}
 
 -- How many places come going plus, the centre q included: in a ring those less than half of it away.
 unfoldable pub plusSide : ℕ → Bool → ℕ → ℕ
@@ -18,6 +19,10 @@ unfoldable pub placeAt : ℕ → ℕ → ℕ → ℕ → ℕ
 placeAt len side q i =
     let p = q + turned len side i in
     cond (ltb p len) p (p - len)
+
+-- The rank of the place p: the number of a place in the order.
+unfoldable pub rank : ℕ → ℕ → ℕ → ℕ → ℕ
+rank len side q p = turned len side (ahead len q p)
 
 -- The ranks of the node that comes next.
 unfoldable pub further : Shape → Coords → Coords

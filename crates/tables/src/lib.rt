@@ -4,6 +4,7 @@ mod entry;
 mod fill;
 mod judge;
 mod last;
+pub mod near;
 mod order;
 pub mod outward;
 mod place;

@@ -5,8 +5,9 @@ use shape::Shape;
 ghost use mathlib.Core.Path.{_≡_};
 ghost use Prim.Native.Nat.{_≤_, _<_};
 ghost use Rattle.shape.specs.Shape.{shapeError};
+ghost use Rattle.shape.specs.Axis.{ahead};
 ghost use Rattle.machine.specs.Number.{Inside};
-ghost use Rattle.tables.specs.Order.{plusSide, turned, placeAt, further};
+ghost use Rattle.tables.specs.Order.{plusSide, turned, placeAt, rank, further};
 
 // How many places come going plus, the centre q included.
 pub fn plus_side(len: u8, ring: bool, q: u8) -> u8
@@ -33,6 +34,24 @@ pub fn place_at(len: u8, side: u8, q: u8, i: u8) -> u8
 {
     let p = q + turned(len, side, i);
     if p < len { p } else { p - len }
+}
+
+// The hops going plus from q to p.
+fn ahead(len: u8, q: u8, p: u8) -> u8
+    requires { ⌜ (len ≤ 16) × (q < len) × (p < len) ⌝ }
+    ensures { λ r. ⌜ r ≡ ahead len q p ⌝ }
+    ensures { λ r. ⌜ r < len ⌝ }
+{
+    if q <= p { p - q } else { len - (q - p) }
+}
+
+// The rank of the place p, as seen from q.
+pub fn rank(len: u8, side: u8, q: u8, p: u8) -> u8
+    requires { ⌜ (len ≤ 16) × (side ≤ len) × (q < len) × (p < len) ⌝ }
+    ensures { λ r. ⌜ r ≡ rank len side q p ⌝ }
+    ensures { λ r. ⌜ r < len ⌝ }
+{
+    turned(len, side, ahead(len, q, p))
 }
 
 // The ranks of the node that comes next.

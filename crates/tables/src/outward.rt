@@ -13,7 +13,7 @@ pub fn outward(shape: Shape, masks: &[u8; 4096], source: u16) -> [u8; 4096]
     ensures { λ r. ⌜ ((n : ℕ) → getD r n 0 ≡ outwardAnswer shape (now (masks .entry)) source n) ⌝ }
 {
     if is_node(shape, source) {
-        fill(Legs::Outward, shape, masks, source)
+        fill(Legs::Outward, shape, masks, source, shape)
     } else {
         [0u8; 4096]
     }

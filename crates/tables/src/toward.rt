@@ -13,7 +13,7 @@ pub fn toward(shape: Shape, masks: &[u8; 4096], target: u16) -> [u8; 4096]
     ensures { λ r. ⌜ ((n : ℕ) → getD r n 0 ≡ towardAnswer shape (now (masks .entry)) target n) ⌝ }
 {
     if is_node(shape, target) {
-        fill(Legs::Toward, shape, masks, target)
+        fill(Legs::Toward, shape, masks, target, shape)
     } else {
         [0u8; 4096]
     }

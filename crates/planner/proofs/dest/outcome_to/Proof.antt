@@ -1,4 +1,4 @@
-use Rattle.planner.proofs.Dests.{node-small, count-small, no-node, dead-dest, direct-dest, planned-dest}
+use Rattle.planner.proofs.Dests.{node-small, no-node, dead-dest, direct-dest, scanned-dest}
 use mathlib.Core.Path.{sym, _∙_}
 use borrow.Author.Tests.{not-true, not-false}
 use borrow.Author.Needs.{needs}
@@ -9,13 +9,13 @@ is-node-requires : tie.Need-is-node-requires
 is-node-requires c κs = search needs
 
 returns : tie.Need-returns
-returns c = no-node _ _ _ _ _ (sym (c .before .is-node .ensures) ∙ not-true _ (c .if1 .taken))
+returns c = no-node _ _ _ _ _ _ (sym (c .before .is-node .ensures) ∙ not-true _ (c .if1 .taken))
 
 element-copy-out-if2 : tie.Need-element-copy-out-if2
 element-copy-out-if2 c = node-small _ _ (sym (c .before .is-node .ensures) ∙ not-false _ (c .if1 .left))
 
 returns-2 : tie.Need-returns-2
-returns-2 c = dead-dest _ _ _ _ _ (sym (c .before .before .before .is-node .ensures) ∙ not-false _ (c .before .before .if1 .left)) (c .if2 .taken)
+returns-2 c = dead-dest _ _ _ _ _ _ (sym (c .before .before .before .is-node .ensures) ∙ not-false _ (c .before .before .if1 .left)) (c .if2 .taken)
 
 element-copy-out-leg : tie.Need-element-copy-out-leg
 element-copy-out-leg c = node-small _ _ (sym (c .before .before .before .is-node .ensures) ∙ not-false _ (c .before .before .if1 .left))
@@ -30,19 +30,13 @@ cast-t19 : tie.Need-cast-t19
 cast-t19 c = search needs
 
 returns-3 : tie.Need-returns-3
-returns-3 c = direct-dest _ _ _ _ _ (sym (c .before .before .before .before .before .before .before .is-node .ensures) ∙ not-false _ (c .before .before .before .before .before .before .if1 .left)) (c .before .before .before .before .if2 .left) _ (sym (c .before .before .adaptive .ensures) ∙ c .before .if3 .taken) (c .hops .ensures .0)
+returns-3 c = direct-dest _ _ _ _ _ _ (sym (c .before .before .before .before .before .before .before .is-node .ensures) ∙ not-false _ (c .before .before .before .before .before .before .if1 .left)) (c .before .before .before .before .if2 .left) _ (sym (c .before .before .adaptive .ensures) ∙ c .before .if3 .taken) (c .hops .ensures .0)
 
-toward-requires : tie.Need-toward-requires
-toward-requires c κs = search needs
-
-count-requires : tie.Need-count-requires
-count-requires c κs = search needs
-
-choose-requires : tie.Need-choose-requires
-choose-requires c κs = let k = sym (c .before .before .before .before .before .before .before .before .before .is-node .ensures) ∙ not-false _ (c .before .before .before .before .before .before .before .before .if1 .left) in (count-small _ _ _ k (c .before .count .ensures), node-small _ _ k)
+scanned-to-requires : tie.Need-scanned-to-requires
+scanned-to-requires c κs = node-small _ _ (sym (c .before .before .before .before .before .before .is-node .ensures) ∙ not-false _ (c .before .before .before .before .before .if1 .left))
 
 returns-4 : tie.Need-returns-4
-returns-4 c = planned-dest _ _ _ _ _ (sym (c .before .before .before .before .before .before .before .before .before .before .is-node .ensures) ∙ not-false _ (c .before .before .before .before .before .before .before .before .before .if1 .left)) (c .before .before .before .before .before .before .before .if2 .left) _ _ _ (sym (c .before .before .before .before .before .adaptive .ensures) ∙ c .before .before .before .before .if3 .left) (c .before .before .before .toward .ensures) (c .before .before .count .ensures) (c .choose .ensures)
+returns-4 c = c .scanned-to .ensures ∙ scanned-dest _ _ _ _ _ _ (sym (c .before .before .before .before .before .before .before .is-node .ensures) ∙ not-false _ (c .before .before .before .before .before .before .if1 .left)) (c .before .before .before .before .if2 .left) (sym (c .before .before .adaptive .ensures) ∙ c .before .if3 .left)
 
 pub outcome-to-spec : {M : Type 1} → statement M
 outcome-to-spec =
@@ -57,7 +51,5 @@ outcome-to-spec =
     hops-requires
     cast-t19
     returns-3
-    toward-requires
-    count-requires
-    choose-requires
+    scanned-to-requires
     returns-4)

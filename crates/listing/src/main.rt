@@ -1,0 +1,42 @@
+// The listing program: reads a two-byte source, then a plan sheet, on standard input, and prints the listing.
+use libc::STDIN_FILENO;
+use libc::STDOUT_FILENO;
+use listing_text::INPUT_BYTES;
+use listing_text::TEXT_BYTES;
+use listing_text::listing_text;
+use sheet::output::Written;
+use text::part::front;
+
+// `out` has TEXT_BYTES, so that no text is refused.
+fn write_listing(input: &[u8], out: &mut [u8]) {
+    let Written::Bytes(size) = listing_text(input, out) else {
+        return;
+    };
+    io::write_all(STDOUT_FILENO, front(out, size));
+}
+
+// Reads some of the input, and answers how many bytes came.
+fn skip_some() -> usize {
+    let mut rest = [0u8; 4096];
+    io::read_full(STDIN_FILENO, &mut rest)
+}
+
+// Reads the input to its end. A proved loop has to end, and nothing says that the input does. So it counts its turns down, from a number that no run
+// uses up.
+fn skip_rest() {
+    let mut turns = u64::MAX;
+    while turns > 0 {
+        if skip_some() == 0 {
+            return;
+        }
+        turns -= 1;
+    }
+}
+
+fn main() {
+    let mut input = [0u8; INPUT_BYTES];
+    let mut out = [0u8; TEXT_BYTES];
+    let size = io::read_full(STDIN_FILENO, &mut input);
+    skip_rest();
+    write_listing(&input[..size], &mut out);
+}

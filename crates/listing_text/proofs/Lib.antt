@@ -1,0 +1,9 @@
+-- `Decimals` has the laws of a number's digits, `Puts` those of what is written, `Lines` those of the lines, `Sources` what the checks leave, `Texts` the text as a whole.
+pub mod Decimals
+pub mod Puts
+pub mod Lines
+pub mod Sources
+pub mod Filling
+pub mod Texts
+pub mod Long
+pub mod Fits

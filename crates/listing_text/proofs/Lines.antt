@@ -1,0 +1,102 @@
+-- The lines, as they are written and as they are defined.
+use Prim.Native.Nat.{ℕ, zero, suc, _+_, _*_, _≤_, _<_}
+use native.Mathlib.Numerals.{add-one}
+use native.Mathlib.Omega.{arith}
+use mathlib.Core.Path.{_≡_, refl}
+use mathlib.Core.List.{List, [], _∷_, _++_, append-assoc}
+use lib.ListN.{getD}
+use Rattle.choice.specs.Choice.{Direct, Via}
+use Rattle.choice.specs.Pair.{Answer, Route, Refused, pair}
+use Rattle.planner.specs.declared.outcome.Outcome.{Outcome}
+use Rattle.planner.specs.Outcome.{told}
+use Rattle.listing_text.specs.declared.field.Field.{Field}
+use Rattle.listing_text.specs.declared.field.Field.the-variants.{Number}
+use Rattle.listing_text.specs.Decimal.{decimal}
+use Rattle.listing_text.specs.Text.{blank, newline, line, refusal, kindText, viaText, lengthText, destLine, destLines}
+use Rattle.listing_text.specs.Steps.{putAll, Put, refusedWord, headLine, fieldText, kindIn, viaIn, lengthIn, noOutcome, outcomeLine, outcomeLines}
+use Rattle.listing_text.proofs.Puts.{put-none, put-then}
+
+line-more : (f g : List ℕ) (fs : List (List ℕ)) → (f ++ blank ∷ []) ++ line (g ∷ fs) ≡ line (f ∷ (g ∷ fs))
+unfolding line
+line-more f g fs = append-assoc f (blank ∷ []) (line (g ∷ fs))
+
+-- A field with its blank, then the rest of the line.
+pub field-then : {o t u : List ℕ} {at k r : ℕ} (f g : List ℕ) (fs : List (List ℕ)) → Put o t at k (f ++ blank ∷ []) → Put t u k r (line (g ∷ fs)) → Put o u at r (line (f ∷ (g ∷ fs)))
+field-then f g fs p q = rw (line-more f g fs) at (put-then p q)
+
+-- The last field, with the newline.
+pub last-field : {o t : List ℕ} {at r : ℕ} (f : List ℕ) → Put o t at r (f ++ newline ∷ []) → Put o t at r (line (f ∷ []))
+unfolding line
+last-field f p = p
+
+-- The first line, from its three fields.
+pub head-put :
+    {o t u v : List ℕ} {at j k r : ℕ} (a b c : ℕ) →
+    Put o t at j (fieldText (Number a) ++ blank ∷ []) →
+    Put t u j k (fieldText (Number b) ++ blank ∷ []) →
+    Put u v k r (fieldText (Number c) ++ newline ∷ []) →
+    Put o v at r (headLine a b c)
+unfolding headLine fieldText
+head-put a b c p q x = field-then (decimal a) (decimal b) (decimal c ∷ []) p (field-then (decimal b) (decimal c) [] q (last-field (decimal c) x))
+
+-- The line of a destination, from its four fields.
+pub line-put :
+    {o t u v w : List ℕ} {at i j k r : ℕ} (D K : ℕ) (via len : Field) (a : Outcome) →
+    K ≡ kindIn a →
+    via ≡ viaIn a →
+    len ≡ lengthIn a →
+    Put o t at i (fieldText (Number D) ++ blank ∷ []) →
+    Put t u i j (fieldText (Number K) ++ blank ∷ []) →
+    Put u v j k (fieldText via ++ blank ∷ []) →
+    Put v w k r (fieldText len ++ newline ∷ []) →
+    Put o w at r (outcomeLine D a)
+unfolding outcomeLine fieldText
+line-put D K via len a ek ev el p q x y =
+    rw (← ek, ← ev, ← el)
+    (field-then (decimal D) (decimal K) (fieldText via ∷ fieldText len ∷ []) p
+    (field-then (decimal K) (fieldText via) (fieldText len ∷ []) q
+    (field-then (fieldText via) (fieldText len) [] x (last-field (fieldText len) y))))
+
+-- A refusal, from its word and its number.
+pub refusal-put : {o t u : List ℕ} {r : ℕ} (e : ℕ) → t ≡ putAll o 0 refusedWord → Put t u 8 r (fieldText (Number e) ++ newline ∷ []) → Put o u 0 r (refusal e)
+unfolding refusal line fieldText
+refusal-put {o} {t} {u} {r} e w p =
+    let first : Put o t 0 8 refusedWord = record { bytes = w; next = refl } in
+    put-then first p
+
+-- ---- the lines of the destinations, one after the other
+module _ (o : List ℕ) (at all : ℕ) (os : List Outcome) where
+  pub record Writing (t : List ℕ) (next d : ℕ) : Type 0 where
+    pub small : all ≤ 4096
+    pub inside : d ≤ all
+    pub near : next ≤ 18 + 24 * d
+    pub put : Put o t at next (outcomeLines os d)
+
+  pub begin : at ≤ 18 → all ≤ 4096 → Writing o at 0
+  unfolding outcomeLines
+  begin h k = record { small = k; inside = omega arith; near = omega arith; put = put-none o at }
+
+  pub onward : (t u : List ℕ) (next r d : ℕ) → Writing t next d → Put t u next r (outcomeLine d (getD os d noOutcome)) → r ≤ next + 24 → d < all → Writing u r (d + 1)
+  unfolding outcomeLines
+  onward t u next r d w p h l =
+      record {
+        small = w .small;
+        inside = omega arith;
+        near = omega (arith, w .near);
+        put = rw (add-one d) (put-then (w .put) p);
+      }
+
+  pub ended : (t : List ℕ) (next d : ℕ) → Writing t next d → all ≤ d → Put o t at next (outcomeLines os all)
+  ended t next d w h = let e : d ≡ all = omega (arith, w .inside) in rw (← e) (w .put)
+
+-- The line of what is told is the line of the answer.
+pub line-told : (D : ℕ) (a : Answer) → outcomeLine D (told a) ≡ destLine D a
+unfolding outcomeLine destLine told kindIn viaIn lengthIn fieldText kindText viaText lengthText
+line-told D (Route (Direct m) len) = refl
+line-told D (Route (Via v m n) len) = refl
+line-told D (Refused e) = refl
+
+pub lines-told : (os : List Outcome) (p : List ℕ) (S n : ℕ) → ((d : ℕ) → d < n → getD os d noOutcome ≡ told (pair p S d)) → outcomeLines os n ≡ destLines p S n
+unfolding outcomeLines destLines
+lines-told os p S zero h = refl
+lines-told os p S (suc n) h = rw (lines-told os p S n (λ d l. h d (omega arith)), h n (omega arith), line-told n (pair p S n))

@@ -1,0 +1,78 @@
+-- The code's own steps.
+use Prim.Native.Nat.{ℕ, zero, suc, _+_}
+use mathlib.Core.Path.{_≡_}
+use mathlib.Core.Bool.{cond}
+use mathlib.Core.List.{List, [], _∷_, _++_}
+use lib.ListN.{length, getD, set}
+use lib.Dec.{ltb}
+use Rattle.shape.specs.declared.shape.Shape.{Shape}
+use Rattle.machine.specs.declared.leg.Mode.the-variants.{Adaptive}
+use Rattle.machine.specs.Node.{countAnswer}
+use Rattle.plan.specs.Layout.{shapeOf, faultCount}
+use Rattle.planner.specs.declared.outcome.Outcome.{Outcome}
+use Rattle.planner.specs.Dest.{outcomeTo}
+use Rattle.choice.specs.Choice.{Direct, Via}
+use Rattle.routes.specs.Kinds.{kindOf}
+use Rattle.listing_text.specs.declared.field.Field.{Field}
+use Rattle.listing_text.specs.declared.field.Field.the-variants.{Number, Dash}
+use Rattle.listing_text.specs.declared.writing.Head.{Head}
+use Rattle.listing_text.specs.Decimal.{decimal}
+use Rattle.listing_text.specs.Text.{dash, line}
+
+-- The output o with the bytes s from the place at on, as far as there is room.
+unfoldable pub putAll : List ℕ → ℕ → List ℕ → List ℕ
+putAll o at [] = o
+putAll o at (b ∷ s) = putAll (set o at b) (suc at) s
+
+-- s was written into o from the place at on, which left t, and r is the next place.
+pub record Put (o t : List ℕ) (at r : ℕ) (s : List ℕ) : Type 0 where
+  pub bytes : t ≡ putAll o at s
+  pub next : r ≡ at + length s
+
+unfoldable pub fieldText : Field → List ℕ
+fieldText (Number n) = decimal n
+fieldText Dash = dash
+
+unfoldable pub kindIn : Outcome → ℕ
+kindIn (Outcome.Direct m len) = kindOf (Direct m)
+kindIn (Outcome.Via v m n len) = kindOf (Via v m n)
+kindIn (Outcome.Refused e) = e
+
+unfoldable pub viaIn : Outcome → Field
+viaIn (Outcome.Direct m len) = Dash
+viaIn (Outcome.Via v m n len) = Number v
+viaIn (Outcome.Refused e) = Dash
+
+unfoldable pub lengthIn : Outcome → Field
+lengthIn (Outcome.Direct m len) = Number len
+lengthIn (Outcome.Via v m n len) = Number len
+lengthIn (Outcome.Refused e) = Dash
+
+unfoldable pub outcomeLine : ℕ → Outcome → List ℕ
+outcomeLine D o = line (decimal D ∷ decimal (kindIn o) ∷ fieldText (viaIn o) ∷ fieldText (lengthIn o) ∷ [])
+
+-- What an array of outcomes holds of no destination.
+abbrev pub noOutcome : Outcome
+noOutcome = Outcome.Direct Adaptive 0
+
+-- The outcomes of the first n destinations, and nothing past them. masks, dead: the dead links and nodes. from: the legs from the source.
+abbrev pub Planned : Shape → List ℕ → List ℕ → List ℕ → ℕ → List Outcome → Type 0
+Planned s masks dead from n os = (k : ℕ) → getD os k noOutcome ≡ cond (ltb k n) (outcomeTo s masks dead from k) noOutcome
+
+unfoldable pub outcomeLines : List Outcome → ℕ → List ℕ
+outcomeLines os zero = []
+outcomeLines os (suc n) = outcomeLines os n ++ outcomeLine n (getD os n noOutcome)
+
+unfoldable pub headLine : ℕ → ℕ → ℕ → List ℕ
+headLine S nodes faults = line (decimal S ∷ decimal nodes ∷ decimal faults ∷ [])
+
+-- What the first line says of a plan; the node count is 0 of a shape that a check declines.
+unfoldable pub headOf : List ℕ → ℕ → Head
+headOf p S = record { source = S; nodes = countAnswer (shapeOf p); faults = faultCount p }
+
+unfoldable pub outcomesText : Head → List Outcome → List ℕ
+outcomesText h os = headLine (h .source) (h .nodes) (h .faults) ++ outcomeLines os (h .nodes)
+
+-- `refused` and a blank.
+abbrev pub refusedWord : List ℕ
+refusedWord = 114 ∷ 101 ∷ 102 ∷ 117 ∷ 115 ∷ 101 ∷ 100 ∷ 32 ∷ []

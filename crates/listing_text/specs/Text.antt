@@ -1,0 +1,82 @@
+-- 'The listing program': its text, for its input.
+use Prim.Native.Nat.{ℕ, zero, suc}
+use mathlib.Core.List.{List, [], _∷_, _++_}
+use lib.ListN.{length, drop}
+use lib.Dec.{ltb}
+use Rattle.theory.specs.Checks.{declined, _then_}
+use Rattle.sheet.specs.Bytes.{word}
+use Rattle.machine.specs.Number.{nodeCount}
+use Rattle.plan.specs.Layout.{shapeOf, faultCount}
+use Rattle.choice.specs.Choice.{Direct, Via}
+use Rattle.choice.specs.Pair.{Answer, Route, Refused, pair}
+use Rattle.routes.specs.Kinds.{kindOf}
+use Rattle.planner.specs.Sheet.{sourceError}
+use Rattle.listing_text.specs.Decimal.{decimal}
+
+-- A two-byte source, then a plan sheet.
+abbrev pub sourceIn : List ℕ → ℕ
+sourceIn i = word i 0
+
+abbrev pub planIn : List ℕ → List ℕ
+planIn i = drop 2 i
+
+-- After 1 to 8 the source is checked for 9, then 10. Under two bytes is 1.
+unfoldable pub listingError : List ℕ → ℕ
+listingError i = declined (ltb (length i) 2) 1 then sourceError (planIn i) (sourceIn i)
+
+-- The bytes of a blank, of the newline that ends a line, and of `-`.
+abbrev pub blank : ℕ
+blank = 32
+
+abbrev pub newline : ℕ
+newline = 10
+
+abbrev pub dash : List ℕ
+dash = 45 ∷ []
+
+-- A line of fields, with a blank between two.
+unfoldable pub line : List (List ℕ) → List ℕ
+line [] = newline ∷ []
+line (f ∷ []) = f ++ newline ∷ []
+line (f ∷ (g ∷ fs)) = f ++ blank ∷ line (g ∷ fs)
+
+-- It prints source, node count, fault count.
+unfoldable pub header : List ℕ → ℕ → List ℕ
+header p S = line (decimal S ∷ decimal (nodeCount (shapeOf p)) ∷ decimal (faultCount p) ∷ [])
+
+-- Kind (0 for direct adaptive).
+unfoldable pub kindText : Answer → List ℕ
+kindText (Route c len) = decimal (kindOf c)
+kindText (Refused e) = decimal e
+
+-- Via or `-` (kinds 0, 1, 10, 11).
+unfoldable pub viaText : Answer → List ℕ
+viaText (Route (Direct m) len) = dash
+viaText (Route (Via v m n) len) = decimal v
+viaText (Refused e) = dash
+
+-- Length or `-` (kinds 10 and 11).
+unfoldable pub lengthText : Answer → List ℕ
+lengthText (Route c len) = decimal len
+lengthText (Refused e) = dash
+
+-- The line of the destination D, for which planning answers a.
+unfoldable pub destLine : ℕ → Answer → List ℕ
+destLine D a = line (decimal D ∷ kindText a ∷ viaText a ∷ lengthText a ∷ [])
+
+-- A line for each node below n in rising order, the source included.
+unfoldable pub destLines : List ℕ → ℕ → ℕ → List ℕ
+destLines p S zero = []
+destLines p S (suc n) = destLines p S n ++ destLine n (pair p S n)
+
+-- A refusal is the one line `refused` and the number.
+unfoldable pub refusal : ℕ → List ℕ
+refusal e = line ((114 ∷ 101 ∷ 102 ∷ 117 ∷ 115 ∷ 101 ∷ 100 ∷ []) ∷ decimal e ∷ [])
+
+abbrev pub textOf : ℕ → List ℕ → ℕ → List ℕ
+textOf zero p S = header p S ++ destLines p S (nodeCount (shapeOf p))
+textOf (suc e) p S = refusal (suc e)
+
+-- The whole text for the input.
+unfoldable pub listingOf : List ℕ → List ℕ
+listingOf i = textOf (listingError i) (planIn i) (sourceIn i)

@@ -1,0 +1,54 @@
+// What the program says.
+use crate::tally::Tally;
+use libc::STDERR_FILENO;
+use libc::STDOUT_FILENO;
+
+fn out(text: &[u8]) {
+    io::write_all(STDOUT_FILENO, text);
+}
+
+pub fn usage() {
+    out(b"usage: sheets PLAN OUT\n");
+}
+
+pub fn cannot_read(path: &[u8]) {
+    out(b"cannot read ");
+    out(path);
+    out(b"\n");
+}
+
+pub fn cannot_write(path: &[u8]) {
+    out(b"cannot write ");
+    out(path);
+    out(b"\n");
+}
+
+pub fn refused(number: u8) {
+    out(b"refused ");
+    io::print_decimal(STDOUT_FILENO, number as u64);
+    out(b"\n");
+}
+
+fn count(number: u32, what: &[u8]) {
+    io::print_decimal(STDOUT_FILENO, number as u64);
+    out(what);
+}
+
+pub fn done(tally: Tally) {
+    count(tally.boards, b" boards, ");
+    count(tally.entries, b" entries, ");
+    count(tally.without, b" pairs without a clear choice\n");
+}
+
+// How far it is, over the same line of standard error.
+pub fn progress(boards: u32, all: u16) {
+    io::write_all(STDERR_FILENO, b"\r");
+    io::print_decimal(STDERR_FILENO, boards as u64);
+    io::write_all(STDERR_FILENO, b" of ");
+    io::print_decimal(STDERR_FILENO, all as u64);
+    io::write_all(STDERR_FILENO, b" boards");
+}
+
+pub fn end_progress() {
+    io::write_all(STDERR_FILENO, b"\n");
+}
