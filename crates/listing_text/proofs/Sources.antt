@@ -73,7 +73,7 @@ module _ (p : List ℕ) (S : ℕ) (ok : sourceError p S ≡ 0) where
       ((n : ℕ) → getD dead n 0 ≡ bitOf (nodeAnswer p n)) →
       ((n : ℕ) → getD from n 0 ≡ outwardAnswer s masks S n) →
       all ≡ countAnswer s →
-      Planned s masks dead from all os →
+      Planned s masks dead from S all os →
       (D : ℕ) → D < nodeCount (shapeOf p) → getD os D noOutcome ≡ told (pair p S D)
   unfolding isNode
   planned-all s masks dead from all os es em ed ef ea h D below =

@@ -56,8 +56,8 @@ abbrev pub noOutcome : Outcome
 noOutcome = Outcome.Direct Adaptive 0
 
 -- The outcomes of the first n destinations, and nothing past them. masks, dead: the dead links and nodes. from: the legs from the source.
-abbrev pub Planned : Shape → List ℕ → List ℕ → List ℕ → ℕ → List Outcome → Type 0
-Planned s masks dead from n os = (k : ℕ) → getD os k noOutcome ≡ cond (ltb k n) (outcomeTo s masks dead from k) noOutcome
+abbrev pub Planned : Shape → List ℕ → List ℕ → List ℕ → ℕ → ℕ → List Outcome → Type 0
+Planned s masks dead from S n os = (k : ℕ) → getD os k noOutcome ≡ cond (ltb k n) (outcomeTo s masks dead from S k) noOutcome
 
 unfoldable pub outcomeLines : List Outcome → ℕ → List ℕ
 outcomeLines os zero = []

@@ -24,15 +24,16 @@ fn outcomes_to(
     masks: &[u8; 4096],
     dead: &[u8; 4096],
     from: &[u8; 4096],
+    source: u16,
     all: usize,
 ) -> [Outcome; 4096]
     requires { ⌜ all ≤ 4096 ⌝ }
-    ensures { λ r. ⌜ Planned shape (now (masks .entry)) (now (dead .entry)) (now (from .entry)) all r ⌝ }
+    ensures { λ r. ⌜ Planned shape (now (masks .entry)) (now (dead .entry)) (now (from .entry)) source all r ⌝ }
 {
     let mut outcomes = [Outcome::Direct(Mode::Adaptive, 0); 4096];
     let mut d: usize = 0;
     while d < all {
-        outcomes[d] = outcome_to(shape, masks, dead, from, d as u16);
+        outcomes[d] = outcome_to(shape, masks, dead, from, source, d as u16);
         d = d + 1;
     }
     outcomes
@@ -47,5 +48,5 @@ pub fn outcomes_from(plan: &[u8], source: u16) -> [Outcome; 4096]
     let masks = dead_masks(plan);
     let dead = dead_nodes(plan);
     let from = outward(shape, &masks, source);
-    outcomes_to(shape, &masks, &dead, &from, count(shape) as usize)
+    outcomes_to(shape, &masks, &dead, &from, source, count(shape) as usize)
 }

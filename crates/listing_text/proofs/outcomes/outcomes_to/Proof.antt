@@ -5,13 +5,13 @@ use Rattle.listing_text.proofs.outcomes.outcomes_to.Statement.{statemen
 use Rattle.listing_text.proofs.outcomes.outcomes_to.Tie as tie
 
 abbrev Inv-loop : tie.InvT-loop
-Inv-loop shape masks dead from all outcomes₀ d₀ outcomes d = Filling shape masks dead from all outcomes d
+Inv-loop shape masks dead from source all outcomes₀ d₀ outcomes d = Filling shape masks dead from source all outcomes d
 
 abbrev μ-loop : tie.MeasureT-loop
-μ-loop shape masks dead from all outcomes₀ d₀ outcomes d = all - d
+μ-loop shape masks dead from source all outcomes₀ d₀ outcomes d = all - d
 
 loop-holds : tie.Need-loop-holds Inv-loop μ-loop
-loop-holds c = begin _ _ _ _ _ (c .pre)
+loop-holds c = begin _ _ _ _ _ _ (c .pre)
 
 cast-outcome-to : tie.Need-cast-outcome-to Inv-loop μ-loop
 cast-outcome-to c = omega arith
@@ -32,10 +32,10 @@ loop-less : tie.Need-loop-less Inv-loop μ-loop
 loop-less c = omega arith
 
 loop-again : tie.Need-loop-again Inv-loop μ-loop
-loop-again c = onward _ _ _ _ _ _ _ (c .before .before .loop .inv) _ (c .outcome-to .ensures) (c .before .loop-test .taken)
+loop-again c = onward _ _ _ _ _ _ _ _ (c .before .before .loop .inv) _ (c .outcome-to .ensures) (c .before .loop-test .taken)
 
 returns : tie.Need-returns Inv-loop μ-loop
-returns c = ended _ _ _ _ _ _ _ (c .before .loop .inv) (c .loop-test .left)
+returns c = ended _ _ _ _ _ _ _ _ (c .before .loop .inv) (c .loop-test .left)
 
 pub outcomes-to-spec : {M : Type 1} → statement M
 outcomes-to-spec =
