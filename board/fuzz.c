@@ -435,6 +435,27 @@ static void try_write_sheet(uint8_t number, uint16_t source, uint32_t destinatio
     }
 }
 
+/* The listing of the plan that is lent: its lines are what planning the pairs says. */
+static void try_listing(uint8_t number, uint16_t source) {
+    static uint8_t input[2 + BYTES_MOST];
+    static char text[NAFTHURM_LISTING_BYTES];
+    nafthurm_shape s = nafthurm_plan_shape(plan.bytes, plan.size);
+    if (number == 0 && source >= nodes_of(s)) number = 9;
+    if (number == 0 && nafthurm_dead_node(plan.bytes, plan.size, source)) number = 10;
+    int size = number ? sprintf(text, "refused %d\n", number) : sprintf(text, "%d %u %zu\n", source, nodes_of(s), word(plan.bytes + 7));
+    for (uint32_t d = 0; number == 0 && d < nodes_of(s); d++) {
+        nafthurm_planned p = nafthurm_pair(plan.bytes, plan.size, source, (uint16_t)d);
+        size += sprintf(text + size, "%u %d ", d, p.route.kind);
+        size += p.route.number == 0 && p.route.kind >= 2 ? sprintf(text + size, "%d ", p.route.via) : sprintf(text + size, "- ");
+        size += p.route.number == 0 ? sprintf(text + size, "%d\n", p.length) : sprintf(text + size, "-\n");
+    }
+    input[0] = (uint8_t)(source >> 8), input[1] = (uint8_t)source;
+    memcpy(input + 2, plan.copy, plan.size);
+    lend(&sheet, input, plan.size + 2);
+    lend_out(some_room((size_t)size));
+    check_written(nafthurm_listing(sheet.bytes, sheet.size, out.bytes, out.size), 0, (const uint8_t *)text, (size_t)size);
+}
+
 static void try_packet(nafthurm_shape s, nafthurm_packet packet) {
     uint8_t number = nafthurm_packet_check(s, packet), run[300];
     calls++;
@@ -484,7 +505,7 @@ static void one_input(uint64_t i) {
         uint8_t number = try_plan();
         source = any_node(16), destination = any_node(16);
         try_pair(number, source, destination);
-        if (number != 0) try_write_sheet(number, source, 4);
+        if (number != 0) try_write_sheet(number, source, 4), try_listing(number, source);
         lend(&sheet, a_sheet.at, a_sheet.size);
         try_sheet(number);
     } else if (way < 30) {
@@ -500,7 +521,10 @@ static void one_input(uint64_t i) {
         s = any_plan((uint32_t)ONE_OF(12, 32), 10);
         lend_both();
         uint8_t number = try_plan();
-        if (nodes_of(nafthurm_plan_shape(plan.bytes, plan.size)) <= 64) try_write_sheet(number, any_node(nodes_of(s)), 64);
+        if (nodes_of(nafthurm_plan_shape(plan.bytes, plan.size)) <= 64) {
+            try_write_sheet(number, any_node(nodes_of(s)), 64);
+            try_listing(number, any_node(nodes_of(s)));
+        }
     } else if (way < 80) {
         s = any_plan((uint32_t)ONE_OF(12, 64, 512), 8);
         any_sheet(s, 50);
@@ -552,7 +576,15 @@ static void make_line(void) {
     uint8_t run[24];
     size_t size = below(sizeof run);
     for (size_t i = 0; i < size; i++) run[i] = chance(97) ? (uint8_t)below(6) : byte();
-    switch (below(9)) {
+    switch (below(10)) {
+    case 9:
+        begin("listing");
+        s = small_plan(24, 20);
+        memmove(a_plan.at + 2, a_plan.at, a_plan.size);
+        put_word(&a_plan, 0, any_node(nodes_of(s)));
+        a_plan.size = chance(2) ? below(3) : a_plan.size + 2;
+        say_hex("input", a_plan.at, a_plan.size);
+        break;
     case 0:
         begin(chance(50) ? "plan" : "masks");
         small_plan(64, 70);

@@ -195,6 +195,17 @@ static void op_sheet(const char *line) {
     put_written(nafthurm_write_sheet(plan.bytes, plan.size, node(line, "source"), out.bytes, out.size));
 }
 
+/* The text with _ for a blank and / for a line's end. */
+static void op_listing(const char *line) {
+    lend_field(&plan, line, "input");
+    lend_filled(&out, 0xEE, NAFTHURM_LISTING_BYTES);
+    nafthurm_written w = nafthurm_listing(plan.bytes, plan.size, out.bytes, out.size);
+    HOLD(w.number == 0);
+    check_around(&out);
+    put("text=");
+    for (size_t i = 0; i < w.size; i++) put("%c", out.bytes[i] == ' ' ? '_' : out.bytes[i] == '\n' ? '/' : out.bytes[i]);
+}
+
 static void op_lookup(const char *line) {
     lend_field(&plan, line, "plan");
     lend_field(&sheet, line, "sheet");
@@ -251,7 +262,7 @@ int answer_line(const char *line, char answer[ANSWER_MOST]) {
         const char *name;
         void (*op)(const char *line);
     } ops[] = {{"step", op_step}, {"walk", op_walk}, {"plan", op_plan}, {"planback", op_planback}, {"dead", op_dead}, {"masks", op_masks},
-               {"pair", op_pair}, {"sheet", op_sheet}, {"lookup", op_lookup}, {"back", op_back}, {"run", op_run}};
+               {"pair", op_pair}, {"sheet", op_sheet}, {"listing", op_listing}, {"lookup", op_lookup}, {"back", op_back}, {"run", op_run}};
     size_t name = text_size(line);
     for (size_t i = 0; i < sizeof ops / sizeof *ops; i++) {
         if (strlen(ops[i].name) != name || strncmp(ops[i].name, line, name) != 0) continue;

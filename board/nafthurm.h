@@ -10,7 +10,8 @@
  *     size is 0;
  *   - the bytes lent as output overlap none of the others, and nobody alters lent bytes during a call.
  * Nothing is allocated, no state is kept between calls and no pointer is kept after one: calls may run at the same time in several threads.
- * A call uses at most NAFTHURM_STACK bytes of stack; nafthurm_pair NAFTHURM_STACK_PAIR, and nafthurm_write_sheet NAFTHURM_STACK_SHEET.
+ * A call uses at most NAFTHURM_STACK bytes of stack; nafthurm_pair NAFTHURM_STACK_PAIR, nafthurm_write_sheet NAFTHURM_STACK_SHEET and
+ * nafthurm_listing NAFTHURM_STACK_LISTING.
  *
  * A field or result `number` is 0, or the number of a refusal, 1 to 15: docs/NUMBERS.md. A call that is refused writes no lent byte.
  *
@@ -29,14 +30,16 @@
 extern "C" {
 #endif
 
-/* The largest plan sheet has 256 faults, the largest route sheet 4,095 entries. An output of this size is never refused with 12. */
+/* The largest plan sheet has 256 faults, the largest route sheet 4,095 entries. An output of as many bytes as the largest is never refused with 12. */
 #define NAFTHURM_PLAN_BYTES 777
 #define NAFTHURM_SHEET_BYTES 20482
+#define NAFTHURM_LISTING_BYTES 61454
 
 /* Bytes of stack, held to by board/test.c. */
 #define NAFTHURM_STACK 1024
 #define NAFTHURM_STACK_PAIR 32768
-#define NAFTHURM_STACK_SHEET 98304
+#define NAFTHURM_STACK_SHEET 131072
+#define NAFTHURM_STACK_LISTING 131072
 
 /* Extents of the dimensions X, Y, Z, each 1 to 16; wrap has bits 0, 1, 2 for X, Y, Z. */
 typedef struct {
@@ -129,6 +132,13 @@ nafthurm_planned nafthurm_pair(const uint8_t *plan, size_t plan_size, uint16_t s
 
 /* The route sheet of every destination from the source, into out: checks 1 to 8, then 9, 10, 12. Bytes of out past the sheet are untouched. */
 nafthurm_written nafthurm_write_sheet(const uint8_t *plan, size_t plan_size, uint16_t source, uint8_t *out, size_t out_size);
+
+/*
+ * The listing of a two-byte source and a plan sheet, as text in lines: source, node count, fault count; then of each node destination, kind, via or `-`,
+ * length or `-`. Where the checks 1 to 8, 9, 10 decline the input, the text is the line `refused` and the number. So the number that this call gives is
+ * 12 or 0. No zero byte ends the text. Bytes of out past it are untouched.
+ */
+nafthurm_written nafthurm_listing(const uint8_t *input, size_t input_size, uint8_t *out, size_t out_size);
 
 /* ---- Route sheets; they answer from the sheet alone and never judge its routes against the plan's faults ---- */
 

@@ -133,6 +133,38 @@ static void worked_sheet(void) {
     check_kept(&plan);
 }
 
+static void is_listing(const uint8_t *input, size_t size, const char *text) {
+    size_t length = strlen(text);
+    lend(&plan, input, size);
+    for (size_t room = length - 1; room < length + 3; room++) {
+        lend_filled(&out, 0xEE, room);
+        nafthurm_written w = nafthurm_listing(plan.bytes, plan.size, out.bytes, out.size);
+        if (room < length) {
+            HOLD(w.number == 12 && w.size == 0);
+            check_kept(&out);
+            continue;
+        }
+        HOLD(w.number == 0 && w.size == length && memcmp(out.bytes, text, length) == 0);
+        for (size_t i = length; i < room; i++) HOLD(out.bytes[i] == 0xEE);
+        check_around(&out);
+    }
+    check_kept(&plan);
+}
+
+static void worked_listing(void) {
+    uint8_t input[2 + sizeof W] = {0, 0};
+    memcpy(input + 2, W, sizeof W);
+    is_listing(input, sizeof input,
+               "0 16 1\n0 0 - 0\n1 3 4 3\n2 2 3 2\n3 0 - 1\n4 0 - 1\n5 2 4 2\n6 2 3 3\n7 0 - 2\n8 0 - 2\n9 2 4 3\n10 2 3 4\n11 0 - 3\n12 0 - 1\n13 2 12 2\n14 2 3 3\n15 0 - 2\n");
+    is_listing(input, 1, "refused 1\n");
+    is_listing(input, 9, "refused 1\n");
+    is_listing(input, sizeof input - 1, "refused 4\n");
+    input[1] = 16;
+    is_listing(input, sizeof input, "refused 9\n");
+    const uint8_t dead[] = {0, 0, 1, 0, 9, 1, 1, 1, 0, 0, 1, 0, 0, 3};
+    is_listing(dead, sizeof dead, "refused 10\n");
+}
+
 static void worked_lookups(void) {
     lend(&plan, W, sizeof W);
     lend(&sheet, W_SHEET, sizeof W_SHEET);
@@ -247,7 +279,7 @@ static void worked_packets(void) {
 /* ---- The stack ---- */
 
 static uint8_t stack[1 << 18] __attribute__((aligned(64)));
-static uint8_t big_plan[NAFTHURM_PLAN_BYTES], big_sheet[NAFTHURM_SHEET_BYTES], big_out[NAFTHURM_SHEET_BYTES], run_of_45[45];
+static uint8_t big_input[2 + NAFTHURM_PLAN_BYTES], *const big_plan = big_input + 2, big_sheet[NAFTHURM_SHEET_BYTES], big_out[NAFTHURM_LISTING_BYTES], run_of_45[45];
 static size_t big_sheet_size;
 static ucontext_t back, on_stack;
 static volatile size_t answer;
@@ -256,19 +288,20 @@ static const nafthurm_shape CUBE = {16, 16, 16, 7};
 static const nafthurm_packet TWO_LEGS = {0, {{7, 0}, {9, 1}}, 2};
 
 static void no_call(void) { answer = 0; }
-static void calls_plan_check(void) { answer = nafthurm_plan_check(big_plan, sizeof big_plan); }
-static void calls_plan_shape(void) { answer = nafthurm_plan_shape(big_plan, sizeof big_plan).x; }
-static void calls_dead_node(void) { answer = nafthurm_dead_node(big_plan, sizeof big_plan, 9); }
-static void calls_dead_link(void) { answer = nafthurm_dead_link(big_plan, sizeof big_plan, 9, 3); }
-static void calls_plan_write_back(void) { answer = nafthurm_plan_write_back(big_plan, sizeof big_plan, big_out, sizeof big_out).size; }
-static void calls_pair(void) { answer = nafthurm_pair(big_plan, sizeof big_plan, 0, 17).length; }
-static void calls_write_sheet(void) { answer = nafthurm_write_sheet(big_plan, sizeof big_plan, 0, big_out, sizeof big_out).size; }
-static void calls_sheet_check(void) { answer = nafthurm_sheet_check(big_plan, sizeof big_plan, big_sheet, big_sheet_size); }
+static void calls_plan_check(void) { answer = nafthurm_plan_check(big_plan, NAFTHURM_PLAN_BYTES); }
+static void calls_plan_shape(void) { answer = nafthurm_plan_shape(big_plan, NAFTHURM_PLAN_BYTES).x; }
+static void calls_dead_node(void) { answer = nafthurm_dead_node(big_plan, NAFTHURM_PLAN_BYTES, 9); }
+static void calls_dead_link(void) { answer = nafthurm_dead_link(big_plan, NAFTHURM_PLAN_BYTES, 9, 3); }
+static void calls_plan_write_back(void) { answer = nafthurm_plan_write_back(big_plan, NAFTHURM_PLAN_BYTES, big_out, sizeof big_out).size; }
+static void calls_pair(void) { answer = nafthurm_pair(big_plan, NAFTHURM_PLAN_BYTES, 0, 17).length; }
+static void calls_write_sheet(void) { answer = nafthurm_write_sheet(big_plan, NAFTHURM_PLAN_BYTES, 0, big_out, sizeof big_out).size; }
+static void calls_listing(void) { answer = nafthurm_listing(big_input, sizeof big_input, big_out, sizeof big_out).size; }
+static void calls_sheet_check(void) { answer = nafthurm_sheet_check(big_plan, NAFTHURM_PLAN_BYTES, big_sheet, big_sheet_size); }
 static void calls_sheet_write_back(void) {
-    answer = nafthurm_sheet_write_back(big_plan, sizeof big_plan, big_sheet, big_sheet_size, big_out, sizeof big_out).size;
+    answer = nafthurm_sheet_write_back(big_plan, NAFTHURM_PLAN_BYTES, big_sheet, big_sheet_size, big_out, sizeof big_out).size;
 }
-static void calls_lookup(void) { answer = nafthurm_lookup(big_plan, sizeof big_plan, big_sheet, big_sheet_size, 4000).size; }
-static void calls_lookup_route(void) { answer = nafthurm_lookup_route(big_plan, sizeof big_plan, big_sheet, big_sheet_size, 4000).kind; }
+static void calls_lookup(void) { answer = nafthurm_lookup(big_plan, NAFTHURM_PLAN_BYTES, big_sheet, big_sheet_size, 4000).size; }
+static void calls_lookup_route(void) { answer = nafthurm_lookup_route(big_plan, NAFTHURM_PLAN_BYTES, big_sheet, big_sheet_size, 4000).kind; }
 static void calls_packet_check(void) { answer = nafthurm_packet_check(CUBE, TWO_LEGS); }
 static void calls_step(void) { answer = nafthurm_step(CUBE, TWO_LEGS, 0).number; }
 static void calls_walk(void) { answer = nafthurm_walk(CUBE, TWO_LEGS, run_of_45, sizeof run_of_45).hops; }
@@ -295,7 +328,7 @@ static void make_big(void) {
         int node = 16 * i + i % 16;
         big_plan[9 + 3 * i] = (uint8_t)(node >> 8), big_plan[10 + 3 * i] = (uint8_t)node, big_plan[11 + 3 * i] = (uint8_t)(i % 3);
     }
-    nafthurm_written w = nafthurm_write_sheet(big_plan, sizeof big_plan, 1, big_sheet, sizeof big_sheet);
+    nafthurm_written w = nafthurm_write_sheet(big_plan, NAFTHURM_PLAN_BYTES, 1, big_sheet, sizeof big_sheet);
     HOLD(w.number == 0);
     big_sheet_size = w.size;
 }
@@ -309,11 +342,12 @@ static void stack_use(void) {
         size_t used = stack_of(small[i]) - without;
         if (most < used) most = used;
     }
-    size_t of_pair = stack_of(calls_pair) - without, of_sheet = stack_of(calls_write_sheet) - without;
+    size_t of_pair = stack_of(calls_pair) - without, of_sheet = stack_of(calls_write_sheet) - without, of_listing = stack_of(calls_listing) - without;
     HOLD(most <= NAFTHURM_STACK);
     HOLD(of_pair <= NAFTHURM_STACK_PAIR);
     HOLD(of_sheet <= NAFTHURM_STACK_SHEET);
-    printf("nafthurm_pair %zu bytes, nafthurm_write_sheet %zu, any other call at most %zu\n", of_pair, of_sheet, most);
+    HOLD(of_listing <= NAFTHURM_STACK_LISTING);
+    printf("nafthurm_pair %zu bytes, nafthurm_write_sheet %zu, nafthurm_listing %zu, any other call at most %zu\n", of_pair, of_sheet, of_listing, most);
 }
 
 /* test [--stack]: a sanitizer and valgrind have stacks of their own, so that the stack is asked for by itself. */
@@ -323,6 +357,7 @@ int main(int count, char **words) {
     worked_pairs();
     worked_plans();
     worked_sheet();
+    worked_listing();
     worked_lookups();
     worked_packets();
     puts("W and its edges are as document 01 has them");

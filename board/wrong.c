@@ -42,6 +42,12 @@ AROUND(nafthurm_written, nafthurm_write_sheet, const uint8_t *plan, size_t plan_
     return w;
 }
 
+AROUND(nafthurm_written, nafthurm_listing, const uint8_t *input, size_t input_size, uint8_t *out, size_t out_size) {
+    nafthurm_written w = __real_nafthurm_listing(input, input_size, out, out_size);
+    if (wrong(11) && w.number == 0 && w.size < out_size) out[w.size] = 0;
+    return w;
+}
+
 AROUND(uint8_t, nafthurm_sheet_check, const uint8_t *plan, size_t plan_size, const uint8_t *sheet, size_t sheet_size) {
     const volatile uint8_t *end = sheet + sheet_size;
     if (wrong(7)) (void)*end;

@@ -6,6 +6,8 @@ mod raw;
 pub const PLAN_BYTES: usize = 777;
 /// The largest route sheet, of 4,095 entries: an output of this size is never refused with 12.
 pub const SHEET_BYTES: usize = 20482;
+/// The largest listing, likewise.
+pub const LISTING_BYTES: usize = 61454;
 
 /// The number of a refusal, 1 to 15.
 #[derive(Clone, Copy, Debug, PartialEq, Eq)]
@@ -116,6 +118,13 @@ pub fn pair(plan: &[u8], source: u16, destination: u16) -> Result<Planned, Refus
 /// The route sheet of every destination, into `out`: how many bytes are written.
 pub fn write_sheet(plan: &[u8], source: u16, out: &mut [u8]) -> Result<usize, Refused> {
     let written = unsafe { raw::nafthurm_write_sheet(plan.as_ptr(), plan.len(), source, out.as_mut_ptr(), out.len()) };
+    accepted(written.number).map(|()| written.size)
+}
+
+/// The listing of a two-byte source and a plan sheet, as text into `out`: how many bytes are written. An input that is declined gives the line
+/// `refused` and the number, so that the only refusal is 12.
+pub fn listing(input: &[u8], out: &mut [u8]) -> Result<usize, Refused> {
+    let written = unsafe { raw::nafthurm_listing(input.as_ptr(), input.len(), out.as_mut_ptr(), out.len()) };
     accepted(written.number).map(|()| written.size)
 }
 

@@ -61,6 +61,7 @@ extern "C" {
     pub fn nafthurm_plan_write_back(plan: *const u8, plan_size: usize, out: *mut u8, out_size: usize) -> Written;
     pub fn nafthurm_pair(plan: *const u8, plan_size: usize, source: u16, destination: u16) -> Planned;
     pub fn nafthurm_write_sheet(plan: *const u8, plan_size: usize, source: u16, out: *mut u8, out_size: usize) -> Written;
+    pub fn nafthurm_listing(input: *const u8, input_size: usize, out: *mut u8, out_size: usize) -> Written;
     pub fn nafthurm_sheet_check(plan: *const u8, plan_size: usize, sheet: *const u8, sheet_size: usize) -> u8;
     pub fn nafthurm_sheet_write_back(plan: *const u8, plan_size: usize, sheet: *const u8, sheet_size: usize, out: *mut u8, out_size: usize) -> Written;
     pub fn nafthurm_lookup(plan: *const u8, plan_size: usize, sheet: *const u8, sheet_size: usize, destination: u16) -> Part;

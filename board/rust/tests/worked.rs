@@ -58,6 +58,17 @@ fn sheets() {
 }
 
 #[test]
+fn listings() {
+    let mut out = [0; LISTING_BYTES];
+    let input = [&[0, 0], &W[..]].concat();
+    let size = listing(&input, &mut out).unwrap();
+    assert!(out[..size].starts_with(b"0 16 1\n0 0 - 0\n1 3 4 3\n2 2 3 2\n3 0 - 1\n") && out[..size].ends_with(b"14 2 3 3\n15 0 - 2\n"));
+    assert_eq!(listing(&input, &mut out[..size - 1]), Err(Refused(12)));
+    assert_eq!(listing(&input[..1], &mut out), Ok(10));
+    assert_eq!(&out[..10], b"refused 1\n");
+}
+
+#[test]
 fn lookups() {
     let sheet = sheet_of_w();
     assert!(std::ptr::eq(lookup(&W, &sheet, 2), &sheet[12..17]));
