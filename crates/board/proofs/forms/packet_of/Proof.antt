@@ -1,0 +1,30 @@
+use Rattle.board.specs.Forms.{packetOf}
+use borrow.Author.Needs.{needs}
+use Rattle.board.proofs.forms.packet_of.Statement.{statement}
+use Rattle.board.proofs.forms.packet_of.Tie as tie
+
+array-copy-out-leg-of : tie.Need-array-copy-out-leg-of
+array-copy-out-leg-of c = search needs
+
+leg-of-requires : tie.Need-leg-of-requires
+leg-of-requires c κs = search needs
+
+array-copy-out-leg-of-2 : tie.Need-array-copy-out-leg-of-2
+array-copy-out-leg-of-2 c = search needs
+
+leg-of-requires-2 : tie.Need-leg-of-requires-2
+leg-of-requires-2 c κs = search needs
+
+returns : tie.Need-returns
+unfolding packetOf
+returns c = cc
+
+pub packet-of-spec : {M : Type 1} → statement M
+packet-of-spec =
+    tie.close
+    (tie.spec
+    array-copy-out-leg-of
+    leg-of-requires
+    array-copy-out-leg-of-2
+    leg-of-requires-2
+    returns)

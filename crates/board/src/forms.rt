@@ -1,0 +1,316 @@
+// The values that cross, each a struct of numbers, and the calls' own values as such.
+use machine::leg::Leg;
+use machine::leg::Mode;
+use packet::Answer;
+use packet::Ending;
+use packet::Packet;
+use packet::Stepped;
+use packet::Walked;
+use planner::outcome::Outcome;
+use routes::Entry;
+use routes::Route;
+use routes::kinds::entry_for;
+use routes::kinds::route_by;
+use shape::Shape;
+use sheet::output::Written;
+ghost use mathlib.Core.Path.{_≡_};
+ghost use Rattle.board.specs.Forms.{shapeOf, shapeFor, modeOf, legOf, packetOf, packetFor, stepNumber, steppedFor, walkNumber, endingFor, walkedFor, writtenFor, refusalIn, routeFor, plannedFor, routeOf, legFor, newFor};
+
+#[repr(C)]
+pub struct ShapeForm {
+    pub x: u8,
+    pub y: u8,
+    pub z: u8,
+    pub wrap: u8,
+}
+
+#[repr(C)]
+pub struct LegForm {
+    pub target: u16,
+    pub mode: u8,
+}
+
+#[repr(C)]
+pub struct PacketForm {
+    pub node: u16,
+    pub legs: [LegForm; 2],
+    pub left: u8,
+}
+
+#[repr(C)]
+pub struct SteppedForm {
+    pub packet: PacketForm,
+    pub number: u8,
+}
+
+#[repr(C)]
+pub struct WalkedForm {
+    pub packet: PacketForm,
+    pub number: u8,
+    pub ending: u8,
+    pub hops: usize,
+}
+
+#[repr(C)]
+pub struct WrittenForm {
+    pub number: u8,
+    pub size: usize,
+}
+
+#[repr(C)]
+pub struct PartForm {
+    pub start: usize,
+    pub size: usize,
+}
+
+#[repr(C)]
+pub struct RouteForm {
+    pub number: u8,
+    pub kind: u8,
+    pub via: u16,
+}
+
+#[repr(C)]
+pub struct PlannedForm {
+    pub route: RouteForm,
+    pub length: u8,
+}
+
+pub fn shape_of(form: ShapeForm) -> Shape
+    ensures { λ r. ⌜ r ≡ shapeOf form ⌝ }
+{
+    Shape {
+        x: form.x,
+        y: form.y,
+        z: form.z,
+        wrap: form.wrap,
+    }
+}
+
+pub fn shape_for(shape: Shape) -> ShapeForm
+    ensures { λ r. ⌜ r ≡ shapeFor shape ⌝ }
+{
+    ShapeForm {
+        x: shape.x,
+        y: shape.y,
+        z: shape.z,
+        wrap: shape.wrap,
+    }
+}
+
+fn mode_of(mode: u8) -> Mode
+    ensures { λ r. ⌜ r ≡ modeOf mode ⌝ }
+{
+    if mode == 0 {
+        Mode::Adaptive
+    } else {
+        Mode::Deterministic
+    }
+}
+
+fn leg_of(leg: LegForm) -> Leg
+    ensures { λ r. ⌜ r ≡ legOf leg ⌝ }
+{
+    Leg {
+        target: leg.target,
+        mode: mode_of(leg.mode),
+    }
+}
+
+pub fn packet_of(form: PacketForm) -> Packet
+    ensures { λ r. ⌜ r ≡ packetOf form ⌝ }
+{
+    let legs = form.legs;
+    let first = leg_of(legs[0]);
+    let second = leg_of(legs[1]);
+    Packet {
+        node: form.node,
+        legs: [first, second],
+        left: form.left,
+    }
+}
+
+fn packet_for(lent: PacketForm, packet: Packet) -> PacketForm
+    ensures { λ r. ⌜ r ≡ packetFor lent packet ⌝ }
+{
+    let legs = lent.legs;
+    PacketForm {
+        node: packet.node,
+        legs: legs,
+        left: packet.left,
+    }
+}
+
+fn step_number(answer: Answer) -> u8
+    ensures { λ r. ⌜ r ≡ stepNumber answer ⌝ }
+{
+    match answer {
+        Answer::Hopped => 0,
+        Answer::Refused(number) => number,
+    }
+}
+
+pub fn stepped_for(lent: PacketForm, stepped: Stepped) -> SteppedForm
+    ensures { λ r. ⌜ r ≡ steppedFor lent stepped ⌝ }
+{
+    let packet = stepped.packet;
+    let answer = stepped.answer;
+    SteppedForm {
+        packet: packet_for(lent, packet),
+        number: step_number(answer),
+    }
+}
+
+fn walk_number(ending: Ending) -> u8
+    ensures { λ r. ⌜ r ≡ walkNumber ending ⌝ }
+{
+    match ending {
+        Ending::Arrived => 0,
+        Ending::NotAllowed => 15,
+        Ending::UsedUp => 0,
+        Ending::Refused(number) => number,
+    }
+}
+
+fn ending_for(ending: Ending) -> u8
+    ensures { λ r. ⌜ r ≡ endingFor ending ⌝ }
+{
+    match ending {
+        Ending::Arrived => 0,
+        Ending::NotAllowed => 1,
+        Ending::UsedUp => 2,
+        Ending::Refused(_) => 3,
+    }
+}
+
+pub fn walked_for(lent: PacketForm, walked: Walked) -> WalkedForm
+    ensures { λ r. ⌜ r ≡ walkedFor lent walked ⌝ }
+{
+    let packet = walked.packet;
+    let ending = walked.ending;
+    WalkedForm {
+        packet: packet_for(lent, packet),
+        number: walk_number(ending),
+        ending: ending_for(ending),
+        hops: walked.hops,
+    }
+}
+
+pub fn written_for(written: Written) -> WrittenForm
+    ensures { λ r. ⌜ r ≡ writtenFor written ⌝ }
+{
+    match written {
+        Written::Bytes(size) => WrittenForm {
+            number: 0,
+            size: size,
+        },
+        Written::Refused(number) => WrittenForm {
+            number: number,
+            size: 0,
+        },
+    }
+}
+
+fn refusal_in(route: Route) -> u8
+    ensures { λ r. ⌜ r ≡ refusalIn route ⌝ }
+{
+    match route {
+        Route::Direct(_) => 0,
+        Route::Via(_, _, _) => 0,
+        Route::Refused(number) => number,
+    }
+}
+
+// The kind and the via as in the entry of a sheet.
+pub fn route_for(route: Route) -> RouteForm
+    ensures { λ r. ⌜ r ≡ routeFor route ⌝ }
+{
+    let entry = entry_for(0, route);
+    RouteForm {
+        number: refusal_in(route),
+        kind: entry.kind,
+        via: entry.via,
+    }
+}
+
+pub fn planned_for(outcome: Outcome) -> PlannedForm
+    ensures { λ r. ⌜ r ≡ plannedFor outcome ⌝ }
+{
+    match outcome {
+        Outcome::Direct(mode, length) => PlannedForm {
+            route: route_for(Route::Direct(mode)),
+            length: length,
+        },
+        Outcome::Via(via, first, second, length) => PlannedForm {
+            route: route_for(Route::Via(via, first, second)),
+            length: length,
+        },
+        Outcome::Refused(number) => PlannedForm {
+            route: route_for(Route::Refused(number)),
+            length: 0,
+        },
+    }
+}
+
+pub fn route_of(destination: u16, form: RouteForm) -> Route
+    ensures { λ r. ⌜ r ≡ routeOf destination form ⌝ }
+{
+    if form.number != 0 {
+        return Route::Refused(form.number);
+    }
+    route_by(Entry {
+        dest: destination,
+        kind: form.kind,
+        via: form.via,
+    })
+}
+
+fn leg_for(target: u16, mode: Mode) -> LegForm
+    ensures { λ r. ⌜ r ≡ legFor target mode ⌝ }
+{
+    match mode {
+        Mode::Adaptive => LegForm {
+            target: target,
+            mode: 0,
+        },
+        Mode::Deterministic => LegForm {
+            target: target,
+            mode: 1,
+        },
+    }
+}
+
+pub fn new_for(source: u16, destination: u16, route: Route) -> PacketForm
+    ensures { λ r. ⌜ r ≡ newFor source destination route ⌝ }
+{
+    match route {
+        Route::Direct(mode) => {
+            let leg = leg_for(destination, mode);
+            PacketForm {
+                node: source,
+                legs: [leg, leg],
+                left: 1,
+            }
+        }
+        Route::Via(via, first, second) => {
+            let front = leg_for(via, first);
+            let last = leg_for(destination, second);
+            PacketForm {
+                node: source,
+                legs: [front, last],
+                left: 2,
+            }
+        }
+        Route::Refused(_) => {
+            let leg = LegForm {
+                target: destination,
+                mode: 0,
+            };
+            PacketForm {
+                node: source,
+                legs: [leg, leg],
+                left: 255,
+            }
+        }
+    }
+}
