@@ -9,6 +9,26 @@ extern "C" {
     fn nafthurm_sheet(plan: *const u8, plan_len: usize, source: u16, out: *mut u8, out_len: usize) -> usize;
 }
 
+/// The plain planner, and a pair by its parts.
+mod fast {
+    #![allow(dead_code)]
+    include!("../reference/fast.rs");
+
+    /// The length of the first choice; 255 where there is none.
+    pub fn pair(sheet: &[u8], source: usize, dest: usize) -> u8 {
+        let p = Plan::parse(sheet, 0).ok().unwrap();
+        let t = tables(&p);
+        let (mut bad, mut from, mut to) = (vec![0; p.n], [vec![FAR; p.n], vec![FAR; p.n]], [vec![FAR; p.n], vec![FAR; p.n]]);
+        let [a, d] = &mut from;
+        onward(&p, &t, source, &mut bad, [a, d]);
+        let [a, d] = &mut to;
+        toward(&p, &t, dest, &mut bad, [a, d]);
+        let direct = from[A][dest].min(from[D][dest]);
+        let via = (0..4).map(|m| least(&from[m / 2], &to[m % 2], wide())).min().unwrap();
+        if source == dest { 0 } else { direct.min(via).min(255) as u8 }
+    }
+}
+
 const NODES: u64 = 4096;
 const SOURCES: u16 = 64;
 
@@ -76,26 +96,32 @@ fn least(times: usize, mut f: impl FnMut() -> f64) -> f64 {
     (0..times).map(|_| f()).fold(f64::INFINITY, f64::min)
 }
 
-/// A pair of far nodes that has no clear direct leg, where there is one.
-fn pair_time(plan: &[u8], random: &mut Random) -> f64 {
+/// The seconds of a pair, of ours and of the plain planner, of which the lengths have to be the same.
+fn pair_times(plan: &[u8], random: &mut Random) -> (f64, f64) {
     let pairs: Vec<(u16, u16)> = (0..200).map(|_| (random.below(NODES) as u16, random.below(NODES) as u16)).collect();
-    least(5, || {
-        let start = Instant::now();
-        for &(s, d) in &pairs {
-            black_box(unsafe { nafthurm_pair(plan.as_ptr(), plan.len(), s, d) });
-        }
-        start.elapsed().as_secs_f64() / pairs.len() as f64
-    })
+    let ours = |s: u16, d: u16| unsafe { nafthurm_pair(plan.as_ptr(), plan.len(), s, d) };
+    let plain = |s: u16, d: u16| fast::pair(plan, s as usize, d as usize);
+    assert!(pairs.iter().all(|&(s, d)| ours(s, d) == plain(s, d)), "the lengths differ");
+    let time = |f: &dyn Fn(u16, u16) -> u8| {
+        least(5, || {
+            let start = Instant::now();
+            for &(s, d) in &pairs {
+                black_box(f(s, d));
+            }
+            start.elapsed().as_secs_f64() / pairs.len() as f64
+        })
+    };
+    (time(&ours), time(&plain))
 }
 
 fn main() {
     let fast = std::env::args().nth(1).expect("the path of fast");
     let mut random = Random(0x9e3779b97f4a7c15);
-    println!("dead links | a pair | a sheet | fast, a sheet | ratio | 64 sheets | fast, 64 sheets | ratio");
+    println!("dead links | a pair | plain | ratio | a sheet | plain | ratio | 64 sheets | plain | ratio");
     for dead in [0, 10, 256] {
         let plan = plan(&mut random, dead);
         let mut out = vec![0; 20482];
-        let pair = pair_time(&plan, &mut random);
+        let (pair, plain_pair) = pair_times(&plan, &mut random);
         let one = least(5, || {
             let start = Instant::now();
             black_box(sheet(&plan, 0, &mut out));
@@ -106,8 +132,8 @@ fn main() {
         let (fast_sum, theirs) = fast_sheets(&fast, &plan, SOURCES);
         assert_eq!(sum, fast_sum, "the sheets differ");
         println!(
-            "{dead} | {:.1} µs | {:.2} ms | {:.1} ms | {:.2} | {:.3} s | {:.3} s | {:.2}",
-            pair * 1e6, one * 1e3, fast_one * 1e3, one / fast_one, ours, theirs, ours / theirs
+            "{dead} | {:.1} µs | {:.1} µs | {:.2} | {:.2} ms | {:.1} ms | {:.2} | {:.3} s | {:.3} s | {:.2}",
+            pair * 1e6, plain_pair * 1e6, pair / plain_pair, one * 1e3, fast_one * 1e3, one / fast_one, ours, theirs, ours / theirs
         );
     }
 }
