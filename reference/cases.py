@@ -17,10 +17,10 @@ import vectors
 BASE = 0                       # the stage with no change request
 SEED = '1'
 COUNT = 250                    # vectors of each operation of the stepper
-PLANNED = {'pair': 220, 'sheet': 130, 'lookup': 180, 'back': 120, 'run': 180, 'listing': 120}      # vectors of the others
+PLANNED = {'pair': 220, 'sheet': 90, 'lookup': 180, 'back': 120, 'run': 180, 'listing': 60}      # vectors of the others
 PLANS = 60                     # random plan sheets, each also hurt in one place and in several
-UNCOMMON = 200                 # random plans to look for pairs in whose routes are not adaptive
-LARGE = 60                     # pairs, and lookups, on machines of more nodes than the vectors have
+UNCOMMON = 150                 # random plans to look for pairs in whose routes are not adaptive
+LARGE = 48                     # pairs, and lookups, on machines of more nodes than the vectors have
 LINE_BYTES = 131072            # conform's line buffer
 
 def fields(pairs):
@@ -347,6 +347,10 @@ def run(sheet, source, destination, calls):
     return line, fields({'legs': vectors.legs_text(found.legs), 'answers': ','.join(answers) or '-', 'packet': vectors.packet_text(packet)})
 
 
+def listing(data):
+    return 'listing input=' + vectors.hex_text(data), 'text=' + vectors.listing_text(ref.listing(BASE, data))
+
+
 def worked():
     """The document's worked lines, in its own words: (line, answer)."""
     def direct(node, length):
@@ -376,6 +380,7 @@ def worked():
         modes = {'0': 'A', '2': 'AA', '3': 'AD'}[kind]
         legs = ([] if via == '-' else [(via, modes[0])]) + [(node, modes[-1])]
         yield pair_line(W, 0, int(node)), 'number=0 legs=%s length=%s' % (','.join('%s:%s' % leg for leg in legs), length)
+    yield 'listing input=0000' + W.hex(), 'text=' + vectors.listing_text('0 16 1\n' + W_LISTING.replace(' / ', '\n') + '\n')
     line = 'sheet plan=%s source=0 room=' % W.hex()
     yield line + '47', 'number=0 size=47 out=' + W_ROUTES.hex()
     yield line + '46', 'number=12 size=0 out=' + 46 * 'ee'
@@ -400,7 +405,9 @@ def refusals():
         number, plan = ref.read_plan(BASE, sheet)
         yield pair(sheet, 0, 0)
         yield pair(sheet, 65535, 0)
-        yield route_sheet(sheet, 0 if number or plan.nodes < 100 else 4096, 6)
+        source = 0 if number or plan.nodes < 100 else 4096
+        yield route_sheet(sheet, source, 6)
+        yield listing(ref.two(source) + sheet)
         yield lookup(sheet, none, 0)
         yield lookup(sheet, none[:-1], 65535)
         yield back(sheet, none, 7)
@@ -410,6 +417,9 @@ def refusals():
         yield pair(torus, source, destination)
     for source, room in (5, 0), (16, 0), (0, 6), (0, 200):
         yield route_sheet(torus, source, room)
+        yield listing(ref.two(source) + torus)
+    for size in 0, 1, 2:
+        yield listing(bytes(size))
     for routes in bad_routes():
         for destination in 0, 1, 16:
             yield lookup(torus, routes, destination)
@@ -590,6 +600,8 @@ def unreadable_planning():
     for calls in '', 's', 's0', 's0000', 's0g', 'w0', 'x00', '00', ',', 's02,', ',s02', 's02,,s00', 's02;s00', 'S02', 's02,w00,x', 'w' + 257 * '00':
         yield 'run %s %s calls=%s' % (plan, ends, calls)
     yield 'run %s %s' % (plan, ends)
+    for bad in '', 'input=', 'input=0', 'input=' + 1027 * '00':
+        yield 'listing ' + bad
 
 
 def long():

@@ -1,4 +1,5 @@
 // Lists of step and walk calls as text, `s00,w0001,w`: `s` and a direction, `w` and a run; `-` for none.
+use case_fields::lists::put_comma;
 use packet::Packet;
 use packet_cases::stepper;
 use packet_cases::walk::put_ending;
@@ -74,14 +75,6 @@ fn call(s: &[u8], shape: Shape, packet: Packet, out: &mut [u8], at: usize) -> Ru
         return walk(directions, shape, packet, out, at);
     }
     run_of(false, packet, at)
-}
-
-// A comma before each answer but the first.
-fn put_comma(out: &mut [u8], at: usize, first: bool) -> usize {
-    if first {
-        return at;
-    }
-    put::byte(out, at, b',')
 }
 
 // Makes the call that stands from `start` up to `end`, with the packet that the last one left.

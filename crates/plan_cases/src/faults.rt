@@ -1,4 +1,5 @@
 // Lists of faults as text: `node:kind,node:kind`, `-` for none.
+use case_fields::lists::put_comma;
 use plan::Fault;
 use plan::Plan;
 use shape::Shape;
@@ -87,14 +88,6 @@ fn fault_of(plan: Plan, i: usize) -> Fault {
     } else {
         Fault { node: 0, kind: 0 }
     }
-}
-
-// A comma before each fault but the first.
-fn put_comma(out: &mut [u8], at: usize, first: bool) -> usize {
-    if first {
-        return at;
-    }
-    put::byte(out, at, b',')
 }
 
 fn put_fault(out: &mut [u8], at: usize, first: bool, f: Fault) -> usize {
