@@ -1,8 +1,8 @@
 // Lists of step and walk calls as text, `s00,w0001,w`: `s` and a direction, `w` and a run; `-` for none.
 use case_fields::lists::put_comma;
 use packet::Packet;
-use packet_cases::stepper;
-use packet_cases::walk::put_ending;
+use packet_fields::endings::put_ending;
+use packet_fields::stepper;
 use shape::Shape;
 use text::compare::same;
 use text::compare::starts_with;

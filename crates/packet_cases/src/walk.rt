@@ -1,8 +1,9 @@
 // The operation `walk`: one call of the stepper's walk.
-use crate::packets;
-use crate::stepper;
-use crate::stepper::WalkAnswer;
 use case_fields::answers::unreadable;
+use packet_fields::endings::put_ending;
+use packet_fields::packets;
+use packet_fields::stepper;
+use packet_fields::stepper::WalkAnswer;
 use text::field;
 use text::hex;
 use text::hex::Count;
@@ -11,20 +12,6 @@ use text::put;
 
 // The longest run of directions.
 const RUN_BYTES: usize = 65536;
-
-// Writes how a walk ended.
-pub fn put_ending(out: &mut [u8], at: usize, walk: WalkAnswer) -> usize {
-    if walk.number == 15 {
-        return put::bytes(out, at, b"not-allowed");
-    }
-    if walk.number != 0 {
-        return put::bytes(out, at, b"refused");
-    }
-    if walk.arrived {
-        return put::bytes(out, at, b"arrived");
-    }
-    put::bytes(out, at, b"used-up")
-}
 
 fn put_walk(out: &mut [u8], at: usize, walk: WalkAnswer, line: &[u8]) -> usize {
     let packet = packets::put_answer(out, at, walk.number, walk.packet, line);

@@ -10,7 +10,7 @@ use case_fields::sheets::PLAN_BYTES;
 use case_fields::sheets::read_plan;
 use new_packet::new_packet;
 use packet::Packet;
-use packet_cases::packets::put_packet;
+use packet_fields::packets::put_packet;
 use plan::shape_of;
 use planner::outcome::Outcome;
 use planner::pair::pair;

@@ -2,8 +2,8 @@
 use machine::leg::Leg;
 use machine::leg::Mode;
 use packet::Packet;
-use packet_cases::stepper::resting;
-use packet_cases::stepper::with_leg;
+use packet_fields::stepper::resting;
+use packet_fields::stepper::with_leg;
 use planner::outcome::Outcome;
 
 fn leg(target: u16, mode: Mode) -> Leg {

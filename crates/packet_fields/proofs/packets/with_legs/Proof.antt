@@ -1,8 +1,8 @@
 use Prim.Native.Nat.{_+_, _-_}
 use native.Mathlib.Omega.{arith}
 use lib.ListN.{length}
-use Rattle.packet_cases.proofs.packets.with_legs.Statement.{statement}
-use Rattle.packet_cases.proofs.packets.with_legs.Tie as tie
+use Rattle.packet_fields.proofs.packets.with_legs.Statement.{statement}
+use Rattle.packet_fields.proofs.packets.with_legs.Tie as tie
 
 abbrev Inv-loop : tie.InvT-loop
 Inv-loop node s packet₀ start₀ packet start = Unit {0}
