@@ -16,8 +16,11 @@ import vectors
 
 BASE = 0                       # the stage with no change request
 SEED = '1'
-COUNT = 250                    # vectors of each operation
+COUNT = 250                    # vectors of each operation of the stepper
+PLANNED = {'pair': 220, 'sheet': 130, 'lookup': 180, 'back': 120, 'run': 180, 'listing': 120}      # vectors of the others
 PLANS = 60                     # random plan sheets, each also hurt in one place and in several
+UNCOMMON = 200                 # random plans to look for pairs in whose routes are not adaptive
+LARGE = 60                     # pairs, and lookups, on machines of more nodes than the vectors have
 LINE_BYTES = 131072            # conform's line buffer
 
 def fields(pairs):
@@ -270,6 +273,325 @@ def unreadable_plans():
     yield 'dead node=0 direction=0'
 
 
+# ---- planning and route sheets
+
+W = bytes.fromhex('010009040401030001000000')
+W_ROUTES = bytes.fromhex('01002c00000008 0001030004 0002020003 0005020004 0006020003 0009020004 000a020003 000d02000c 000e020003')
+W_LISTING = ('0 0 - 0 / 1 3 4 3 / 2 2 3 2 / 3 0 - 1 / 4 0 - 1 / 5 2 4 2 / 6 2 3 3 / 7 0 - 2 / 8 0 - 2 / 9 2 4 3 / 10 2 3 4 / 11 0 - 3 / '
+             '12 0 - 1 / 13 2 12 2 / 14 2 3 3 / 15 0 - 2')
+
+
+def plan_of(extents, wrap, *faults):
+    return vectors.plan_bytes(1, extents, wrap, [1, 1, 1], faults)
+
+
+def routes_of(source, *entries):
+    """A route sheet; an entry is (destination, kind, via)."""
+    return ref.sheet_bytes(1, source, [ref.entry_bytes(1, destination, kind, [via]) for destination, kind, via in entries])
+
+
+def pair_line(sheet, source, destination):
+    return 'pair plan=%s source=%d destination=%d' % (vectors.hex_text(sheet), source, destination)
+
+
+def route_fields(legs, length):
+    return fields({'number': 0, 'legs': vectors.legs_text(legs), 'length': length})
+
+
+def pair(sheet, source, destination):
+    number, found = ref.plan_pair(BASE, sheet, source, destination)
+    return pair_line(sheet, source, destination), fields({'number': number}) if number else route_fields(found.legs, found.length)
+
+
+def route_sheet(sheet, source, room):
+    out = bytearray([vectors.FILL]) * room
+    number, size = ref.write_sheet(BASE, sheet, source, out)
+    return 'sheet plan=%s source=%d room=%d' % (vectors.hex_text(sheet), source, room), fields({'number': number, 'size': size, 'out': vectors.hex_text(out)})
+
+
+def lookup(sheet, routes, destination):
+    line = 'lookup plan=%s sheet=%s destination=%d' % (vectors.hex_text(sheet), vectors.hex_text(routes), destination)
+    number, source, legs = ref.lookup_route(BASE, sheet, routes, destination)
+    answer = {'part': '%d:%d' % ref.lookup_entry(BASE, sheet, routes, destination), 'number': number}
+    if not number:
+        answer.update(source=source, legs=vectors.legs_text(legs))
+    return line, fields(answer)
+
+
+def back(sheet, routes, room):
+    out = bytearray([vectors.FILL]) * room
+    number, size = ref.write_back(BASE, sheet, routes, out)
+    line = 'back plan=%s sheet=%s room=%d' % (vectors.hex_text(sheet), vectors.hex_text(routes), room)
+    return line, fields({'number': number, 'size': size, 'out': vectors.hex_text(out)})
+
+
+def run(sheet, source, destination, calls):
+    """calls: a direction for a step, bytes for a walk. What the packet does is held to the document's own account of a run."""
+    line = 'run plan=%s source=%d destination=%d calls=' % (vectors.hex_text(sheet), source, destination)
+    line += ','.join('w' + call.hex() if isinstance(call, bytes) else 's%02x' % call for call in calls) or '-'
+    number, found = ref.plan_pair(BASE, sheet, source, destination)
+    if number:
+        return line, fields({'number': number})
+    shape = ref.read_plan(BASE, sheet)[1].shape
+    packet, answers = ref.new_packet(BASE, source, found.legs), []
+    for call in calls:
+        if isinstance(call, bytes):
+            walked = ref.walk(BASE, shape.extents, shape.wrap, packet, call)
+            packet = walked.packet
+            answers.append('%d+%s' % (walked.hops, walked.ending))
+        else:
+            number, packet = ref.step(BASE, shape.extents, shape.wrap, packet, call)
+            answers.append('%d' % number)
+    account = ref.run_of(BASE, shape, source, found.legs, [('walk' if isinstance(call, bytes) else 'step', call) for call in calls])
+    assert account.place == packet.node
+    return line, fields({'legs': vectors.legs_text(found.legs), 'answers': ','.join(answers) or '-', 'packet': vectors.packet_text(packet)})
+
+
+def worked():
+    """The document's worked lines, in its own words: (line, answer)."""
+    def direct(node, length):
+        return 'number=0 legs=%d:A length=%d' % (node, length)
+    yield pair_line(W, 0, 1), 'number=0 legs=4:A,1:D length=3'
+    yield pair_line(W, 0, 2), 'number=0 legs=3:A,2:A length=2'
+    yield pair_line(W, 0, 7), direct(7, 2)
+    yield pair_line(W, 0, 0), direct(0, 0)
+    yield pair_line(plan_of([4, 1, 1], 1, (0, 0)), 0, 1), 'number=11'
+    yield pair_line(plan_of([5, 1, 1], 1, (0, 0)), 0, 1), 'number=0 legs=3:A,1:A length=4'
+    yield pair_line(plan_of([2, 1, 1], 0, (0, 0)), 0, 1), 'number=11'
+    yield pair_line(plan_of([1, 1, 1], 0, (0, 3)), 0, 0), 'number=10'
+    yield pair_line(plan_of([16, 1, 1], 0), 0, 15), direct(15, 15)
+    yield pair_line(plan_of([17, 1, 1], 0), 0, 15), 'number=5'
+    yield pair_line(plan_of([3, 1, 1], 1), 0, 2), direct(2, 1)
+    yield pair_line(plan_of([2, 1, 1], 1), 0, 1), 'number=6'
+    cube = [(n, k) for n in range(100) for k in range(3)]
+    for source, destination in (4095, 4094), (2184, 2184):
+        yield pair_line(plan_of([16, 16, 16], 7, *cube[:256]), source, destination), direct(destination, source - destination)
+        yield pair_line(plan_of([16, 16, 16], 7, *cube[:257]), source, destination), 'number=3'
+    yield pair_line(W, 0, 15), direct(15, 2)
+    yield pair_line(W, 15, 0), direct(0, 2)
+    yield pair_line(W, 0, 16), 'number=9'
+    yield pair_line(W, 16, 0), 'number=9'
+    for row in W_LISTING.split(' / '):
+        node, kind, via, length = row.split()
+        modes = {'0': 'A', '2': 'AA', '3': 'AD'}[kind]
+        legs = ([] if via == '-' else [(via, modes[0])]) + [(node, modes[-1])]
+        yield pair_line(W, 0, int(node)), 'number=0 legs=%s length=%s' % (','.join('%s:%s' % leg for leg in legs), length)
+    line = 'sheet plan=%s source=0 room=' % W.hex()
+    yield line + '47', 'number=0 size=47 out=' + W_ROUTES.hex()
+    yield line + '46', 'number=12 size=0 out=' + 46 * 'ee'
+    yield line + '50', 'number=0 size=47 out=' + W_ROUTES.hex() + 'eeeeee'
+    yield line + '0', 'number=12 size=0 out=-'
+    line = 'lookup plan=%s sheet=%s destination=' % (W.hex(), W_ROUTES.hex())
+    yield line + '1', 'part=7:12 number=0 source=0 legs=4:A,1:D'
+    yield line + '14', 'part=42:47 number=0 source=0 legs=3:A,14:A'
+    yield line + '3', 'part=0:0 number=0 source=0 legs=3:A'
+    yield line + '0', 'part=0:0 number=0 source=0 legs=0:A'
+    yield line + '16', 'part=0:0 number=9'
+    line = 'back plan=%s sheet=%s room=' % (W.hex(), W_ROUTES.hex())
+    yield line + '47', 'number=0 size=47 out=' + W_ROUTES.hex()
+    yield line + '46', 'number=12 size=0 out=' + 46 * 'ee'
+    yield line + '49', 'number=0 size=47 out=' + W_ROUTES.hex() + 'eeee'
+
+
+def refusals():
+    """Each call declined by each of its checks, and by several at once, the first of which counts."""
+    none = routes_of(0)
+    for sheet in each_way():
+        number, plan = ref.read_plan(BASE, sheet)
+        yield pair(sheet, 0, 0)
+        yield pair(sheet, 65535, 0)
+        yield route_sheet(sheet, 0 if number or plan.nodes < 100 else 4096, 6)
+        yield lookup(sheet, none, 0)
+        yield lookup(sheet, none[:-1], 65535)
+        yield back(sheet, none, 7)
+        yield back(sheet, none[:-1], 0)
+    torus = plan_of([4, 4, 1], 3, (5, 3), (7, 0))
+    for source, destination in (5, 0), (0, 5), (5, 5), (5, 16), (16, 5), (7, 4), (4, 7):
+        yield pair(torus, source, destination)
+    for source, room in (5, 0), (16, 0), (0, 6), (0, 200):
+        yield route_sheet(torus, source, room)
+    for routes in bad_routes():
+        for destination in 0, 1, 16:
+            yield lookup(torus, routes, destination)
+        yield back(torus, routes, len(routes))
+        yield back(torus, routes, max(0, len(routes) - 1))
+
+
+def bad_routes():
+    """Route sheets for a machine of 16 nodes: good ones with each kind, and each way to be 13."""
+    good = routes_of(3, (0, 1, 0), (1, 2, 0), (2, 3, 15), (4, 4, 5), (5, 10, 0), (6, 11, 0), (15, 5, 14))
+    yield good
+    yield routes_of(15)
+    for cut in 0, 1, 6, 7, len(good) - 5, len(good) - 1:
+        yield good[:cut]
+    yield good + b'\0'
+    yield b'\2' + good[1:]
+    yield b'\0' + good[1:]
+    yield good[:1] + ref.two(len(good)) + good[3:]
+    yield good[:5] + ref.two(6) + good[7:]
+    yield good[:5] + ref.two(8) + good[7:]
+    yield routes_of(16)
+    for kind in 0, 6, 9, 12, 255:
+        yield routes_of(3, (1, kind, 0))
+    for kind in 1, 10, 11:
+        yield routes_of(3, (1, kind, 2))
+    for kind in 2, 3, 4, 5:
+        yield routes_of(3, (1, kind, 3))
+        yield routes_of(3, (1, kind, 1))
+        yield routes_of(3, (1, kind, 16))
+    yield routes_of(3, (3, 1, 0))
+    yield routes_of(3, (16, 1, 0))
+    yield routes_of(3, (1, 1, 0), (1, 1, 0))
+    yield routes_of(3, (2, 1, 0), (1, 1, 0))
+
+
+def runs():
+    """Runs on routes by one via and direct: empty, by steps, by walks, with refused calls, and past the arrival."""
+    for destination, way in (1, [2, 0, 3]), (2, [1, 1]), (14, [1, 3, 3]), (7, [1, 2]), (0, []):
+        way = bytes(way)
+        other = bytes([4])
+        for calls in ([], [way], list(way), [way[:1], way[1:]], [b'', way, b''], [other, way + way], [6, way, 255, other], [way, *way],
+                      [*way[:1], other, way[1:]], [*way[:1], way], [way[:1] + other + way[1:], way[1:], 0]):
+            yield run(W, 0, destination, calls)
+    ring = plan_of([5, 1, 1], 1, (0, 0))
+    for calls in [1] * 5, [bytes([1] * 4)], [bytes([1] * 6)], [0, 1, 1, 0, 1, bytes([1, 0])]:
+        yield run(ring, 0, 1, calls)
+    for source, destination in (0, 16), (16, 0):
+        yield run(W, source, destination, [0])
+    yield run(plan_of([4, 1, 1], 1, (0, 0)), 0, 1, [1])
+    yield run(plan_of([4, 1, 1], 1, (1, 3)), 0, 1, [b''])
+
+
+def uncommon():
+    """Pairs with a deterministic leg, or with no clear choice: a few of a plan."""
+    for i in range(UNCOMMON):
+        rng = random.Random('uncommon/%s/%d' % (SEED, i))
+        sheet = vectors.random_plan(rng, BASE, 40)
+        plan = ref.read_plan(BASE, sheet)[1]
+        found = 0
+        for _ in range(12):
+            source, destination = rng.randrange(plan.nodes), rng.randrange(plan.nodes)
+            number, planned = ref.pair_in(BASE, plan, source, destination)
+            if found < 3 and (number == 11 or not number and 'D' in [mode for _, mode in planned.legs]):
+                found += 1
+                yield pair(sheet, source, destination)
+
+
+def large_machine(rng):
+    """A machine of 128 to 4,096 nodes, two of its nodes, and few faults, most of them on a way between the two."""
+    while True:
+        extents = [rng.choice([1, 2, 3, 4, 5, 8, 9, 15, 16, 16]) for _ in range(3)] if rng.random() < 0.8 else [16, 16, 16]
+        shape = ref.Shape(extents, sum(1 << d for d in range(3) if extents[d] > 2 and rng.random() < 0.6))
+        if shape.nodes > 127:
+            break
+    source, destination = rng.randrange(shape.nodes), rng.randrange(shape.nodes)
+    faults = set()
+    for _ in range(rng.choice([0, 1, 1, 2, 3, 4])):
+        node = source
+        while node != destination:
+            direction = rng.choice(shape.useful(node, destination))
+            there = shape.neighbour(node, direction)
+            if rng.random() < 0.2:
+                faults.add((node if direction % 2 == 0 else there, direction // 2))
+            if rng.random() < 0.05 and there != destination:
+                faults.add((there, 3))
+            node = there
+    return extents, shape.wrap, sorted(faults)[:20], source, destination
+
+
+def first_in_order(plan, source, destination):
+    """The first clear choice of all in their order: as the reference defines it, and quick where few faults are."""
+    for legs in sorted(ref.choices(BASE, plan.shape, source, destination), key=lambda legs: ref.order(plan, source, legs)):
+        if all(ref.clear(BASE, plan, start, leg) for start, leg in zip(ref.starts(source, legs), legs)):
+            return legs
+
+
+def large_pair(sheet, source, destination):
+    plan = ref.read_plan(BASE, sheet)[1]
+    legs = first_in_order(plan, source, destination)
+    return pair_line(sheet, source, destination), route_fields(legs, ref.length_of(plan, source, legs)) if legs else fields({'number': 11})
+
+
+def large_sheet(extents, wrap, faults, source, more):
+    """The sheet of a source into an output with `more` bytes than it needs, or fewer."""
+    sheet = plan_of(extents, wrap, *faults)
+    plan = ref.read_plan(BASE, sheet)[1]
+    entries = []
+    for destination in range(plan.nodes):
+        if destination in plan.dead:
+            entries.append((destination, 10, 0))
+        elif destination != source:
+            legs = first_in_order(plan, source, destination)
+            kind = ref.kind_of(1, legs) if legs else 11
+            if kind:
+                entries.append((destination, kind, legs[0][0] if 1 < kind < 6 else 0))
+    planned = routes_of(source, *entries)
+    room = len(planned) + more
+    return 'sheet plan=%s source=%d room=%d' % (vectors.hex_text(sheet), source, room), written(0, planned, room)
+
+
+def large_routes(rng, nodes, count):
+    """A route sheet with routes nobody planned, for `count` destinations at most."""
+    source = rng.randrange(nodes)
+    entries = []
+    for destination in sorted(rng.sample(range(nodes), count)):
+        via = rng.randrange(nodes)
+        kind = rng.choice([1, 10, 11] if via in (source, destination) else [1, 2, 3, 4, 5, 10, 11])
+        if destination != source:
+            entries.append((destination, kind, via if 1 < kind < 6 else 0))
+    return routes_of(source, *entries)
+
+
+def large_cases():
+    for i in range(LARGE):
+        rng = random.Random('large/%s/%d' % (SEED, i))
+        extents, wrap, faults, source, destination = large_machine(rng)
+        sheet = plan_of(extents, wrap, *faults)
+        yield large_pair(sheet, source, destination)
+        nodes = extents[0] * extents[1] * extents[2]
+        routes = large_routes(rng, nodes, rng.randint(1, 12))
+        listed = [ref.word(routes, at) for at in range(7, len(routes), 5)]
+        yield lookup(sheet, routes, rng.choice(listed + [rng.randrange(nodes), nodes - 1]))
+    yield large_sheet([16, 8, 1], 3, [(5, 0), (40, 3), (100, 1)], 8, 0)
+    yield large_sheet([16, 1, 8], 0, [(20, 2), (66, 0), (100, 3)], 0, 2)
+    yield large_sheet([5, 5, 5], 7, [(0, 0), (1, 3), (62, 2)], 62, 0)
+    yield large_sheet([2, 16, 4], 6, [(31, 1), (64, 0), (70, 3)], 33, -1)
+
+
+def planner_cases():
+    for operation, count in PLANNED.items():
+        for name, asked, answer in vectors.make(BASE, SEED, count, operation):
+            yield '%s %s' % (name, fields(asked)), fields(answer)
+    yield from worked()
+    yield from refusals()
+    yield from runs()
+    yield from uncommon()
+    yield from large_cases()
+
+
+def unreadable_planning():
+    plan, routes = 'plan=' + W.hex(), 'sheet=' + W_ROUTES.hex()
+    ends = 'source=0 destination=1'
+    for operation in 'pair', 'sheet', 'run', 'lookup', 'back':
+        yield operation
+        yield '%s %s' % (operation, plan)
+        yield '%s plan=0 %s %s room=50 calls=-' % (operation, ends, routes)
+    for bad in 'source=0', 'destination=1', 'source=65536 destination=0', 'source=0 destination=', 'source=-1 destination=0':
+        yield 'pair %s %s' % (plan, bad)
+        yield 'run %s %s calls=-' % (plan, bad)
+    for bad in 'source=0', 'source=0 room=', 'source=0 room=20545', 'source=x room=50', 'room=50':
+        yield 'sheet %s %s' % (plan, bad)
+    for bad in '', 'destination=x', 'destination=65536':
+        yield 'lookup %s %s %s' % (plan, routes, bad)
+    yield 'lookup %s sheet=0 destination=1' % plan
+    for bad in '', 'room=', 'room=20545', 'room=4x':
+        yield 'back %s %s %s' % (plan, routes, bad)
+    yield 'back %s sheet= room=50' % plan
+    for calls in '', 's', 's0', 's0000', 's0g', 'w0', 'x00', '00', ',', 's02,', ',s02', 's02,,s00', 's02;s00', 'S02', 's02,w00,x', 'w' + 257 * '00':
+        yield 'run %s %s calls=%s' % (plan, ends, calls)
+    yield 'run %s %s' % (plan, ends)
+
+
 def long():
     """(line, answer): a line fits the buffer together with its newline."""
     def padded(size):
@@ -281,6 +603,11 @@ def long():
         yield padded(size), 'unreadable'
         yield step([3, 3, 3], 7, packet_of(0, (13, 'A')), 4)
     yield padded(2 * LINE_BYTES), 'unreadable'
+    cube, full = plan_of([16, 16, 16], 7), large_routes(random.Random(SEED), 4096, 4096)
+    for room in 20481, 20482, 20544:
+        yield back(cube, full, room)
+    for destination in 0, ref.word(full, 3), 2048, 4095, 4096:
+        yield lookup(cube, full, destination)
 
 
 def cases():
@@ -298,6 +625,9 @@ def cases():
     yield line, answer
     yield from plan_cases()
     for line in unreadable_plans():
+        yield line, 'unreadable'
+    yield from planner_cases()
+    for line in unreadable_planning():
         yield line, 'unreadable'
     yield plan_read(b'')
 

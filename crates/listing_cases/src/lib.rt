@@ -1,6 +1,6 @@
 // Test cases of the listing, a line each: the input of the listing program in hexadecimal digits, and the text that it prints.
-use case_fields::put_number;
-use case_fields::unreadable;
+use case_fields::answers::put_number;
+use case_fields::answers::unreadable;
 use listing_text::TEXT_BYTES;
 use listing_text::listing_text;
 use sheet::output::Written;

@@ -29,7 +29,7 @@ use Rattle.routes.specs.Kinds.{kindOf}
 use Rattle.planner.specs.Sheet.{sourceError}
 use Rattle.planner.proofs.Planning.{Source, source-of}
 use Rattle.listing_text.specs.Decimal.{decimal}
-use Rattle.listing_text.specs.Text.{sourceIn, planIn, listingError, line, header, kindText, viaText, lengthText, destLine, destLines, refusal, listingOf}
+use Rattle.listing_text.specs.Text.{sourceIn, planIn, listingError, line, headLine, kindText, viaText, lengthText, destLine, destLines, refusedWord, refusal, listingOf}
 use Rattle.listing_text.proofs.Decimals.{at-most-1, at-most-2, at-most-3, at-most-4}
 use Rattle.listing_text.proofs.Sources.{source-sound}
 
@@ -81,14 +81,11 @@ last-length f = simp length-append (omega arith)
 refusal-short : (e : ℕ) → e ≤ 10 → length (refusal e) ≤ 11
 unfolding refusal
 refusal-short e h =
-    let w : List ℕ = 114 ∷ 101 ∷ 102 ∷ 117 ∷ 115 ∷ 101 ∷ 100 ∷ [] in
-    omega (arith, line-length w (decimal e) [], last-length (decimal e), at-most-2 e (omega arith))
+    omega (arith, line-length refusedWord (decimal e) [], last-length (decimal e), at-most-2 e (omega arith))
 
-header-short : (p : List ℕ) (S : ℕ) → S < 4096 → nodeCount (shapeOf p) ≤ 4096 → faultCount p ≤ 256 → length (header p S) ≤ 14
-unfolding header
-header-short p S a b c =
-    let n = nodeCount (shapeOf p) in
-    let f = faultCount p in
+head-short : (S n f : ℕ) → S < 4096 → n ≤ 4096 → f ≤ 256 → length (headLine S n f) ≤ 14
+unfolding headLine
+head-short S n f a b c =
     omega (arith, line-length (decimal S) (decimal n) (decimal f ∷ []), line-length (decimal n) (decimal f) [], last-length (decimal f), at-most-4 S (omega arith), at-most-4 n (omega arith), at-most-3 f (omega arith))
 
 -- An answer with a via that is a node's and a length of two digits, or with a number of two digits.
@@ -158,9 +155,12 @@ module _ (p : List ℕ) (S : ℕ) (s : Source p S) where
   lines-short (suc n) h =
       omega (arith, length-append (destLines p S n) (destLine n (pair p S n)), lines-short n (omega arith), line-short n (pair p S n) (omega (arith, most)) (pair-small p S s n (omega arith)))
 
-  accepted-short : length (header p S ++ destLines p S (nodeCount (shapeOf p))) ≤ 61454
+  abbrev first : List ℕ
+  first = headLine S (nodeCount (shapeOf p)) (faultCount p)
+
+  accepted-short : length (first ++ destLines p S (nodeCount (shapeOf p))) ≤ 61454
   accepted-short =
-      omega (arith, length-append (header p S) (destLines p S (nodeCount (shapeOf p))), lines-short (nodeCount (shapeOf p)) (omega arith), most, header-short p S (omega (arith, most, node-of (shapeOf p) S (s .node) .below)) most (within-large p (s .plan) .faults))
+      omega (arith, length-append first (destLines p S (nodeCount (shapeOf p))), lines-short (nodeCount (shapeOf p)) (omega arith), most, head-short S (nodeCount (shapeOf p)) (faultCount p) (omega (arith, most, node-of (shapeOf p) S (s .node) .below)) most (within-large p (s .plan) .faults))
 
 pub listing-fits : (i : List ℕ) → length (listingOf i) ≤ 61454
 unfolding listingOf

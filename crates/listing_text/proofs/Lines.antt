@@ -12,8 +12,8 @@ use Rattle.planner.specs.Outcome.{told}
 use Rattle.listing_text.specs.declared.field.Field.{Field}
 use Rattle.listing_text.specs.declared.field.Field.the-variants.{Number}
 use Rattle.listing_text.specs.Decimal.{decimal}
-use Rattle.listing_text.specs.Text.{blank, newline, line, refusal, kindText, viaText, lengthText, destLine, destLines}
-use Rattle.listing_text.specs.Steps.{putAll, Put, refusedWord, headLine, fieldText, kindIn, viaIn, lengthIn, noOutcome, outcomeLine, outcomeLines}
+use Rattle.listing_text.specs.Text.{blank, newline, line, headLine, refusedWord, refusal, kindText, viaText, lengthText, destLine, destLines}
+use Rattle.listing_text.specs.Steps.{putAll, Put, fieldText, kindIn, viaIn, lengthIn, noOutcome, outcomeLine, outcomeLines}
 use Rattle.listing_text.proofs.Puts.{put-none, put-then}
 
 line-more : (f g : List ℕ) (fs : List (List ℕ)) → (f ++ blank ∷ []) ++ line (g ∷ fs) ≡ line (f ∷ (g ∷ fs))
@@ -58,10 +58,10 @@ line-put D K via len a ek ev el p q x y =
     (field-then (fieldText via) (fieldText len) [] x (last-field (fieldText len) y))))
 
 -- A refusal, from its word and its number.
-pub refusal-put : {o t u : List ℕ} {r : ℕ} (e : ℕ) → t ≡ putAll o 0 refusedWord → Put t u 8 r (fieldText (Number e) ++ newline ∷ []) → Put o u 0 r (refusal e)
+pub refusal-put : {o t u : List ℕ} {r : ℕ} (e : ℕ) → t ≡ putAll o 0 (refusedWord ++ blank ∷ []) → Put t u 8 r (fieldText (Number e) ++ newline ∷ []) → Put o u 0 r (refusal e)
 unfolding refusal line fieldText
 refusal-put {o} {t} {u} {r} e w p =
-    let first : Put o t 0 8 refusedWord = record { bytes = w; next = refl } in
+    let first : Put o t 0 8 (refusedWord ++ blank ∷ []) = record { bytes = w; next = refl } in
     put-then first p
 
 -- ---- the lines of the destinations, one after the other

@@ -10,8 +10,8 @@ use Rattle.choice.specs.Pair.{pair}
 use Rattle.planner.specs.declared.outcome.Outcome.{Outcome}
 use Rattle.planner.specs.Outcome.{told}
 use Rattle.listing_text.specs.declared.writing.Head.{Head}
-use Rattle.listing_text.specs.Text.{sourceIn, planIn, listingError, header, refusal, listingOf}
-use Rattle.listing_text.specs.Steps.{Put, noOutcome, headLine, headOf, outcomeLines, outcomesText}
+use Rattle.listing_text.specs.Text.{sourceIn, planIn, listingError, headLine, refusal, listingOf}
+use Rattle.listing_text.specs.Steps.{Put, noOutcome, headOf, outcomeLines, outcomesText}
 use Rattle.listing_text.proofs.Puts.{put-then}
 use Rattle.listing_text.proofs.Lines.{lines-told}
 use Rattle.listing_text.proofs.Sources.{count-most, source-sound, counted}
@@ -39,7 +39,7 @@ module _ (i : List ℕ) where
         (os : List Outcome) →
         ((d : ℕ) → d < nodeCount (shapeOf (planIn i)) → getD os d noOutcome ≡ told (pair (planIn i) (sourceIn i) d)) →
         outcomesText (headOf (planIn i) (sourceIn i)) os ≡ listingOf i
-    unfolding outcomesText headOf headLine header listingOf
+    unfolding outcomesText headOf listingOf
     accepted-text os h = rw (ok, all-nodes, lines-told os (planIn i) (sourceIn i) (nodeCount (shapeOf (planIn i))) h)
 
     pub planned-text :

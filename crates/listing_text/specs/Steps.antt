@@ -17,7 +17,7 @@ use Rattle.listing_text.specs.declared.field.Field.{Field}
 use Rattle.listing_text.specs.declared.field.Field.the-variants.{Number, Dash}
 use Rattle.listing_text.specs.declared.writing.Head.{Head}
 use Rattle.listing_text.specs.Decimal.{decimal}
-use Rattle.listing_text.specs.Text.{dash, line}
+use Rattle.listing_text.specs.Text.{dash, line, headLine}
 
 -- The output o with the bytes s from the place at on, as far as there is room.
 unfoldable pub putAll : List ℕ → ℕ → List ℕ → List ℕ
@@ -63,16 +63,9 @@ unfoldable pub outcomeLines : List Outcome → ℕ → List ℕ
 outcomeLines os zero = []
 outcomeLines os (suc n) = outcomeLines os n ++ outcomeLine n (getD os n noOutcome)
 
-unfoldable pub headLine : ℕ → ℕ → ℕ → List ℕ
-headLine S nodes faults = line (decimal S ∷ decimal nodes ∷ decimal faults ∷ [])
-
 -- What the first line says of a plan; the node count is 0 of a shape that a check declines.
 unfoldable pub headOf : List ℕ → ℕ → Head
 headOf p S = record { source = S; nodes = countAnswer (shapeOf p); faults = faultCount p }
 
 unfoldable pub outcomesText : Head → List Outcome → List ℕ
 outcomesText h os = headLine (h .source) (h .nodes) (h .faults) ++ outcomeLines os (h .nodes)
-
--- `refused` and a blank.
-abbrev pub refusedWord : List ℕ
-refusedWord = 114 ∷ 101 ∷ 102 ∷ 117 ∷ 115 ∷ 101 ∷ 100 ∷ 32 ∷ []

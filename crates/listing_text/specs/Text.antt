@@ -41,8 +41,8 @@ line (f ∷ []) = f ++ newline ∷ []
 line (f ∷ (g ∷ fs)) = f ++ blank ∷ line (g ∷ fs)
 
 -- It prints source, node count, fault count.
-unfoldable pub header : List ℕ → ℕ → List ℕ
-header p S = line (decimal S ∷ decimal (nodeCount (shapeOf p)) ∷ decimal (faultCount p) ∷ [])
+unfoldable pub headLine : ℕ → ℕ → ℕ → List ℕ
+headLine S nodes faults = line (decimal S ∷ decimal nodes ∷ decimal faults ∷ [])
 
 -- Kind (0 for direct adaptive).
 unfoldable pub kindText : Answer → List ℕ
@@ -70,11 +70,14 @@ destLines p S zero = []
 destLines p S (suc n) = destLines p S n ++ destLine n (pair p S n)
 
 -- A refusal is the one line `refused` and the number.
+abbrev pub refusedWord : List ℕ
+refusedWord = 114 ∷ 101 ∷ 102 ∷ 117 ∷ 115 ∷ 101 ∷ 100 ∷ []
+
 unfoldable pub refusal : ℕ → List ℕ
-refusal e = line ((114 ∷ 101 ∷ 102 ∷ 117 ∷ 115 ∷ 101 ∷ 100 ∷ []) ∷ decimal e ∷ [])
+refusal e = line (refusedWord ∷ decimal e ∷ [])
 
 abbrev pub textOf : ℕ → List ℕ → ℕ → List ℕ
-textOf zero p S = header p S ++ destLines p S (nodeCount (shapeOf p))
+textOf zero p S = headLine S (nodeCount (shapeOf p)) (faultCount p) ++ destLines p S (nodeCount (shapeOf p))
 textOf (suc e) p S = refusal (suc e)
 
 -- The whole text for the input.

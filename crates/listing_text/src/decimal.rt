@@ -1,4 +1,4 @@
-// Numbers in decimal digits.
+// Numbers in decimal digits. A place is at most a million, far past any text.
 use sheet::put_byte;
 ghost use Prim.Native.Nat.{_+_, _≤_};
 ghost use Rattle.listing_text.specs.Decimal.{decimal};

@@ -2,7 +2,8 @@
 use crate::field::Field;
 use crate::field::put_field;
 ghost use Prim.Native.Nat.{_≤_};
-ghost use Rattle.listing_text.specs.Steps.{Put, headLine};
+ghost use Rattle.listing_text.specs.Text.{headLine};
+ghost use Rattle.listing_text.specs.Steps.{Put};
 
 // Writes the line at the front, and answers the next place.
 pub fn put_header(out: &mut [u8], source: u16, nodes: u16, faults: u16) -> usize

@@ -3,11 +3,12 @@ use crate::field::Field;
 use crate::field::put_field;
 use sheet::put_byte;
 ghost use mathlib.Core.Path.{_≡_};
-ghost use Rattle.listing_text.specs.Text.{refusal};
-ghost use Rattle.listing_text.specs.Steps.{putAll, Put, refusedWord};
+ghost use mathlib.Core.List.{[], _∷_, _++_};
+ghost use Rattle.listing_text.specs.Text.{blank, refusedWord, refusal};
+ghost use Rattle.listing_text.specs.Steps.{putAll, Put};
 
 fn put_word(out: &mut [u8])
-    ensures { λ _. ⌜ now (out .exit) ≡ putAll (now (out .entry)) 0 refusedWord ⌝ }
+    ensures { λ _. ⌜ now (out .exit) ≡ putAll (now (out .entry)) 0 (refusedWord ++ blank ∷ []) ⌝ }
 {
     put_byte(out, 0, b'r');
     put_byte(out, 1, b'e');

@@ -1,5 +1,5 @@
 // Test cases of the stepper, a line each: what a line gives is read, the call is made, and what it answers is written behind it.
-mod packets;
+pub mod packets;
 pub mod step;
-mod stepper;
+pub mod stepper;
 pub mod walk;

@@ -4,9 +4,11 @@ use crate::stepper::Leg;
 use crate::stepper::Mode;
 use crate::stepper::Packet;
 use crate::stepper::Shape;
-use case_fields::ShapeField;
-use case_fields::put_number;
-use case_fields::read_shape;
+use case_fields::answers::put_number;
+use case_fields::legs::put_leg;
+use case_fields::legs::put_two;
+use case_fields::shapes::ShapeField;
+use case_fields::shapes::read_shape;
 use text::decimal;
 use text::decimal::Word;
 use text::field;
@@ -135,43 +137,36 @@ pub fn read_case(line: &[u8]) -> Case {
     }
 }
 
-fn letter(mode: Mode) -> u8 {
-    match mode {
-        Mode::Adaptive => b'A',
-        Mode::Deterministic => b'D',
-    }
-}
-
-fn put_leg(out: &mut [u8], at: usize, leg: Leg) -> usize {
-    let mode = leg.mode;
-    let next = decimal::put(out, at, leg.target as u64);
-    let colon = put::byte(out, next, b':');
-    put::byte(out, colon, letter(mode))
-}
-
-// Writes a packet. One with more legs than a packet can hold is written as it was given, in `text`.
-fn put_packet(out: &mut [u8], at: usize, packet: Packet, text: &[u8]) -> usize {
+// Writes a packet of at most two legs.
+pub fn put_packet(out: &mut [u8], at: usize, packet: Packet) -> usize {
     let legs = packet.legs;
     let left = packet.left;
-    if 2 < left {
-        return put::bytes(out, at, text);
-    }
+    let first = legs[0];
+    let last = legs[1];
+    let first_mode = first.mode;
+    let last_mode = last.mode;
     let node = decimal::put(out, at, packet.node as u64);
     let next = put::byte(out, node, b';');
     if left == 0 {
         return next;
     }
     if left == 1 {
-        return put_leg(out, next, legs[1]);
+        return put_leg(out, next, last.target, last_mode);
     }
-    let first = put_leg(out, next, legs[0]);
-    let comma = put::byte(out, first, b',');
-    put_leg(out, comma, legs[1])
+    put_two(out, next, first.target, first_mode, last.target, last_mode)
+}
+
+// Writes a packet. One with more legs than a packet can hold is written as it was given, in `text`.
+fn put_any(out: &mut [u8], at: usize, packet: Packet, text: &[u8]) -> usize {
+    if 2 < packet.left {
+        return put::bytes(out, at, text);
+    }
+    put_packet(out, at, packet)
 }
 
 // Writes the fields `number` and `packet` of the answer to a line.
 pub fn put_answer(out: &mut [u8], at: usize, number: u8, packet: Packet, line: &[u8]) -> usize {
     let end = put_number(out, at, number);
     let key = put::bytes(out, end, b" packet=");
-    put_packet(out, key, packet, packet_text(line))
+    put_any(out, key, packet, packet_text(line))
 }

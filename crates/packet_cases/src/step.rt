@@ -1,7 +1,7 @@
 // The operation `step`: one call of the stepper's step.
 use crate::packets;
 use crate::stepper;
-use case_fields::unreadable;
+use case_fields::answers::unreadable;
 use text::decimal;
 use text::decimal::Byte;
 use text::field;

@@ -2,7 +2,7 @@
 use crate::packets;
 use crate::stepper;
 use crate::stepper::WalkAnswer;
-use case_fields::unreadable;
+use case_fields::answers::unreadable;
 use text::field;
 use text::hex;
 use text::hex::Count;
@@ -12,23 +12,25 @@ use text::put;
 // The longest run of directions.
 const RUN_BYTES: usize = 65536;
 
-fn put_ending(out: &mut [u8], at: usize, number: u8, arrived: bool) -> usize {
-    if number == 15 {
-        return put::bytes(out, at, b" ending=not-allowed");
+// Writes how a walk ended.
+pub fn put_ending(out: &mut [u8], at: usize, walk: WalkAnswer) -> usize {
+    if walk.number == 15 {
+        return put::bytes(out, at, b"not-allowed");
     }
-    if number != 0 {
-        return put::bytes(out, at, b" ending=refused");
+    if walk.number != 0 {
+        return put::bytes(out, at, b"refused");
     }
-    if arrived {
-        return put::bytes(out, at, b" ending=arrived");
+    if walk.arrived {
+        return put::bytes(out, at, b"arrived");
     }
-    put::bytes(out, at, b" ending=used-up")
+    put::bytes(out, at, b"used-up")
 }
 
 fn put_walk(out: &mut [u8], at: usize, walk: WalkAnswer, line: &[u8]) -> usize {
     let packet = packets::put_answer(out, at, walk.number, walk.packet, line);
     let hops = field::put_number(out, packet, b" hops=", walk.hops as u64);
-    put_ending(out, hops, walk.number, walk.arrived)
+    let key = put::bytes(out, hops, b" ending=");
+    put_ending(out, key, walk)
 }
 
 // Writes the answer to a line `walk extents=.. wrap=.. packet=.. run=..`.

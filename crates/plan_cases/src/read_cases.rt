@@ -1,9 +1,10 @@
 // The operation `plan`: a plan sheet is read.
 use crate::faults::put_faults;
-use crate::fields;
-use case_fields::put_number;
-use case_fields::put_shape;
-use case_fields::unreadable;
+use case_fields::answers::put_number;
+use case_fields::answers::unreadable;
+use case_fields::shapes::put_shape;
+use case_fields::sheets::PLAN_BYTES;
+use case_fields::sheets::read_plan;
 use plan::Answer;
 use plan::read;
 use text::hex::Count;
@@ -11,8 +12,8 @@ use text::part::front;
 
 // Writes the answer to a line `plan plan=..`.
 pub fn answer(line: &[u8], out: &mut [u8], at: usize) -> usize {
-    let mut bytes = [0u8; fields::SHEET_BYTES];
-    let Count::Bytes(count) = fields::sheet(line, &mut bytes) else {
+    let mut bytes = [0u8; PLAN_BYTES];
+    let Count::Bytes(count) = read_plan(line, &mut bytes) else {
         return unreadable(out, at);
     };
     let reading = read(front(&bytes, count));

@@ -1,10 +1,12 @@
 // The operations `planback` and `planwrite`: a plan sheet is written back, or written from a plan's value, into lent output filled with EE.
 use crate::faults::with_faults;
-use crate::fields;
-use crate::output::put_written;
-use case_fields::ShapeField;
-use case_fields::read_shape;
-use case_fields::unreadable;
+use case_fields::answers::put_written;
+use case_fields::answers::unreadable;
+use case_fields::shapes::ShapeField;
+use case_fields::shapes::read_shape;
+use case_fields::sheets::PLAN_BYTES;
+use case_fields::sheets::read_plan;
+use case_fields::sheets::read_room;
 use plan::Plan;
 use plan::write;
 use plan::write_back;
@@ -34,12 +36,12 @@ fn write_into(plan: Plan, lent: &mut [u8], room: usize, out: &mut [u8], at: usiz
 
 // Writes the answer to a line `planback plan=.. room=..`.
 pub fn answer_back(line: &[u8], out: &mut [u8], at: usize) -> usize {
-    let mut bytes = [0u8; fields::SHEET_BYTES];
-    let mut lent = [0xEEu8; fields::SHEET_BYTES];
-    let Count::Bytes(count) = fields::sheet(line, &mut bytes) else {
+    let mut bytes = [0u8; PLAN_BYTES];
+    let mut lent = [0xEEu8; PLAN_BYTES];
+    let Count::Bytes(count) = read_plan(line, &mut bytes) else {
         return unreadable(out, at);
     };
-    let Number::Value(room) = fields::room(line) else {
+    let Number::Value(room) = read_room(line, PLAN_BYTES) else {
         return unreadable(out, at);
     };
     back_into(front(&bytes, count), &mut lent, room as usize, out, at)
@@ -47,7 +49,7 @@ pub fn answer_back(line: &[u8], out: &mut [u8], at: usize) -> usize {
 
 // Writes the answer to a line `planwrite extents=.. wrap=.. faults=.. room=..`.
 pub fn answer_write(line: &[u8], out: &mut [u8], at: usize) -> usize {
-    let mut lent = [0xEEu8; fields::SHEET_BYTES];
+    let mut lent = [0xEEu8; PLAN_BYTES];
     let ShapeField::Shape(shape) = read_shape(line) else {
         return unreadable(out, at);
     };
@@ -55,7 +57,7 @@ pub fn answer_write(line: &[u8], out: &mut [u8], at: usize) -> usize {
     if !given.readable {
         return unreadable(out, at);
     }
-    let Number::Value(room) = fields::room(line) else {
+    let Number::Value(room) = read_room(line, PLAN_BYTES) else {
         return unreadable(out, at);
     };
     let plan = given.plan;

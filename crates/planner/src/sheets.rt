@@ -26,7 +26,8 @@ ghost use Rattle.routes.specs.Writing.{routeEntries};
 ghost use Rattle.planner.specs.Sheet.{sourceError, entriesFrom, plannedSheet};
 ghost use Rattle.planner.specs.Steps.{routeOf, isListed, pickEntry, counted, lastAt};
 
-fn source_error(plan: &[u8], source: u16) -> u8
+// Checks 1 to 8, then 9 and 10 of the source; 0 where none declines.
+pub fn source_error(plan: &[u8], source: u16) -> u8
     ensures { λ r. ⌜ r ≡ sourceError (now (plan .entry)) source ⌝ }
 {
     let error = check(plan);

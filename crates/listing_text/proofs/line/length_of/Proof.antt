@@ -28,7 +28,7 @@ returns-2 c = rw (c .before .outcome2 .given .1)
 
 returns-3 : tie.Need-returns-3
 unfolding lengthIn
-returns-3 c = cc
+returns-3 c = rw (c .enum-told .given .1)
 
 pub length-of-spec : {M : Type 1} → statement M
 length-of-spec =

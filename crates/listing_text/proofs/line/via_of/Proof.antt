@@ -14,7 +14,7 @@ enum-told-2 c = search needs
 
 returns : tie.Need-returns
 unfolding viaIn
-returns c = cc
+returns c = rw (c .enum-told .given .1)
 
 returns-2 : tie.Need-returns-2
 unfolding viaIn
@@ -22,7 +22,7 @@ returns-2 c = rw (c .before .outcome .given .1)
 
 returns-3 : tie.Need-returns-3
 unfolding viaIn
-returns-3 c = cc
+returns-3 c = rw (c .enum-told2 .given .1)
 
 pub via-of-spec : {M : Type 1} → statement M
 via-of-spec =

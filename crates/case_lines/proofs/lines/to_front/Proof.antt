@@ -2,8 +2,8 @@ use Prim.Native.Nat.{_-_, _≤_}
 use mathlib.Core.Path.{_≡_}
 use native.Mathlib.Omega.{arith}
 use lib.ListN.{length, length-set}
-use Rattle.conform.proofs.lines.to_front.Statement.{statement}
-use Rattle.conform.proofs.lines.to_front.Tie as tie
+use Rattle.case_lines.proofs.lines.to_front.Statement.{statement}
+use Rattle.case_lines.proofs.lines.to_front.Tie as tie
 
 abbrev Inv-loop : tie.InvT-loop
 Inv-loop buffer₀ start end count i₀ buffer i = (i ≤ count) × (length buffer ≡ length buffer₀)

@@ -2,8 +2,8 @@ use Prim.Native.Nat.{_-_, _≤_}
 use mathlib.Core.Path.{_≡_}
 use native.Mathlib.Omega.{arith}
 use lib.ListN.{length}
-use Rattle.conform.proofs.answer_lines.Statement.{statement}
-use Rattle.conform.proofs.answer_lines.Tie as tie
+use Rattle.case_lines.proofs.answer_lines.Statement.{statement}
+use Rattle.case_lines.proofs.answer_lines.Tie as tie
 
 abbrev Inv-loop : tie.InvT-loop
 Inv-loop held out₀ skip start₀ skipping₀ end₀ out start skipping end = (start ≤ length held) × (end ≤ length held) × (length out ≡ length out₀)

@@ -1,9 +1,17 @@
-// What a writing call answers, and its lent output whole.
-use case_fields::put_number;
+// The answer's number, what a writing call answers, and the answer to a line that cannot be read.
 use sheet::Written;
 use text::field;
 use text::hex;
 use text::put;
+
+// Writes the field `number`.
+pub fn put_number(out: &mut [u8], at: usize, number: u8) -> usize {
+    field::put_number(out, at, b"number=", number as u64)
+}
+
+pub fn unreadable(out: &mut [u8], at: usize) -> usize {
+    put::bytes(out, at, b"unreadable")
+}
 
 fn number_of(written: Written) -> u8 {
     match written {
@@ -19,7 +27,7 @@ fn size_of(written: Written) -> usize {
     }
 }
 
-// Writes the fields `number`, `size` and `out`.
+// Writes the fields `number`, `size` and `out`, which is the lent output whole.
 pub fn put_written(out: &mut [u8], at: usize, written: Written, lent: &[u8]) -> usize {
     let number = put_number(out, at, number_of(written));
     let size = field::put_number(out, number, b" size=", size_of(written) as u64);

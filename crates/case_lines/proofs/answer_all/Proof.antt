@@ -2,8 +2,8 @@ use Prim.Native.Nat.{_≤_}
 use mathlib.Core.Path.{_≡_}
 use native.Mathlib.Omega.{arith}
 use lib.ListN
-use Rattle.conform.proofs.answer_all.Statement.{statement}
-use Rattle.conform.proofs.answer_all.Tie as tie
+use Rattle.case_lines.proofs.answer_all.Statement.{statement}
+use Rattle.case_lines.proofs.answer_all.Tie as tie
 
 abbrev Inv-loop : tie.InvT-loop
 Inv-loop buffer₀ out₀ length₀ skip₀ turns₀ buffer out length skip turns = (length ≤ ListN.length buffer) × (ListN.length buffer ≡ ListN.length buffer₀) × (ListN.length out ≡ ListN.length out₀)

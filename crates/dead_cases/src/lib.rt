@@ -1,7 +1,7 @@
-// The operations `dead` and `masks`: what a plan's faults make dead.
-use crate::fields;
-use case_fields::put_number;
-use case_fields::unreadable;
+// Test cases of what a plan's faults make dead, a line each: the operations `dead` and `masks`.
+use case_fields::answers::unreadable;
+use case_fields::sheets::PLAN_BYTES;
+use case_fields::sheets::read_plan;
 use dead::dead_masks;
 use dead::is_dead_link;
 use dead::is_dead_node;
@@ -22,8 +22,8 @@ fn digit(b: bool) -> u64 {
 
 // Writes the answer to a line `dead plan=.. node=.. direction=..`: whether the node is dead, and the link leaving it in the direction.
 pub fn answer_dead(line: &[u8], out: &mut [u8], at: usize) -> usize {
-    let mut bytes = [0u8; fields::SHEET_BYTES];
-    let Count::Bytes(size) = fields::sheet(line, &mut bytes) else {
+    let mut bytes = [0u8; PLAN_BYTES];
+    let Count::Bytes(size) = read_plan(line, &mut bytes) else {
         return unreadable(out, at);
     };
     let Word::Value(node) = decimal::read_word(field::value(line, b"node=")) else {
@@ -44,8 +44,8 @@ pub fn answer_dead(line: &[u8], out: &mut [u8], at: usize) -> usize {
 
 // Writes the answer to a line `masks plan=..`: a byte for each node of the plan, with a bit for each direction whose link is dead.
 pub fn answer_masks(line: &[u8], out: &mut [u8], at: usize) -> usize {
-    let mut bytes = [0u8; fields::SHEET_BYTES];
-    let Count::Bytes(size) = fields::sheet(line, &mut bytes) else {
+    let mut bytes = [0u8; PLAN_BYTES];
+    let Count::Bytes(size) = read_plan(line, &mut bytes) else {
         return unreadable(out, at);
     };
     let sheet = front(&bytes, size);

@@ -1,10 +1,13 @@
-// The answer to one line.
-use case_fields::unreadable;
+// The answer to a test case, which is one line: the operation that its first word names is asked.
+use case_fields::answers::unreadable;
 use packet_cases::step;
 use packet_cases::walk;
-use plan_cases::dead_cases;
 use plan_cases::read_cases;
 use plan_cases::write_cases;
+use planner_cases::pair_cases;
+use planner_cases::sheet_cases;
+use route_cases::back_cases;
+use route_cases::lookup_cases;
 use text::compare::same;
 use text::field;
 use text::part::front;
@@ -39,6 +42,34 @@ fn plan_operation(name: &[u8], given: &[u8], out: &mut [u8], at: usize) -> usize
     }
     if same(name, b"masks") {
         return dead_cases::answer_masks(given, out, at);
+    }
+    route_operation(name, given, out, at)
+}
+
+// The operations on route sheets.
+fn route_operation(name: &[u8], given: &[u8], out: &mut [u8], at: usize) -> usize {
+    if same(name, b"lookup") {
+        return lookup_cases::answer(given, out, at);
+    }
+    if same(name, b"back") {
+        return back_cases::answer(given, out, at);
+    }
+    planner_operation(name, given, out, at)
+}
+
+// The operations that plan.
+fn planner_operation(name: &[u8], given: &[u8], out: &mut [u8], at: usize) -> usize {
+    if same(name, b"pair") {
+        return pair_cases::answer(given, out, at);
+    }
+    if same(name, b"sheet") {
+        return sheet_cases::answer(given, out, at);
+    }
+    if same(name, b"run") {
+        return run_cases::answer(given, out, at);
+    }
+    if same(name, b"listing") {
+        return listing_cases::answer(given, out, at);
     }
     unreadable(out, at)
 }

@@ -1,0 +1,31 @@
+// Legs as text: `target:mode,target:mode`.
+use machine::leg::Mode;
+use text::decimal;
+use text::put;
+
+fn letter(mode: Mode) -> u8 {
+    match mode {
+        Mode::Adaptive => b'A',
+        Mode::Deterministic => b'D',
+    }
+}
+
+pub fn put_leg(out: &mut [u8], at: usize, target: u16, mode: Mode) -> usize {
+    let next = decimal::put(out, at, target as u64);
+    let colon = put::byte(out, next, b':');
+    put::byte(out, colon, letter(mode))
+}
+
+// Writes the legs by a via.
+pub fn put_two(
+    out: &mut [u8],
+    at: usize,
+    via: u16,
+    first: Mode,
+    target: u16,
+    second: Mode,
+) -> usize {
+    let leg = put_leg(out, at, via, first);
+    let comma = put::byte(out, leg, b',');
+    put_leg(out, comma, target, second)
+}

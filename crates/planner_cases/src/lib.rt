@@ -1,0 +1,4 @@
+// Test cases of planning, a line each: a pair, and the sheet of a source.
+pub mod outcomes;
+pub mod pair_cases;
+pub mod sheet_cases;

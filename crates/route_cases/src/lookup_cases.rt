@@ -1,0 +1,81 @@
+// The operation `lookup`: a destination's entry, as a part of the lent sheet, and its route.
+use case_fields::answers::put_number;
+use case_fields::answers::unreadable;
+use case_fields::legs::put_leg;
+use case_fields::legs::put_two;
+use case_fields::nodes::read_destination;
+use case_fields::sheets::PLAN_BYTES;
+use case_fields::sheets::ROUTE_BYTES;
+use case_fields::sheets::read_plan;
+use case_fields::sheets::read_routes;
+use routes::Route;
+use routes::layout::ENTRIES_AT;
+use routes::layout::source_in;
+use routes::lookup::find_entry;
+use routes::lookup::lookup;
+use routes::route::route;
+use text::compare::same;
+use text::decimal::Word;
+use text::field;
+use text::hex::Count;
+use text::part::front;
+use text::part::part;
+use text::put;
+
+// Writes the field `part`: where the entry stands, and where it ends. An empty part is at the sheet's start. An entry that is not those bytes of the sheet has no place.
+fn put_part(out: &mut [u8], at: usize, sheet: &[u8], dest: u16, entry: &[u8]) -> usize {
+    if entry.len() == 0 {
+        return put::bytes(out, at, b"part=0:0");
+    }
+    let start = ENTRIES_AT + 5 * (find_entry(sheet, dest) as usize);
+    let end = start + 5;
+    if !same(part(sheet, start, end), entry) {
+        return put::bytes(out, at, b"part=?");
+    }
+    let first = field::put_number(out, at, b"part=", start as u64);
+    field::put_number(out, first, b":", end as u64)
+}
+
+// Writes the fields of a route before its legs.
+fn put_source(out: &mut [u8], at: usize, source: u16) -> usize {
+    let number = put_number(out, at, 0);
+    let next = field::put_number(out, number, b" source=", source as u64);
+    put::bytes(out, next, b" legs=")
+}
+
+// Writes the field `number`, and of a route the fields `source` and `legs`.
+fn put_route(out: &mut [u8], at: usize, source: u16, dest: u16, route: Route) -> usize {
+    match route {
+        Route::Refused(number) => put_number(out, at, number),
+        Route::Direct(mode) => {
+            let next = put_source(out, at, source);
+            put_leg(out, next, dest, mode)
+        }
+        Route::Via(via, first, second) => {
+            let next = put_source(out, at, source);
+            put_two(out, next, via, first, dest, second)
+        }
+    }
+}
+
+fn put_lookup(out: &mut [u8], at: usize, plan: &[u8], sheet: &[u8], dest: u16) -> usize {
+    let end = put_part(out, at, sheet, dest, lookup(plan, sheet, dest));
+    let next = put::byte(out, end, b' ');
+    put_route(out, next, source_in(sheet), dest, route(plan, sheet, dest))
+}
+
+// Writes the answer to a line `lookup plan=.. sheet=.. destination=..`.
+pub fn answer(line: &[u8], out: &mut [u8], at: usize) -> usize {
+    let mut plan = [0u8; PLAN_BYTES];
+    let mut sheet = [0u8; ROUTE_BYTES];
+    let Count::Bytes(plan_size) = read_plan(line, &mut plan) else {
+        return unreadable(out, at);
+    };
+    let Count::Bytes(size) = read_routes(line, &mut sheet) else {
+        return unreadable(out, at);
+    };
+    let Word::Value(dest) = read_destination(line) else {
+        return unreadable(out, at);
+    };
+    put_lookup(out, at, front(&plan, plan_size), front(&sheet, size), dest)
+}
