@@ -233,7 +233,12 @@ static void op_run(const char *line) {
     lend_field(&plan, line, "plan");
     uint16_t source = node(line, "source"), destination = node(line, "destination");
     nafthurm_shape shape = nafthurm_plan_shape(plan.bytes, plan.size);
-    nafthurm_packet packet = nafthurm_new_packet(source, destination, nafthurm_pair(plan.bytes, plan.size, source, destination).route);
+    nafthurm_route route = nafthurm_pair(plan.bytes, plan.size, source, destination).route;
+    if (route.number != 0) {
+        put("number=%d", route.number);
+        return;
+    }
+    nafthurm_packet packet = nafthurm_new_packet(source, destination, route);
     put("legs=");
     put_legs(packet);
     put(" answers=");
