@@ -16,7 +16,7 @@ use Rattle.packet.specs.declared.stepper.Ending.{Ending}
 use Rattle.packet.specs.declared.stepper.Walked.{Walked}
 use Rattle.choice.specs.Choice.{det}
 use Rattle.sheet.specs.declared.output.Written.{Written}
-use Rattle.routes.specs.declared.kinds.Route.{Route}
+use Rattle.packet.specs.declared.route.Route.{Route}
 use Rattle.routes.specs.Said.{saidBy, entryFor, told, heard}
 use Rattle.planner.specs.declared.outcome.Outcome.{Outcome}
 use Rattle.board.specs.declared.forms.ShapeForm.{ShapeForm}
