@@ -26,7 +26,7 @@ use Rattle.plan.specs.Reading.{isPlan}
 use Rattle.dead.specs.Dead.{deadNode, bitOf, maskAnswer, nodeAnswer}
 use Rattle.dead.proofs.Table.{is-node}
 use Rattle.tables.specs.Entry.{outwardAnswer}
-use Rattle.choice.specs.Choice.{Direct, Via}
+use Rattle.choice.specs.Choice.{Direct, Via, routeOf}
 use Rattle.choice.specs.Pair as Pair
 use Rattle.choice.specs.Pair.{Answer, pair}
 use Rattle.routes.specs.declared.layout.Entry.{Entry}
@@ -38,7 +38,7 @@ use Rattle.routes.specs.Said.{Said, Says, Refused, entryFor, heard}
 use Rattle.routes.specs.Writing.{sheetBytes, routeEntries, sheetOf, writeError}
 use Rattle.routes.proofs.Saying.{heard-told}
 use Rattle.planner.specs.declared.outcome.Outcome.{Outcome}
-use Rattle.planner.specs.Outcome.{told}
+use Rattle.planner.specs.Outcome.{told, routeFrom}
 use Rattle.planner.specs.Dest.{outcomeTo}
 use Rattle.planner.specs.Sheet.{sourceError, saidOf, lists, entriesFrom, plannedSheet}
 use Rattle.planner.specs.Steps.{isListed, pickEntry, counted, lastAt}
@@ -64,13 +64,13 @@ source-error p s S (suc e) a b es ee ea eb = rw (sym ee, ne-eqb (suc e) 0 (λ z.
 
 -- ---- a destination's entry
 said-route : (a : Answer) → routeFrom (told a) ≡ Said.told (saidOf a)
-unfolding routeFrom told saidOf Said.told
+unfolding routeFrom told saidOf Said.told routeOf
 said-route (Pair.Route (Direct m) len) = refl
 said-route (Pair.Route (Via v m n) len) = refl
 said-route (Pair.Refused n) = refl
 
 said-listed : (x : Said) → isListed (Said.told x) ≡ lists x
-unfolding isListed Said.told lists
+unfolding isListed Said.told routeOf lists
 said-listed (Says (Direct Adaptive)) = refl
 said-listed (Says (Direct Deterministic)) = refl
 said-listed (Says (Via v m n)) = refl
