@@ -4,11 +4,10 @@ use mathlib.Core.Path.{_≡_, refl, sym, _∙_}
 use mathlib.Core.Bool.{true, false}
 use mathlib.Core.List.{List}
 use borrow.Author.Tests.{eq-eqb, ne-eqb}
-use Rattle.plan.specs.declared.reading.Plan.{Plan}
 use Rattle.plan.specs.declared.reading.Reading.{Reading}
-use Rattle.plan.specs.declared.reading.Answer.the-variants.{Accepted, Refused}
+use Rattle.plan.specs.declared.reading.Answer.the-variants.{Refused}
 use Rattle.plan.specs.Checks.{large, planError}
-use Rattle.plan.specs.Reading.{noPlan, isPlan, planOf, reading}
+use Rattle.plan.specs.Reading.{noPlan, isPlan, reading}
 
 module _ (s : List ℕ) (e : ℕ) (h : e ≡ planError large s) where
   pub is-plan : e ≡ 0 → isPlan s ≡ true
@@ -29,6 +28,5 @@ module _ (s : List ℕ) (e : ℕ) (h : e ≡ planError large s) where
       go zero n = absurd (n refl)
       go (suc k) n = refl
 
-  pub read-as : e ≡ 0 → (p : Plan) → p ≡ planOf s → _≡_ {A = Reading} (record { answer = Accepted; plan = p }) (reading (planError large s) s)
-  unfolding reading
-  read-as z p q = rw (sym h ∙ z, q)
+  pub read-as : e ≡ 0 → (r : Reading) → r ≡ reading 0 s → r ≡ reading (planError large s) s
+  read-as z r q = q ∙ rw (sym h ∙ z)

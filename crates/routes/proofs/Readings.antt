@@ -6,12 +6,11 @@ use mathlib.Core.List.{List}
 use lib.ListN.{length}
 use Rattle.sheet.proofs.Records.{from-length}
 use Rattle.plan.specs.Layout.{shapeOf}
-use Rattle.plan.specs.declared.reading.Answer.the-variants.{Accepted, Refused}
-use Rattle.routes.specs.declared.reading.Routes.{Routes}
+use Rattle.plan.specs.declared.reading.Answer.the-variants.{Refused}
 use Rattle.routes.specs.declared.reading.Reading.{Reading}
 use Rattle.routes.specs.Layout.{source, entryCount, entryAt, entriesOf}
 use Rattle.routes.specs.Checks.{sheetError}
-use Rattle.routes.specs.Reading.{noRoutes, routesOf, reading}
+use Rattle.routes.specs.Reading.{noRoutes, reading}
 use Rattle.routes.proofs.Sheets.{accepted}
 use Rattle.routes.proofs.Rising.{routed}
 
@@ -33,6 +32,5 @@ module _ (p s : List ℕ) (e : ℕ) (h : e ≡ sheetError p s) where
       go zero n = absurd (n refl)
       go (suc k) n = refl
 
-  pub read-as : e ≡ 0 → (r : Routes) → r ≡ routesOf s → _≡_ {A = Reading} (record { answer = Accepted; routes = r }) (reading (sheetError p s) s)
-  unfolding reading
-  read-as z r q = rw (sym h ∙ z, q)
+  pub read-as : e ≡ 0 → (r : Reading) → r ≡ reading 0 s → r ≡ reading (sheetError p s) s
+  read-as z r q = q ∙ rw (sym h ∙ z)
