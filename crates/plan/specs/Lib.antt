@@ -3,4 +3,5 @@ pub mod Kinds
 pub mod Checks
 pub mod Reading
 pub mod Writing
+pub mod Value
 pub mod Steps
