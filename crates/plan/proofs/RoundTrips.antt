@@ -1,7 +1,7 @@
 -- A plan written is read back as the same plan, and an accepted sheet is written back as the same bytes: from what the lent output holds after the call.
 use Prim.Native.Nat.{ℕ, _≤_}
 use mathlib.Core.Path.{_≡_, refl}
-use mathlib.Core.List.{List, [], _∷_}
+use mathlib.Core.List.{List}
 use lib.ListN.{length, take}
 use Rattle.shape.specs.Shape.{shapeError, badExtents, badWraps}
 use Rattle.shape.specs.Axis.{hasLink}
@@ -20,6 +20,7 @@ use Rattle.plan.specs.Checks.{large, faultExists, rank, faultsError, pla
 use Rattle.plan.specs.Reading.{planOf, reading}
 use Rattle.plan.specs.Writing.{writeError, sheetOf}
 use Rattle.plan.specs.Value.{Fits, cleared}
+use Rattle.plan.specs.Worked.{W}
 use Rattle.plan.proofs.Writings.{plan-read}
 use Rattle.plan.proofs.Rewriting.{read-written}
 
@@ -46,9 +47,6 @@ module _ (s : List ℕ) (bytes : AreBytes s) (h : planError large s ≡ 0) where
     read-again = rw read-then-written
 
 -- Machine W's plan is such a sheet.
-abbrev pub W : List ℕ
-W = 1 ∷ 0 ∷ 9 ∷ 4 ∷ 4 ∷ 1 ∷ 3 ∷ 0 ∷ 1 ∷ 0 ∷ 0 ∷ 0 ∷ []
-
 pub w-bytes : AreBytes W
 w-bytes = are-bytes W refl
 

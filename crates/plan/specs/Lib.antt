@@ -4,4 +4,5 @@ pub mod Checks
 pub mod Reading
 pub mod Writing
 pub mod Value
+pub mod Worked
 pub mod Steps

@@ -15,8 +15,8 @@ use Rattle.sheet.proofs.Outputs.{same-bytes}
 use Rattle.plan.specs.declared.reading.Answer.the-variants.{Accepted}
 use Rattle.plan.specs.Layout.{version, lengthField, bytesAfter, shapeOf}
 use Rattle.plan.specs.Checks.{large, planError}
+use Rattle.plan.specs.Worked.{W}
 use Rattle.plan.proofs.RoundTrips as Plan
-use Rattle.plan.proofs.RoundTrips.{W}
 use Rattle.routes.specs.declared.layout.Entry.{Entry}
 use Rattle.routes.specs.declared.reading.Routes.{Routes}
 use Rattle.routes.specs.Layout.{source, entryCount, entryAt, entriesOf, noEntry}
