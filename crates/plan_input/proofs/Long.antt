@@ -1,5 +1,5 @@
 -- Input past the longest plan sheet that is accepted: it is declined, and its first 778 bytes, one more than that sheet has, say with which number.
-use Prim.Native.Nat.{ℕ, zero, suc, _≤_, _<_}
+use Prim.Native.Nat.{ℕ, _≤_, _<_}
 use native.Mathlib.Omega.{arith}
 use mathlib.Core.Path.{_≡_, sym, _∙_}
 use mathlib.Core.Bool.{Bool, true, false, not, _||_}
@@ -14,6 +14,7 @@ use Rattle.sheet.specs.Bytes.{byte}
 use Rattle.sheet.proofs.Inputs.{DecidedBy}
 use Rattle.plan.specs.Layout.{planVersion, version, lengthField, bytesAfter, sizeAfter, faultCount}
 use Rattle.plan.specs.Checks.{large, planError}
+use Rattle.plan.proofs.Plans.{accepted}
 
 -- 2, 3 or 4.
 longError : Bool → Bool → ℕ
@@ -45,13 +46,7 @@ module _ (p : List ℕ) (long : 778 ≤ length p) where
       (λ f. rw (le-ltb (length p) 9 (omega arith), v, f, wrong-length f)))
 
   pub long-declined : planError large p ≡ 0 → ⊥
-  unfolding longError
-  long-declined h = go (wrongVersion p) (manyFaults p) (sym long-error ∙ h)
-    where
-      go : (a b : Bool) → longError a b ≡ 0 → ⊥
-      go true b e = omega arith
-      go false true e = omega arith
-      go false false e = omega arith
+  long-declined h = let a = accepted large p h .head in omega (arith, a .sized, a .few)
 
 module _ (k : ℕ) (p : List ℕ) (h : 778 ≤ k) where
   same-byte : (i : ℕ) → i < 9 → byte (take k p) i ≡ byte p i
