@@ -2,9 +2,8 @@
 use Prim.Native.Nat.{ℕ, _+_, _*_, _≤_, _<_}
 use native.Mathlib.Omega.{arith}
 use mathlib.Core.Path.{_≡_, refl, sym, ap, _∙_}
-use mathlib.Core.List.{List, [], _∷_, _++_}
+use mathlib.Core.List.{List, [], _∷_}
 use lib.ListN.{length, take, drop}
-use lib.Seq.{take-at, drop-at}
 use Rattle.shape.specs.declared.shape.Shape.{Shape}
 use Rattle.machine.specs.Node.{countAnswer}
 use Rattle.sheet.specs.declared.output.Written.{Written}
@@ -12,7 +11,7 @@ use Rattle.sheet.specs.declared.output.Written.the-variants.{Bytes, Refused}
 use Rattle.sheet.specs.Input.{ReadInto}
 use Rattle.sheet.specs.Output.{roomError, written, outAfter}
 use Rattle.sheet.proofs.Inputs.{read-whole}
-use Rattle.sheet.proofs.Outputs.{room}
+use Rattle.sheet.proofs.Outputs.{size-written, not-refused, front-written, rest-written}
 use Rattle.plan.specs.Layout.{shapeOf}
 use Rattle.routes.specs.Layout.{entryCount}
 use Rattle.routes.proofs.Sheets.{accepted}
@@ -34,45 +33,31 @@ module _ (p : List ℕ) (S : ℕ) (ok : sourceError p S ≡ 0) where
       let good = sheet-accepted p S (source-of p S ok) in
       omega (arith, accepted p (plannedSheet p S) good .head .sized, few p (plannedSheet p S) good)
 
-  module _ (o : List ℕ) (h : 20482 ≤ length o) where
-    abbrev s : List ℕ
-    s = plannedSheet p S
-
-    has-room : roomError (sourceError p S) s o ≡ 0
-    has-room = room (sourceError p S) s o ok (omega (arith, sheet-fits))
-
-    size-written : (k : ℕ) → Bytes k ≡ written (roomError (sourceError p S) s o) s → k ≡ length s
-    unfolding written
-    size-written k e = let w : Bytes k ≡ Bytes (length s) = rw has-room at e in cc
-
-    not-refused : (e : ℕ) → Refused e ≡ written (roomError (sourceError p S) s o) s → ⊥
-    unfolding written
-    not-refused e h = let w : Refused e ≡ Bytes (length s) = rw has-room at h in let z : _≡_ {A = ℕ} 0 1 = cc in omega arith
-
-    bytes-written : (t : List ℕ) → t ≡ outAfter (roomError (sourceError p S) s o) s o → t ≡ s ++ drop (length s) o
-    unfolding outAfter
-    bytes-written t e = rw has-room at e
-
 module _ (p : List ℕ) (from all S : ℕ) (count : all ≡ countAnswer (shapeOf p)) (g : NextSource p from all S) where
   turned-none : all ≤ S → (o : List ℕ) → Turned p from (record { size = 0; next = from }) o o
   turned-none h o = record { none = λ z. (none-left p from all S count g h, refl, refl); one = λ n. absurd (n refl) }
 
-  turned-one :
-      S < all → (o t : List ℕ) (k : ℕ) → 20482 ≤ length o →
-      Bytes k ≡ written (roomError (sourceError p S) (plannedSheet p S) o) (plannedSheet p S) →
-      t ≡ outAfter (roomError (sourceError p S) (plannedSheet p S) o) (plannedSheet p S) o →
-      Turned p from (record { size = k; next = S + 1 }) o t
-  turned-one l o t k h ew et =
-      let ok = g .sound l in
-      let s = plannedSheet p S in
-      let size = size-written p S ok o h k ew in
-      let bytes = bytes-written p S ok o h t et in
-      let front : take k t ≡ s = ap (take k) bytes ∙ take-at s (drop (length s) o) k (sym size) in
-      let rest : drop k t ≡ drop k o = ap (drop k) bytes ∙ drop-at s (drop (length s) o) k (sym size) ∙ ap (λ n. drop n o) (sym size) in
-      record {
-        none = λ z. absurd (omega (arith, z, size, sheet-long p S ok));
-        one = λ n. (first-left p from all S count g l ∙ ap (λ x. x ∷ left p (S + 1)) (sym front), omega (arith, g .onward), rest);
-      }
+  module _
+    (l : S < all) (o t : List ℕ) (w : Written) (h : 20482 ≤ length o)
+    (made : (w ≡ written (roomError (sourceError p S) (plannedSheet p S) o) (plannedSheet p S)) × (t ≡ outAfter (roomError (sourceError p S) (plannedSheet p S) o) (plannedSheet p S) o)) where
+    abbrev s : List ℕ
+    s = plannedSheet p S
+
+    fits : length s ≤ length o
+    fits = omega (arith, sheet-fits p S (g .sound l))
+
+    turned-one : (k : ℕ) → w ≡ Bytes k → Turned p from (record { size = k; next = S + 1 }) o t
+    turned-one k e =
+        let ok = g .sound l in
+        let size = size-written (sourceError p S) s o ok fits w t made k e in
+        let front : take k t ≡ s = rw size (front-written (sourceError p S) s o ok fits w t made) in
+        record {
+          none = λ z. absurd (omega (arith, z, size, sheet-long p S ok));
+          one = λ n. (first-left p from all S count g l ∙ ap (λ x. x ∷ left p (S + 1)) (sym front), omega (arith, g .onward), rw size (rest-written (sourceError p S) s o ok fits w t made));
+        }
+
+    no-refusal : (e : ℕ) → w ≡ Refused e → ⊥
+    no-refusal e q = not-refused (sourceError p S) s o (g .sound l) fits w t made e q
 
 -- ---- of the whole input
 turned-whole :
@@ -104,10 +89,10 @@ module _
       (l : S < all) (o t : List ℕ) (w : Written) (h : 20482 ≤ length o)
       (made : (w ≡ written (roomError (sourceError p S) (plannedSheet p S) o) (plannedSheet p S)) × (t ≡ outAfter (roomError (sourceError p S) (plannedSheet p S) o) (plannedSheet p S) o)) where
     pub one-turned : (k n next : ℕ) → w ≡ Bytes k → n ≡ k → next ≡ S + 1 → (Turned (take size plan) from (record { size = n; next = next }) o t) × ((whole : List ℕ) → ReadInto whole plan size → Turned whole from (record { size = n; next = next }) o t)
-    one-turned k n next e en es = rw (en, es) (both (record { size = k; next = S + 1 }) o t (turned-one p from all S counted g l o t k h (sym e ∙ made .0) (made .1)))
+    one-turned k n next e en es = rw (en, es) (both (record { size = k; next = S + 1 }) o t (turned-one p from all S counted g l o t w h made k e))
 
     pub refused-turned : (e : ℕ) → w ≡ Refused e → (Turned (take size plan) from none o t) × ((whole : List ℕ) → ReadInto whole plan size → Turned whole from none o t)
-    refused-turned e q = absurd (not-refused p S (g .sound l) o h e (sym q ∙ made .0))
+    refused-turned e q = absurd (no-refusal p from all S counted g l o t w h made e q)
 
 -- ---- all turns
 turns-left : (p : List ℕ) (from : ℕ) (sheets : List (List ℕ)) → Turns p from sheets → sheets ≡ left p from
