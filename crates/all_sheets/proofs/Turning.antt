@@ -38,8 +38,8 @@ module _ (p : List ℕ) (from all S : ℕ) (count : all ≡ countAnswer (shapeOf
   turned-none h o = record { none = λ z. (none-left p from all S count g h, refl, refl); one = λ n. absurd (n refl) }
 
   module _
-    (l : S < all) (o t : List ℕ) (w : Written) (h : 20482 ≤ length o)
-    (made : (w ≡ written (roomError (sourceError p S) (plannedSheet p S) o) (plannedSheet p S)) × (t ≡ outAfter (roomError (sourceError p S) (plannedSheet p S) o) (plannedSheet p S) o)) where
+      (l : S < all) (o t : List ℕ) (w : Written) (h : 20482 ≤ length o)
+      (made : (w ≡ written (roomError (sourceError p S) (plannedSheet p S) o) (plannedSheet p S)) × (t ≡ outAfter (roomError (sourceError p S) (plannedSheet p S) o) (plannedSheet p S) o)) where
     abbrev s : List ℕ
     s = plannedSheet p S
 

@@ -24,11 +24,15 @@ fn skip_rest() {
     }
 }
 
+fn print(text: &[u8; TEXT_BYTES], length: usize) {
+    io::write_all(STDOUT_FILENO, front(text, length));
+}
+
 fn main() {
     let mut input = [0u8; INPUT_BYTES];
     let size = io::read_full(STDIN_FILENO, &mut input);
     skip_rest();
     let mut text = [0u8; TEXT_BYTES];
     let length = listing(&input, size, &mut text);
-    io::write_all(STDOUT_FILENO, front(&text, length));
+    print(&text, length);
 }

@@ -16,9 +16,9 @@ use Rattle.listing_text.proofs.Fits.{listing-fits}
 
 -- The buffer has the bytes that decide, and the lent bytes have room for the longest text.
 module _
-  (input : List ℕ) (size : ℕ) (i o t : List ℕ) (w : Written) (read : i ≡ take size input)
-  (made : (w ≡ written (roomError 0 (listingOf i) o) (listingOf i)) × (t ≡ outAfter (roomError 0 (listingOf i) o) (listingOf i) o))
-  (buffer : 780 ≤ length input) (long : 61454 ≤ length o) where
+    (input : List ℕ) (size : ℕ) (i o t : List ℕ) (w : Written) (read : i ≡ take size input)
+    (made : (w ≡ written (roomError 0 (listingOf i) o) (listingOf i)) × (t ≡ outAfter (roomError 0 (listingOf i) o) (listingOf i) o))
+    (buffer : 780 ≤ length input) (long : 61454 ≤ length o) where
   abbrev s : List ℕ
   s = listingOf i
 
@@ -33,10 +33,13 @@ module _
 
   pub listed : (k r : ℕ) → w ≡ Bytes k → r ≡ k → Listed r
   listed k r e q =
-      let n : r ≡ length s = q ∙ size-written 0 s o refl fits w t made k e in
-      (n ∙ ap length same,
-      (bytes-written 0 s o refl fits w t made ∙ ap (λ l. outAfter 0 l o) same,
-      λ whole h. ap (λ m. take m t) n ∙ front-written 0 s o refl fits w t made ∙ same ∙ read-whole 780 listingOf listing-decided whole input size buffer h))
+      let n : r ≡ length s = q ∙ size-written 0 s o refl fits w t made k e in (
+        n ∙ ap length same,
+        (
+          bytes-written 0 s o refl fits w t made ∙ ap (λ l. outAfter 0 l o) same,
+          λ whole h. ap (λ m. take m t) n ∙ front-written 0 s o refl fits w t made ∙ same ∙ read-whole 780 listingOf listing-decided whole input size buffer h,
+        ),
+      )
 
   pub refused-listed : (e r : ℕ) → w ≡ Refused e → Listed r
   refused-listed e r q = absurd (not-refused 0 s o refl fits w t made e q)
