@@ -3,17 +3,8 @@ use libc::STDIN_FILENO;
 use libc::STDOUT_FILENO;
 use listing_text::INPUT_BYTES;
 use listing_text::TEXT_BYTES;
-use listing_text::listing_text;
-use sheet::output::Written;
+use listing_text::listing;
 use text::part::front;
-
-// `out` has TEXT_BYTES, so that no text is refused.
-fn write_listing(input: &[u8], out: &mut [u8]) {
-    let Written::Bytes(size) = listing_text(input, out) else {
-        return;
-    };
-    io::write_all(STDOUT_FILENO, front(out, size));
-}
 
 // Reads some of the input, and answers how many bytes came.
 fn skip_some() -> usize {
@@ -33,10 +24,15 @@ fn skip_rest() {
     }
 }
 
+fn print(text: &[u8; TEXT_BYTES], length: usize) {
+    io::write_all(STDOUT_FILENO, front(text, length));
+}
+
 fn main() {
     let mut input = [0u8; INPUT_BYTES];
-    let mut out = [0u8; TEXT_BYTES];
     let size = io::read_full(STDIN_FILENO, &mut input);
     skip_rest();
-    write_listing(&input[..size], &mut out);
+    let mut text = [0u8; TEXT_BYTES];
+    let length = listing(&input, size, &mut text);
+    print(&text, length);
 }

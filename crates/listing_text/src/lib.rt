@@ -3,11 +3,13 @@ mod checks;
 mod decimal;
 mod field;
 mod header;
+pub mod input;
 mod line;
 mod outcomes;
 mod refusal;
 pub mod writing;
 
-pub use writing::INPUT_BYTES;
-pub use writing::TEXT_BYTES;
+pub use input::INPUT_BYTES;
+pub use input::TEXT_BYTES;
+pub use input::listing;
 pub use writing::listing_text;

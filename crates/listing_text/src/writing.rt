@@ -16,12 +16,6 @@ ghost use Rattle.sheet.specs.Output.{roomError, written, outAfter};
 ghost use Rattle.listing_text.specs.Text.{refusal, listingOf};
 ghost use Rattle.listing_text.specs.Steps.{Put, headOf, outcomeLines, outcomesText};
 
-// One byte more than the longest input that is accepted, a source and a plan of 256 faults: of a longer input these bytes decide the text.
-pub const INPUT_BYTES: usize = 780;
-
-// No text is longer.
-pub const TEXT_BYTES: usize = 61454;
-
 // What the first line says.
 struct Head {
     source: u16,

@@ -1,3 +1,4 @@
 pub mod Records
 pub mod Fill
 pub mod Outputs
+pub mod Inputs

@@ -1,11 +1,13 @@
 -- What writing a sheet gives and leaves.
 use Prim.Native.Nat.{ℕ, zero, suc, _≤_, _<_}
+use native.Mathlib.Omega.{arith}
 use mathlib.Core.Path.{_≡_, refl, ap, _∙_}
 use mathlib.Core.List.{List, _++_}
 use lib.ListN.{length, take, drop}
-use lib.Seq.{take-length, take-append-seam}
+use lib.Seq.{take-length, take-append-seam, drop-append-seam}
 use borrow.Author.Tests.{lt-ltb, le-ltb}
 use Rattle.theory.proofs.Checks.{declines}
+use Rattle.sheet.specs.declared.output.Written.{Written}
 use Rattle.sheet.specs.declared.output.Written.the-variants.{Bytes, Refused}
 use Rattle.sheet.specs.Output.{roomError, written, outAfter}
 
@@ -37,3 +39,27 @@ module _ (e : ℕ) (s o : List ℕ) where
   pub same-bytes : e ≡ 0 → length s ≤ length o → take (length s) (outAfter (roomError e s o) s o) ≡ s
   unfolding outAfter
   same-bytes h l = rw (room h l) (take-append-seam s (drop (length s) o))
+
+  -- What writing answers and leaves where there is room.
+  module _ (h : e ≡ 0) (l : length s ≤ length o) (w : Written) (t : List ℕ) (made : (w ≡ written (roomError e s o) s) × (t ≡ outAfter (roomError e s o) s o)) where
+    pub size-written : (n : ℕ) → w ≡ Bytes n → n ≡ length s
+    unfolding written
+    size-written n q = let b : w ≡ Bytes (length s) = rw (room h l) at (made .0) in cc
+
+    pub not-refused : (k : ℕ) → w ≡ Refused k → ⊥
+    unfolding written
+    not-refused k q =
+        let b : w ≡ Bytes (length s) = rw (room h l) at (made .0) in
+        let z : _≡_ {A = ℕ} 0 1 = cc in
+        omega arith
+
+    pub bytes-written : t ≡ outAfter 0 s o
+    bytes-written = rw (room h l) at (made .1)
+
+    pub front-written : take (length s) t ≡ s
+    unfolding outAfter
+    front-written = ap (take (length s)) bytes-written ∙ take-append-seam s (drop (length s) o)
+
+    pub rest-written : drop (length s) t ≡ drop (length s) o
+    unfolding outAfter
+    rest-written = ap (drop (length s)) bytes-written ∙ drop-append-seam s (drop (length s) o)

@@ -5,10 +5,8 @@ mod say;
 mod tally;
 mod wait;
 
+use plan_input::PLAN_BYTES;
 use text::part::front;
-
-// Longer than any plan sheet: what is past it can only be refused, with the same number.
-const PLAN_BYTES: usize = 1024;
 
 // The plan sheet of a file, to the file of its route sheets.
 fn from_file(plan: &[u8], out: &[u8]) {
@@ -18,9 +16,9 @@ fn from_file(plan: &[u8], out: &[u8]) {
         return;
     }
     let mut sheet = [0u8; PLAN_BYTES];
-    let count = io::read_full(file, &mut sheet);
+    let size = io::read_full(file, &mut sheet);
     libc::close(file);
-    job::write_sheets(front(&sheet, count), out);
+    job::write_sheets(&sheet, size, out);
 }
 
 fn main() {

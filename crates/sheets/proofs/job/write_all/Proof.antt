@@ -1,31 +1,42 @@
 use native.Mathlib.Omega.{arith}
-use Prim.Native.Nat.{_-_}
+use Prim.Native.Nat.{_+_, _-_}
+use mathlib.Core.Bool.{cond}
+use Rattle.sheets.proofs.Going.{fewer}
 use Rattle.sheets.proofs.job.write_all.Statement.{statement}
 use Rattle.sheets.proofs.job.write_all.Tie as tie
 
 abbrev Inv-loop : tie.InvT-loop
-Inv-loop plan all file waiting₀ turn₀ source₀ waiting turn source = Unit {0}
+Inv-loop plan size file all waiting₀ progress₀ waiting progress = Unit {0}
 
 abbrev μ-loop : tie.MeasureT-loop
-μ-loop plan all file waiting₀ turn₀ source₀ waiting turn source = all - source
+μ-loop plan size file all waiting₀ progress₀ waiting progress = 65536 - progress .next + cond (progress .more) 1 0
+
+front-requires : tie.Need-front-requires Inv-loop μ-loop
+front-requires c κs = tt
+
+shape-in-requires : tie.Need-shape-in-requires Inv-loop μ-loop
+shape-in-requires c κs = tt
+
+count-requires : tie.Need-count-requires Inv-loop μ-loop
+count-requires c κs = tt
 
 begin-requires : tie.Need-begin-requires Inv-loop μ-loop
 begin-requires c κs = tt
 
+none-requires : tie.Need-none-requires Inv-loop μ-loop
+none-requires c κs = tt
+
 loop-holds : tie.Need-loop-holds Inv-loop μ-loop
 loop-holds c = tt
 
-write-one-requires : tie.Need-write-one-requires Inv-loop μ-loop
-write-one-requires c κs = tt
+write-next-requires : tie.Need-write-next-requires Inv-loop μ-loop
+write-next-requires c κs = tt
 
 look-requires : tie.Need-look-requires Inv-loop μ-loop
 look-requires c κs = tt
 
-add-source : tie.Need-add-source Inv-loop μ-loop
-add-source c = omega arith
-
 loop-less : tie.Need-loop-less Inv-loop μ-loop
-loop-less c = omega arith
+loop-less c = rw (c .before .before .loop-test .taken) (fewer (c .before .write-next .result .more) _ _ (omega arith) (c .before .write-next .ensures))
 
 loop-again : tie.Need-loop-again Inv-loop μ-loop
 loop-again c = tt
@@ -42,11 +53,14 @@ write-all-spec =
     (tie.spec
     Inv-loop
     μ-loop
+    front-requires
+    shape-in-requires
+    count-requires
     begin-requires
+    none-requires
     loop-holds
-    write-one-requires
+    write-next-requires
     look-requires
-    add-source
     loop-less
     loop-again
     end-requires

@@ -1,0 +1,27 @@
+-- What was written: sheets, their entries, and among these the pairs without a clear choice.
+use Prim.Native.Nat.{ℕ, _+_, min}
+use mathlib.Core.Bool.{cond}
+use mathlib.Core.List.{List, [], _∷_}
+use lib.Dec.{eqb}
+use Rattle.routes.specs.declared.layout.Entry.{Entry}
+use Rattle.routes.specs.Layout.{entryCount, entriesOf}
+use Rattle.sheets.specs.declared.tally.Tally.{Tally}
+
+-- A sum is at most the largest number of its field.
+abbrev pub plus : ℕ → ℕ → ℕ
+plus a b = min (a + b) 4294967295
+
+-- Kind 11 is no clear choice.
+abbrev pub isWithout : ℕ → ℕ
+isWithout kind = cond (eqb kind 11) 1 0
+
+unfoldable pub withoutIn : List Entry → ℕ
+withoutIn [] = 0
+withoutIn (e ∷ es) = isWithout (e .kind) + withoutIn es
+
+abbrev pub noTally : Tally
+noTally = record { boards = 0; entries = 0; without = 0 }
+
+-- The tally with the sheet s.
+unfoldable pub tallied : Tally → List ℕ → Tally
+tallied t s = record { boards = plus (t .boards) 1; entries = plus (t .entries) (entryCount s); without = plus (t .without) (withoutIn (entriesOf s)) }
