@@ -1,26 +1,24 @@
 -- What is said of packets holds of those that cross: a form stands for the very packet of the definition.
 use Prim.Native.Nat.{ℕ}
-use native.Mathlib.Omega.{arith}
 use mathlib.Core.Path.{_≡_, refl}
-use mathlib.Core.Bool.{Bool}
 use mathlib.Core.List.{List, [], _∷_}
 use lib.Dec.{eqb}
 use Rattle.theory.specs.Packet.{step, tried, mayGo, walk, goes, arrived}
-use Rattle.theory.specs.Plan.{New}
 use Rattle.theory.proofs.Cases.{test}
 use Rattle.shape.specs.declared.shape.Shape.{Shape}
 use Rattle.machine.specs.declared.leg.Mode.the-variants.{Adaptive, Deterministic}
 use Rattle.machine.specs.Torus.{torus}
 use Rattle.packet.specs.declared.packet.Packet.{Packet}
-use Rattle.packet.specs.Packet.{packetError, hopped, lastOf, stored, WellStored}
+use Rattle.packet.specs.Packet.{packetError, hopped, stored}
+use Rattle.packet.specs.New.{newPacket}
 use Rattle.packet.specs.Answers.{told, toldWalk}
-use Rattle.choice.specs.Choice.{Choice, Direct, Via, legsTo, viaNode}
+use Rattle.choice.specs.Choice.{Choice, Direct, Via, routeOf, viaNode}
 use Rattle.routes.specs.Kinds.{kindOf}
 use Rattle.routes.specs.Said as Said
 use Rattle.choice.specs.Pair as Pair
 use Rattle.planner.specs.Outcome as Outcome
 use Rattle.board.specs.declared.forms.PacketForm.{PacketForm}
-use Rattle.board.specs.Forms.{packetOf, packetFor, steppedFor, walkedFor, routeFor, plannedFor, routeOf, newFor}
+use Rattle.board.specs.Forms.{packetOf, packetFor, steppedFor, walkedFor, routeFor, plannedFor, routeIn, madeFor}
 
 -- The packet that a step or a walk hands back has the legs that were lent.
 module _ (s : Shape) where
@@ -57,19 +55,18 @@ module _ (s : Shape) (f : PacketForm) where
   unfolding walkedFor toldWalk
   walked-is ds = packet-kept f (walk (torus s) (stored s) (packetOf f) ds .packet) (walk-legs s (packetOf f) ds)
 
--- The packet made of a route that a call gave is a new packet of that route.
-module _ (s : Shape) (sound : ℕ → ℕ → Bool) (before : Choice → Choice → Bool) (Admits : Choice → Type 0) (S D : ℕ) where
-  pub new-is : (c : Choice) → New (torus s) sound (legsTo D) before (stored s) WellStored Admits S (legsTo D c) (packetOf (newFor S D (routeOf D (routeFor (Said.told (Said.Says c))))))
-  unfolding packetOf newFor routeOf routeFor Said.told Said.heard Said.entryFor Said.saidBy kindOf viaNode legsTo lastOf
-  new-is (Direct Adaptive) = record { good = omega arith; at = refl; with = refl }
-  new-is (Direct Deterministic) = record { good = omega arith; at = refl; with = refl }
-  new-is (Via v Adaptive Adaptive) = record { good = omega arith; at = refl; with = refl }
-  new-is (Via v Adaptive Deterministic) = record { good = omega arith; at = refl; with = refl }
-  new-is (Via v Deterministic Adaptive) = record { good = omega arith; at = refl; with = refl }
-  new-is (Via v Deterministic Deterministic) = record { good = omega arith; at = refl; with = refl }
+-- The packet made of a route that a call gave is the new packet of that route.
+pub new-is : (S D : ℕ) (c : Choice) → packetOf (madeFor (newPacket S D (routeIn D (routeFor (routeOf c))))) ≡ newPacket S D (routeOf c)
+unfolding packetOf madeFor newPacket routeIn routeFor routeOf Said.told Said.heard Said.entryFor Said.saidBy kindOf viaNode
+new-is S D (Direct Adaptive) = refl
+new-is S D (Direct Deterministic) = refl
+new-is S D (Via v Adaptive Adaptive) = refl
+new-is S D (Via v Adaptive Deterministic) = refl
+new-is S D (Via v Deterministic Adaptive) = refl
+new-is S D (Via v Deterministic Deterministic) = refl
 
 -- Planning a pair and the companion of a lookup give a route in the same form.
-pub planned-route : (c : Choice) (len : ℕ) → plannedFor (Outcome.told (Pair.Route c len)) .route ≡ routeFor (Said.told (Said.Says c))
-unfolding plannedFor Outcome.told Said.told
+pub planned-route : (c : Choice) (len : ℕ) → plannedFor (Outcome.told (Pair.Route c len)) .route ≡ routeFor (routeOf c)
+unfolding plannedFor Outcome.told routeOf
 planned-route (Direct m) len = refl
 planned-route (Via v m n) len = refl

@@ -4,19 +4,19 @@ use mathlib.Core.Bool.{cond}
 use mathlib.Core.List.{[], _∷_}
 use lib.ListN.{getD}
 use lib.Dec.{eqb}
-use Rattle.theory.specs.Packet.{notAllowed}
 use Rattle.shape.specs.declared.shape.Shape.{Shape}
 use Rattle.machine.specs.declared.leg.Leg.{Leg}
 use Rattle.machine.specs.declared.leg.Mode.{Mode}
 use Rattle.machine.specs.declared.leg.Mode.the-variants.{Adaptive, Deterministic}
 use Rattle.packet.specs.declared.packet.Packet.{Packet}
-use Rattle.packet.specs.declared.stepper.Answer.{Answer}
 use Rattle.packet.specs.declared.stepper.Stepped.{Stepped}
 use Rattle.packet.specs.declared.stepper.Ending.{Ending}
 use Rattle.packet.specs.declared.stepper.Walked.{Walked}
+use Rattle.packet.specs.declared.route.Route.{Route}
+use Rattle.packet.specs.Packet.{noLeg}
+use Rattle.packet.specs.Answers.{answerNumber, endingNumber}
 use Rattle.choice.specs.Choice.{det}
 use Rattle.sheet.specs.declared.output.Written.{Written}
-use Rattle.routes.specs.declared.kinds.Route.{Route}
 use Rattle.routes.specs.Said.{saidBy, entryFor, told, heard}
 use Rattle.planner.specs.declared.outcome.Outcome.{Outcome}
 use Rattle.board.specs.declared.forms.ShapeForm.{ShapeForm}
@@ -42,29 +42,18 @@ modeOf m = cond (eqb m 0) Adaptive Deterministic
 abbrev pub legOf : LegForm → Leg
 legOf l = record { target = l .target; mode = modeOf (l .mode) }
 
-abbrev pub noLeg : LegForm
-noLeg = record { target = 0; mode = 0 }
+abbrev pub noForm : LegForm
+noForm = record { target = 0; mode = 0 }
 
 unfoldable pub packetOf : PacketForm → Packet
-packetOf q = record { node = q .node; legs = legOf (getD (q .legs) 0 noLeg) ∷ legOf (getD (q .legs) 1 noLeg) ∷ []; left = q .left }
+packetOf q = record { node = q .node; legs = legOf (getD (q .legs) 0 noForm) ∷ legOf (getD (q .legs) 1 noForm) ∷ []; left = q .left }
 
 -- A packet that a call returns or leaves has the array of legs that was lent.
 abbrev pub packetFor : PacketForm → Packet → PacketForm
 packetFor lent q = record { node = q .node; legs = lent .legs; left = q .left }
 
--- 0, or the number of the refusal.
-abbrev pub stepNumber : Answer → ℕ
-stepNumber Answer.Hopped = 0
-stepNumber (Answer.Refused e) = e
-
 unfoldable pub steppedFor : PacketForm → Stepped → SteppedForm
-steppedFor lent w = record { packet = packetFor lent (w .packet); number = stepNumber (w .answer) }
-
-abbrev pub walkNumber : Ending → ℕ
-walkNumber Ending.Arrived = 0
-walkNumber Ending.NotAllowed = notAllowed
-walkNumber Ending.UsedUp = 0
-walkNumber (Ending.Refused e) = e
+steppedFor lent w = record { packet = packetFor lent (w .packet); number = answerNumber (w .answer) }
 
 abbrev pub endingFor : Ending → ℕ
 endingFor Ending.Arrived = 0
@@ -73,7 +62,7 @@ endingFor Ending.UsedUp = 2
 endingFor (Ending.Refused e) = 3
 
 unfoldable pub walkedFor : PacketForm → Walked → WalkedForm
-walkedFor lent w = record { packet = packetFor lent (w .packet); number = walkNumber (w .ending); ending = endingFor (w .ending); hops = w .hops }
+walkedFor lent w = record { packet = packetFor lent (w .packet); number = endingNumber (w .ending); ending = endingFor (w .ending); hops = w .hops }
 
 unfoldable pub writtenFor : Written → WrittenForm
 writtenFor (Written.Bytes n) = record { number = 0; size = n }
@@ -96,15 +85,13 @@ plannedFor (Outcome.Direct m len) = record { route = routeFor (Route.Direct m); 
 plannedFor (Outcome.Via v m n len) = record { route = routeFor (Route.Via v m n); length = len }
 plannedFor (Outcome.Refused e) = record { route = routeFor (Route.Refused e); length = 0 }
 
-abbrev pub legFor : ℕ → Mode → LegForm
-legFor t m = record { target = t; mode = det m }
-
 -- The route that a form says, and the number of a refusal where it has one.
-unfoldable pub routeOf : ℕ → RouteForm → Route
-routeOf D f = cond (eqb (f .number) 0) (told (saidBy (record { dest = D; kind = f .kind; via = f .via }))) (Route.Refused (f .number))
+unfoldable pub routeIn : ℕ → RouteForm → Route
+routeIn D f = cond (eqb (f .number) 0) (told (saidBy (record { dest = D; kind = f .kind; via = f .via }))) (Route.Refused (f .number))
 
--- A new packet is at the source of its route with all the route's legs left; of a refusal, one that every step and walk declines with 14.
-unfoldable pub newFor : ℕ → ℕ → Route → PacketForm
-newFor S D (Route.Direct m) = record { node = S; legs = legFor D m ∷ legFor D m ∷ []; left = 1 }
-newFor S D (Route.Via v m n) = record { node = S; legs = legFor v m ∷ legFor D n ∷ []; left = 2 }
-newFor S D (Route.Refused e) = record { node = S; legs = legFor D Adaptive ∷ legFor D Adaptive ∷ []; left = 255 }
+-- A packet that was made here, and not lent.
+abbrev pub legFor : Leg → LegForm
+legFor l = record { target = l .target; mode = det (l .mode) }
+
+unfoldable pub madeFor : Packet → PacketForm
+madeFor q = record { node = q .node; legs = legFor (getD (q .legs) 0 noLeg) ∷ legFor (getD (q .legs) 1 noLeg) ∷ []; left = q .left }

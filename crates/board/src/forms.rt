@@ -1,20 +1,19 @@
 // The values that cross, each a struct of numbers, and the calls' own values as such.
 use machine::leg::Leg;
 use machine::leg::Mode;
-use packet::Answer;
 use packet::Ending;
 use packet::Packet;
+use packet::Route;
 use packet::Stepped;
 use packet::Walked;
 use planner::outcome::Outcome;
 use routes::Entry;
-use routes::Route;
 use routes::kinds::entry_for;
 use routes::kinds::route_by;
 use shape::Shape;
 use sheet::output::Written;
 ghost use mathlib.Core.Path.{_≡_};
-ghost use Rattle.board.specs.Forms.{shapeOf, shapeFor, modeOf, legOf, packetOf, packetFor, stepNumber, steppedFor, walkNumber, endingFor, walkedFor, writtenFor, refusalIn, routeFor, plannedFor, routeOf, legFor, newFor};
+ghost use Rattle.board.specs.Forms.{shapeOf, shapeFor, modeOf, legOf, packetOf, packetFor, steppedFor, endingFor, walkedFor, writtenFor, refusalIn, routeFor, plannedFor, routeIn, legFor, madeFor};
 
 #[repr(C)]
 pub struct ShapeForm {
@@ -141,15 +140,6 @@ fn packet_for(lent: PacketForm, packet: Packet) -> PacketForm
     }
 }
 
-fn step_number(answer: Answer) -> u8
-    ensures { λ r. ⌜ r ≡ stepNumber answer ⌝ }
-{
-    match answer {
-        Answer::Hopped => 0,
-        Answer::Refused(number) => number,
-    }
-}
-
 pub fn stepped_for(lent: PacketForm, stepped: Stepped) -> SteppedForm
     ensures { λ r. ⌜ r ≡ steppedFor lent stepped ⌝ }
 {
@@ -157,18 +147,7 @@ pub fn stepped_for(lent: PacketForm, stepped: Stepped) -> SteppedForm
     let answer = stepped.answer;
     SteppedForm {
         packet: packet_for(lent, packet),
-        number: step_number(answer),
-    }
-}
-
-fn walk_number(ending: Ending) -> u8
-    ensures { λ r. ⌜ r ≡ walkNumber ending ⌝ }
-{
-    match ending {
-        Ending::Arrived => 0,
-        Ending::NotAllowed => 15,
-        Ending::UsedUp => 0,
-        Ending::Refused(number) => number,
+        number: answer.number(),
     }
 }
 
@@ -190,7 +169,7 @@ pub fn walked_for(lent: PacketForm, walked: Walked) -> WalkedForm
     let ending = walked.ending;
     WalkedForm {
         packet: packet_for(lent, packet),
-        number: walk_number(ending),
+        number: ending.number(),
         ending: ending_for(ending),
         hops: walked.hops,
     }
@@ -252,8 +231,8 @@ pub fn planned_for(outcome: Outcome) -> PlannedForm
     }
 }
 
-pub fn route_of(destination: u16, form: RouteForm) -> Route
-    ensures { λ r. ⌜ r ≡ routeOf destination form ⌝ }
+pub fn route_in(destination: u16, form: RouteForm) -> Route
+    ensures { λ r. ⌜ r ≡ routeIn destination form ⌝ }
 {
     if form.number != 0 {
         return Route::Refused(form.number);
@@ -265,52 +244,32 @@ pub fn route_of(destination: u16, form: RouteForm) -> Route
     })
 }
 
-fn leg_for(target: u16, mode: Mode) -> LegForm
-    ensures { λ r. ⌜ r ≡ legFor target mode ⌝ }
+fn leg_for(leg: Leg) -> LegForm
+    ensures { λ r. ⌜ r ≡ legFor leg ⌝ }
 {
+    let mode = leg.mode;
     match mode {
         Mode::Adaptive => LegForm {
-            target: target,
+            target: leg.target,
             mode: 0,
         },
         Mode::Deterministic => LegForm {
-            target: target,
+            target: leg.target,
             mode: 1,
         },
     }
 }
 
-pub fn new_for(source: u16, destination: u16, route: Route) -> PacketForm
-    ensures { λ r. ⌜ r ≡ newFor source destination route ⌝ }
+// A packet that was made here, and not lent.
+pub fn made_for(packet: Packet) -> PacketForm
+    ensures { λ r. ⌜ r ≡ madeFor packet ⌝ }
 {
-    match route {
-        Route::Direct(mode) => {
-            let leg = leg_for(destination, mode);
-            PacketForm {
-                node: source,
-                legs: [leg, leg],
-                left: 1,
-            }
-        }
-        Route::Via(via, first, second) => {
-            let front = leg_for(via, first);
-            let last = leg_for(destination, second);
-            PacketForm {
-                node: source,
-                legs: [front, last],
-                left: 2,
-            }
-        }
-        Route::Refused(_) => {
-            let leg = LegForm {
-                target: destination,
-                mode: 0,
-            };
-            PacketForm {
-                node: source,
-                legs: [leg, leg],
-                left: 255,
-            }
-        }
+    let legs = packet.legs;
+    let first = leg_for(legs[0]);
+    let second = leg_for(legs[1]);
+    PacketForm {
+        node: packet.node,
+        legs: [first, second],
+        left: packet.left,
     }
 }

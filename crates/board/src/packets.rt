@@ -4,24 +4,26 @@ use crate::forms::RouteForm;
 use crate::forms::ShapeForm;
 use crate::forms::SteppedForm;
 use crate::forms::WalkedForm;
-use crate::forms::new_for;
+use crate::forms::made_for;
 use crate::forms::packet_of;
-use crate::forms::route_of;
+use crate::forms::route_in;
 use crate::forms::shape_of;
 use crate::forms::stepped_for;
 use crate::forms::walked_for;
+use packet::Packet;
 ghost use mathlib.Core.Path.{_≡_};
 ghost use Rattle.theory.specs.Packet.{step, walk};
 ghost use Rattle.machine.specs.Torus.{torus};
 ghost use Rattle.packet.specs.Packet.{packetError, stored};
+ghost use Rattle.packet.specs.New.{newPacket};
 ghost use Rattle.packet.specs.Answers.{told, toldWalk};
-ghost use Rattle.board.specs.Forms.{shapeOf, packetOf, steppedFor, walkedFor, routeOf, newFor};
+ghost use Rattle.board.specs.Forms.{shapeOf, packetOf, steppedFor, walkedFor, routeIn, madeFor};
 
 #[no_mangle]
 pub extern "C" fn nafthurm_new_packet(source: u16, destination: u16, route: RouteForm) -> PacketForm
-    ensures { λ r. ⌜ r ≡ newFor source destination (routeOf destination route) ⌝ }
+    ensures { λ r. ⌜ r ≡ madeFor (newPacket source destination (routeIn destination route)) ⌝ }
 {
-    new_for(source, destination, route_of(destination, route))
+    made_for(Packet::new(source, destination, route_in(destination, route)))
 }
 
 #[no_mangle]

@@ -12,6 +12,7 @@ use Rattle.machine.specs.declared.leg.Mode.the-variants.{Adaptive, Deterministi
 use Rattle.machine.specs.Number.{nodeCount}
 use Rattle.machine.specs.Hop.{distance}
 use Rattle.machine.specs.Torus.{leg}
+use Rattle.packet.specs.declared.route.Route.{Route}
 
 -- One leg, or two legs by one via node; each leg in either mode.
 pub data Choice : Type 0 where
@@ -22,6 +23,11 @@ pub data Choice : Type 0 where
 unfoldable pub legsTo : ℕ → Choice → List Leg
 legsTo D (Direct m) = leg D m ∷ []
 legsTo D (Via v m n) = leg v m ∷ leg D n ∷ []
+
+-- The choice as the code's enum.
+unfoldable pub routeOf : Choice → Route
+routeOf (Direct m) = Route.Direct m
+routeOf (Via v m n) = Route.Via v m n
 
 -- A via node that is neither S nor D. S = D has one route: direct, adaptive.
 abbrev pub Admits : Shape → ℕ → ℕ → Choice → Type 0

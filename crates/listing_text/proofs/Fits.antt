@@ -22,9 +22,9 @@ use Rattle.plan.specs.Checks.{Limits, large, faultExists, rank, faultsError, pl
 use Rattle.plan.proofs.Plans.{within-large}
 use Rattle.dead.specs.Dead.{deadNode}
 use Rattle.dead.proofs.Table.{is-node}
-use Rattle.choice.specs.Choice.{Choice, Direct, Via, legsTo, lengthFrom, Admits}
+use Rattle.choice.specs.Choice.{Choice, Direct, Via, legsTo, lengthFrom, lengthOf, Admits}
 use Rattle.choice.specs.Pair.{Answer, Route, Refused, routeIn, pairError, chosen, answered, pair}
-use Rattle.choice.proofs.Demand.{demand}
+use Rattle.choice.proofs.Demand.{pair-chosen, demand}
 use Rattle.routes.specs.Kinds.{kindOf}
 use Rattle.planner.specs.Sheet.{sourceError}
 use Rattle.planner.proofs.Planning.{Source, source-of}
@@ -135,12 +135,12 @@ module _ (p : List ℕ) (S : ℕ) (s : Source p S) (D : ℕ) (to : D < nodeCount
   alive-small : deadNode (faultsOf p) D ≡ false → Small (pair p S D)
   unfolding Small
   alive-small d =
-      let t = demand p S D (s .plan) (s .node) node (s .alive) d in
-      rw (t .answer) (go (routeIn p S D) (t .planned .admitted))
+      let is = pair-chosen p S D (s .plan) (s .node) node (s .alive) d in
+      rw is (go (routeIn p S D) is (λ c g. demand p S D (s .plan) (s .node) node (s .alive) d .planned .routed c g .admitted))
     where
-      go : (o : Option Choice) → ((c : Choice) → o ≡ some c → Admits (shapeOf p) S D c) → Small (chosen (shapeOf p) S D o)
-      go none h = omega arith
-      go (some c) h = choice-small c (h c refl)
+      go : (o : Option Choice) → pair p S D ≡ chosen (shapeOf p) S D o → ((c : Choice) → (len : ℕ) × (pair p S D ≡ Route c len) → Admits (shapeOf p) S D c) → Small (chosen (shapeOf p) S D o)
+      go none e h = omega arith
+      go (some c) e h = choice-small c (h c (lengthOf (shapeOf p) S D c, e))
 
   pair-small : Small (pair p S D)
   pair-small = test (deadNode (faultsOf p) D) dead-small alive-small

@@ -1,8 +1,8 @@
 // The line of a destination: its number, then the kind, the via and the length of what planning answers for it.
 use crate::field::Field;
 use crate::field::put_field;
+use packet::Route;
 use planner::outcome::Outcome;
-use routes::Route;
 use routes::kinds::entry_for;
 ghost use mathlib.Core.Path.{_≡_};
 ghost use Prim.Native.Nat.{_+_, _≤_};

@@ -2,4 +2,5 @@ pub mod Stored
 pub mod Drops
 pub mod Courses
 pub mod Walks
+pub mod Answers
 pub mod Claim

@@ -9,7 +9,12 @@ use Rattle.packet.specs.declared.stepper.Ending.{Ending}
 use Rattle.packet.specs.declared.stepper.Ending.the-variants.{Arrived, NotAllowed, UsedUp}
 use Rattle.packet.specs.declared.stepper.Walked.{Walked}
 
--- A number as a step's answer: 0 is a hop.
+-- A step's number: 0 for a hop.
+abbrev pub answerNumber : Answer → ℕ
+answerNumber Answer.Hopped = 0
+answerNumber (Answer.Refused e) = e
+
+-- A number as a step's answer.
 unfoldable pub answered : ℕ → Answer
 answered zero = Hopped
 answered (suc e) = Answer.Refused (suc e)
@@ -17,6 +22,17 @@ answered (suc e) = Answer.Refused (suc e)
 unfoldable pub told : T.Stepped Packet → Stepped
 told w = record { packet = w .packet; answer = answered (w .number) }
 
+-- How a walk ended, read as the paper's ending, and so its number.
+abbrev pub endingOf : Ending → T.Ending
+endingOf Ending.Arrived = T.Arrived
+endingOf Ending.NotAllowed = T.NotAllowed
+endingOf Ending.UsedUp = T.UsedUp
+endingOf (Ending.Refused e) = T.Declined e
+
+abbrev pub endingNumber : Ending → ℕ
+endingNumber e = T.walkNumber (endingOf e)
+
+-- And toward the enum.
 abbrev pub endedAs : T.Ending → Ending
 endedAs T.Arrived = Arrived
 endedAs T.NotAllowed = NotAllowed

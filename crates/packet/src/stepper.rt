@@ -4,10 +4,11 @@ use crate::packet::Packet;
 use shape::Shape;
 ghost use mathlib.Core.Path.{_≡_};
 ghost use Prim.Native.Nat.{_≤_};
-ghost use Rattle.theory.specs.Packet.{step, walk, goes};
+ghost use lib.ListN.{length};
+ghost use Rattle.theory.specs.Packet.{walkNumber, step, walk, goes};
 ghost use Rattle.machine.specs.Torus.{torus};
 ghost use Rattle.packet.specs.Packet.{stored};
-ghost use Rattle.packet.specs.Answers.{told, toldWalk};
+ghost use Rattle.packet.specs.Answers.{answerNumber, endingNumber, told, toldWalk};
 ghost use Rattle.packet.specs.Steps.{Fine};
 ghost use Rattle.packet.specs.Course.{packetOf, keptOf};
 
@@ -15,6 +16,17 @@ ghost use Rattle.packet.specs.Course.{packetOf, keptOf};
 pub enum Answer {
     Hopped,
     Refused(u8),
+}
+
+impl Answer {
+    pub fn number(self) -> u8
+        ensures { λ r. ⌜ r ≡ answerNumber self ⌝ }
+    {
+        match self {
+            Answer::Hopped => 0,
+            Answer::Refused(number) => number,
+        }
+    }
 }
 
 pub struct Stepped {
@@ -28,6 +40,19 @@ pub enum Ending {
     NotAllowed,
     UsedUp,
     Refused(u8),
+}
+
+impl Ending {
+    pub fn number(self) -> u8
+        ensures { λ r. ⌜ r ≡ endingNumber self ⌝ }
+    {
+        match self {
+            Ending::Arrived => 0,
+            Ending::NotAllowed => 15,
+            Ending::UsedUp => 0,
+            Ending::Refused(number) => number,
+        }
+    }
 }
 
 pub struct Walked {
@@ -92,6 +117,7 @@ impl Packet {
     // The packet after one allowed hop; or the packet as it was, with 5, 6, 14 or 15.
     pub fn step(self, shape: Shape, dir: u8) -> Stepped
         ensures { λ r. ⌜ r ≡ told (step (torus shape) (stored shape) self dir) ⌝ }
+        ensures { λ r. ⌜ answerNumber (r .answer) ≡ step (torus shape) (stored shape) self dir .number ⌝ }
     {
         let error = self.check(shape);
         if error != 0 {
@@ -118,6 +144,8 @@ impl Packet {
     // A walk over the lent directions, one hop a byte: the packet, the hops taken and the ending.
     pub fn walk(self, shape: Shape, dirs: &[u8]) -> Walked
         ensures { λ r. ⌜ r ≡ toldWalk (walk (torus shape) (stored shape) self (now (dirs .entry))) ⌝ }
+        ensures { λ r. ⌜ endingNumber (r .ending) ≡ walkNumber (walk (torus shape) (stored shape) self (now (dirs .entry)) .ending) ⌝ }
+        ensures { λ r. ⌜ r .hops ≤ length (now (dirs .entry)) ⌝ }
     {
         let error = self.check(shape);
         if error != 0 {

@@ -1,7 +1,6 @@
 // The calls of the stepper. The other modules take its types from here.
 pub use machine::leg::Leg;
 pub use machine::leg::Mode;
-use packet::Answer;
 use packet::Ending;
 pub use packet::Packet;
 pub use shape::Shape;
@@ -47,22 +46,9 @@ pub fn step(packet: Packet, shape: Shape, direction: u8) -> StepAnswer {
     let stepped = packet.step(shape, direction);
     let answer = stepped.answer;
     let after = stepped.packet;
-    let number = match answer {
-        Answer::Hopped => 0,
-        Answer::Refused(n) => n,
-    };
     StepAnswer {
-        number: number,
+        number: answer.number(),
         packet: after,
-    }
-}
-
-fn number_of(ending: Ending) -> u8 {
-    match ending {
-        Ending::Arrived => 0,
-        Ending::NotAllowed => 15,
-        Ending::UsedUp => 0,
-        Ending::Refused(n) => n,
     }
 }
 
@@ -79,7 +65,7 @@ pub fn walk(packet: Packet, shape: Shape, run: &[u8]) -> WalkAnswer {
     let ending = walked.ending;
     let after = walked.packet;
     WalkAnswer {
-        number: number_of(ending),
+        number: ending.number(),
         packet: after,
         hops: walked.hops,
         arrived: has_arrived(ending),

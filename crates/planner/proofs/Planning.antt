@@ -8,6 +8,7 @@ use mathlib.Core.Option.{Option, none, some}
 use borrow.Author.Tests.{eq-eqb, ne-eqb}
 use Rattle.theory.specs.Checks.{declined, _then_}
 use Rattle.theory.proofs.Cases.{test, by-order}
+use Rattle.theory.proofs.Plan.{ReadAs}
 use Rattle.shape.specs.declared.shape.Shape.{Shape}
 use Rattle.machine.specs.declared.leg.Mode.the-variants.{Adaptive, Deterministic}
 use Rattle.machine.specs.Number.{nodeCount}
@@ -18,11 +19,11 @@ use Rattle.plan.specs.Checks.{large, planError}
 use Rattle.dead.specs.Dead.{deadNode}
 use Rattle.dead.proofs.Table.{is-node}
 use Rattle.tables.proofs.LastHop.{self-clear}
-use Rattle.choice.specs.Choice.{Choice, Direct, Via, Admits}
+use Rattle.choice.specs.Choice.{Choice, Direct, Via, Admits, lengthOf}
 use Rattle.choice.specs.Pair as Pair
 use Rattle.choice.specs.Pair.{soundIn, routeIn, pairError, chosen, answered, pair}
 use Rattle.choice.proofs.First.{direct-first}
-use Rattle.choice.proofs.Demand.{demand}
+use Rattle.choice.proofs.Demand.{pair-chosen, found-planned, demand}
 use Rattle.routes.specs.declared.layout.Entry.{Entry}
 use Rattle.routes.specs.Said.{Said, Says, Refused, saidBy, entryFor}
 use Rattle.routes.specs.Checks.{entryGood, entriesGood, routesGood, sheetError}
@@ -31,7 +32,7 @@ use Rattle.routes.proofs.Entries.{passed}
 use Rattle.routes.proofs.Listed.{written-accepted, written-says}
 use Rattle.routes.proofs.Saying.{says-choice, says-refused, choice-good, dead-good, none-good}
 use Rattle.planner.specs.Sheet.{sourceError, saidOf, lists, entriesFrom, plannedSheet}
-use Rattle.planner.specs.Demand.{routeSaid, SheetDemand}
+use Rattle.planner.specs.Demand.{SheetDemand}
 
 -- A sound source of an accepted plan.
 pub record Source (p : List ℕ) (S : ℕ) : Type 0 where
@@ -66,14 +67,29 @@ unlisted (Says (Direct Deterministic)) h = absurd (true≢false h)
 unlisted (Says (Via v m n)) h = absurd (true≢false h)
 unlisted (Refused e) h = absurd (true≢false h)
 
-said-chosen : (s : Shape) (S D : ℕ) (o : Option Choice) → saidOf (chosen s S D o) ≡ routeSaid o
+-- What the sheet says, read as an option.
+said-read : (s : Shape) (S D : ℕ) (x : Said) (o : Option Choice) → x ≡ saidOf (chosen s S D o) → ReadAs o (x ≡ Refused 11) (λ c. x ≡ Says c)
 unfolding saidOf
-said-chosen s S D none = refl
-said-chosen s S D (some c) = refl
+said-read s S D x none e = record {
+  refuses = λ _. e;
+  none = λ _. refl;
+  gives = λ c h. let z : _≡_ {A = ℕ} 0 1 = cc in absurd (omega arith);
+  some = λ c h. let z : _≡_ {A = ℕ} 0 1 = cc in absurd (omega arith);
+}
+said-read s S D x (some c) e = record {
+  refuses = λ h. let z : _≡_ {A = ℕ} 0 1 = cc in absurd (omega arith);
+  none = λ h. let z : _≡_ {A = ℕ} 0 1 = cc in absurd (omega arith);
+  gives = λ k h. cc;
+  some = λ k h. cc;
+}
 
 said-refused : (n : ℕ) → saidOf (Pair.Refused n) ≡ Refused n
 unfolding saidOf
 said-refused n = refl
+
+said-route : (c : Choice) (len : ℕ) → saidOf (Pair.Route c len) ≡ Says c
+unfolding saidOf
+said-route c len = refl
 
 entry-dest : (d : ℕ) (x : Said) → entryFor d x .dest ≡ d
 unfolding entryFor
@@ -87,22 +103,23 @@ module _ (p : List ℕ) (S : ℕ) (s : Source p S) where
     pair-dead d = rw (s .plan, s .node, node, s .alive, d)
 
     pair-alive : deadNode (faultsOf p) D ≡ false → pair p S D ≡ chosen (shapeOf p) S D (routeIn p S D)
-    unfolding pair pairError answered
-    pair-alive d = rw (s .plan, s .node, node, s .alive, d)
+    pair-alive d = pair-chosen p S D (s .plan) (s .node) node (s .alive) d
 
     -- A destination's answer is 10, 11 or an admitted choice.
     answer-is : (Q : Said → Type 0) → Q (Refused 10) → Q (Refused 11) → ((c : Choice) → Admits (shapeOf p) S D c → Q (Says c)) → Q (saidOf (pair p S D))
     answer-is Q ten eleven route =
         test (deadNode (faultsOf p) D)
         (λ d. rw (pair-dead d) dead-said)
-        (λ d. rw (pair-alive d, said-chosen (shapeOf p) S D (routeIn p S D)) (by-route (routeIn p S D) (λ c e. demand p S D (s .plan) (s .node) node (s .alive) d .planned .admitted c e)))
+        (λ d. by-chosen (routeIn p S D) (pair-alive d) (λ c g. demand p S D (s .plan) (s .node) node (s .alive) d .planned .routed c g .admitted))
       where
         dead-said : Q (saidOf (Pair.Refused 10))
         dead-said = rw (said-refused 10) ten
 
-        by-route : (o : Option Choice) → ((c : Choice) → o ≡ some c → Admits (shapeOf p) S D c) → Q (routeSaid o)
-        by-route none h = eleven
-        by-route (some c) h = route c (h c refl)
+        by-chosen :
+            (o : Option Choice) → pair p S D ≡ chosen (shapeOf p) S D o →
+            ((c : Choice) → (len : ℕ) × (pair p S D ≡ Pair.Route c len) → Admits (shapeOf p) S D c) → Q (saidOf (pair p S D))
+        by-chosen none e admitted = rw (e, said-refused 11) eleven
+        by-chosen (some c) e admitted = let len = lengthOf (shapeOf p) S D c in rw (e, said-route c len) (route c (admitted c (len, e)))
 
     -- An entry says what it was made for.
     entry-says : saidBy (entryFor D (saidOf (pair p S D))) ≡ saidOf (pair p S D)
@@ -185,7 +202,6 @@ module _ (p : List ℕ) (S : ℕ) (s : Source p S) where
   sheet-says D n = written-says p S all (s .plan) routes-good D n ∙ says-from (nodeCount (shapeOf p)) 0 D (omega arith) (omega (arith, node-of (shapeOf p) D n .below)) (omega arith)
 
   pub sheet-demand : (D : ℕ) → isNode (shapeOf p) D ≡ true → deadNode (faultsOf p) D ≡ false → SheetDemand p S D
-  sheet-demand D n d = record {
-    said = sheet-says D n ∙ ap saidOf (pair-alive D n d) ∙ said-chosen (shapeOf p) S D (routeIn p S D);
-    planned = demand p S D (s .plan) (s .node) n (s .alive) d .planned;
-  }
+  sheet-demand D n d =
+      found-planned p S D (s .plan) (s .node) n (s .alive) d _ _
+      (said-read (shapeOf p) S D (says p (plannedSheet p S) D) (routeIn p S D) (sheet-says D n ∙ ap saidOf (pair-alive D n d)))

@@ -26,11 +26,11 @@ use Rattle.plan.specs.Reading.{isPlan}
 use Rattle.dead.specs.Dead.{deadNode, bitOf, maskAnswer, nodeAnswer}
 use Rattle.dead.proofs.Table.{is-node}
 use Rattle.tables.specs.Entry.{outwardAnswer}
-use Rattle.choice.specs.Choice.{Direct, Via}
+use Rattle.choice.specs.Choice.{Direct, Via, routeOf}
 use Rattle.choice.specs.Pair as Pair
 use Rattle.choice.specs.Pair.{Answer, pair}
 use Rattle.routes.specs.declared.layout.Entry.{Entry}
-use Rattle.routes.specs.declared.kinds.Route.{Route}
+use Rattle.packet.specs.declared.route.Route.{Route}
 use Rattle.routes.specs.declared.reading.Routes.{Routes}
 use Rattle.routes.specs.Layout.{noEntry}
 use Rattle.routes.specs.Said as Said
@@ -38,10 +38,10 @@ use Rattle.routes.specs.Said.{Said, Says, Refused, entryFor, heard}
 use Rattle.routes.specs.Writing.{sheetBytes, routeEntries, sheetOf, writeError}
 use Rattle.routes.proofs.Saying.{heard-told}
 use Rattle.planner.specs.declared.outcome.Outcome.{Outcome}
-use Rattle.planner.specs.Outcome.{told}
+use Rattle.planner.specs.Outcome.{told, routeFrom}
 use Rattle.planner.specs.Dest.{outcomeTo}
 use Rattle.planner.specs.Sheet.{sourceError, saidOf, lists, entriesFrom, plannedSheet}
-use Rattle.planner.specs.Steps.{routeOf, isListed, pickEntry, counted, lastAt}
+use Rattle.planner.specs.Steps.{isListed, pickEntry, counted, lastAt}
 use Rattle.planner.proofs.Planned.{nodes-most}
 use Rattle.planner.proofs.Dests.{Ready, dest-planned}
 use Rattle.planner.proofs.Planning.{Source, source-of, self-unlisted, sheet-accepted}
@@ -63,14 +63,14 @@ source-error p s S zero a b es ee ea eb =
 source-error p s S (suc e) a b es ee ea eb = rw (sym ee, ne-eqb (suc e) 0 (λ z. omega arith))
 
 -- ---- a destination's entry
-said-route : (a : Answer) → routeOf (told a) ≡ Said.told (saidOf a)
-unfolding routeOf told saidOf Said.told
+said-route : (a : Answer) → routeFrom (told a) ≡ Said.told (saidOf a)
+unfolding routeFrom told saidOf Said.told routeOf
 said-route (Pair.Route (Direct m) len) = refl
 said-route (Pair.Route (Via v m n) len) = refl
 said-route (Pair.Refused n) = refl
 
 said-listed : (x : Said) → isListed (Said.told x) ≡ lists x
-unfolding isListed Said.told lists
+unfolding isListed Said.told routeOf lists
 said-listed (Says (Direct Adaptive)) = refl
 said-listed (Says (Direct Deterministic)) = refl
 said-listed (Says (Via v m n)) = refl
@@ -175,7 +175,7 @@ module _ (p : List ℕ) (S : ℕ) where
         (shape : Shape) (masks dead from : List ℕ) → Ready p S shape masks dead from →
         (o : Outcome) (r : Route) (more : Bool) (at : ℕ) (new put : Entry) (next : ℕ) →
         o ≡ outcomeTo shape masks dead from S d →
-        r ≡ routeOf o →
+        r ≡ routeFrom o →
         more ≡ isListed r →
         at ≡ lastAt listed →
         new ≡ entryFor d (heard r) →
@@ -184,7 +184,7 @@ module _ (p : List ℕ) (S : ℕ) where
         Listing p S (set entries at put) next (d + 1)
     onward shape masks dead from ready o r more at new put next eo er em ea en ep ex =
         let node = is-node (shapeOf p) d (record { sound = node-of (shapeOf p) S (s .node) .sound; below = l }) in
-        let said : r ≡ Said.told x = er ∙ ap routeOf (eo ∙ dest-planned p S shape masks dead from ready d node) ∙ said-route (pair p S d) in
+        let said : r ≡ Said.told x = er ∙ ap routeFrom (eo ∙ dest-planned p S shape masks dead from ready d node) ∙ said-route (pair p S d) in
         let listing : more ≡ lists x = em ∙ ap isListed said ∙ said-listed x in
         let made : new ≡ entryFor d x = en ∙ ap (λ y. entryFor d (heard y)) said ∙ ap (entryFor d) (heard-told x) in
         rw (ep, ex, made) (next-by more at listing ea)
@@ -235,7 +235,7 @@ module _ (p : List ℕ) (S : ℕ) (s : Shape) (masks dead from : List ℕ) (all 
   pub turn :
       d < all → (o : Outcome) (r : Route) (more : Bool) (at : ℕ) (new put : Entry) (next : ℕ) →
       o ≡ outcomeTo s masks dead from S d →
-      r ≡ routeOf o →
+      r ≡ routeFrom o →
       more ≡ isListed r →
       at ≡ lastAt listed →
       new ≡ entryFor d (heard r) →

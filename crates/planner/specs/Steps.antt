@@ -4,13 +4,7 @@ use mathlib.Core.Bool.{Bool, true, false, cond}
 use lib.Dec.{ltb}
 use Rattle.machine.specs.declared.leg.Mode.the-variants.{Adaptive, Deterministic}
 use Rattle.routes.specs.declared.layout.Entry.{Entry}
-use Rattle.routes.specs.declared.kinds.Route.{Route}
-use Rattle.planner.specs.declared.outcome.Outcome.{Outcome}
-
-unfoldable pub routeOf : Outcome → Route
-routeOf (Outcome.Direct m len) = Route.Direct m
-routeOf (Outcome.Via v m n len) = Route.Via v m n
-routeOf (Outcome.Refused e) = Route.Refused e
+use Rattle.packet.specs.declared.route.Route.{Route}
 
 unfoldable pub isListed : Route → Bool
 isListed (Route.Direct Adaptive) = false

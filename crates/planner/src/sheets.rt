@@ -1,6 +1,5 @@
 // Writing a route sheet by planning from a source: checks 1 to 8, 9, 10 (source only), 12.
 use crate::dest::outcome_to;
-use crate::outcome::Outcome;
 use dead::dead_masks;
 use dead::dead_nodes;
 use dead::is_dead_node;
@@ -8,10 +7,10 @@ use logic::pick;
 use machine::leg::Mode;
 use machine::node::count;
 use machine::node::is_node;
+use packet::Route;
 use plan::check;
 use plan::layout::shape_in;
 use routes::Entry;
-use routes::Route;
 use routes::Routes;
 use routes::kinds::entry_for;
 use routes::write;
@@ -24,7 +23,7 @@ ghost use Rattle.plan.specs.Layout.{shapeOf};
 ghost use Rattle.machine.specs.Number.{nodeCount};
 ghost use Rattle.routes.specs.Writing.{routeEntries};
 ghost use Rattle.planner.specs.Sheet.{sourceError, entriesFrom, plannedSheet};
-ghost use Rattle.planner.specs.Steps.{routeOf, isListed, pickEntry, counted, lastAt};
+ghost use Rattle.planner.specs.Steps.{isListed, pickEntry, counted, lastAt};
 
 // Checks 1 to 8, then 9 and 10 of the source; 0 where none declines.
 pub fn source_error(plan: &[u8], source: u16) -> u8
@@ -34,17 +33,6 @@ pub fn source_error(plan: &[u8], source: u16) -> u8
     let known = is_node(shape_in(plan), source);
     let dead = is_dead_node(plan, source);
     pick(error != 0, error, pick(known, pick(dead, 10, 0), 9))
-}
-
-// A sheet has no lengths.
-fn route_of(outcome: Outcome) -> Route
-    ensures { λ r. ⌜ r ≡ routeOf outcome ⌝ }
-{
-    match outcome {
-        Outcome::Direct(mode, _) => Route::Direct(mode),
-        Outcome::Via(via, first, second, _) => Route::Via(via, first, second),
-        Outcome::Refused(number) => Route::Refused(number),
-    }
 }
 
 // A destination not listed is direct and adaptive.
@@ -100,7 +88,7 @@ fn routes_from(plan: &[u8], source: u16) -> Routes
     let mut listed: usize = 0;
     let mut d: u16 = 0;
     while d < all {
-        let route = route_of(outcome_to(shape, &masks, &dead, &from, source, d));
+        let route = outcome_to(shape, &masks, &dead, &from, source, d).route();
         let more = is_listed(route);
         let at = last_at(listed);
         entries[at] = pick_entry(more, entry_for(d, route), entries[at]);

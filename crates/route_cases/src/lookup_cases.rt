@@ -8,7 +8,7 @@ use case_fields::sheets::PLAN_BYTES;
 use case_fields::sheets::ROUTE_BYTES;
 use case_fields::sheets::read_plan;
 use case_fields::sheets::read_routes;
-use routes::Route;
+use packet::Route;
 use routes::layout::ENTRIES_AT;
 use routes::layout::source_in;
 use routes::lookup::find_entry;

@@ -11,7 +11,7 @@ use Rattle.theory.proofs.Checks.{then-zero}
 use Rattle.theory.proofs.Cases.{test, by-le}
 use Rattle.sheet.specs.Bytes.{listFrom}
 use Rattle.routes.specs.declared.layout.Entry.{Entry}
-use Rattle.routes.specs.declared.kinds.Route.{Route}
+use Rattle.packet.specs.declared.route.Route.{Route}
 use Rattle.routes.specs.declared.route.Found.{Found}
 use Rattle.routes.specs.declared.route.Found.the-variants.{At, Missing}
 use Rattle.routes.specs.Layout.{entryCount, entryAt, entriesOf}

@@ -9,20 +9,20 @@ use Rattle.machine.specs.declared.leg.Mode.the-variants.{Adaptive, Deterministi
 use Rattle.machine.specs.Number.{nodeCount}
 use Rattle.machine.specs.Node.{isNode}
 use Rattle.machine.proofs.Nodes.{node-of}
-use Rattle.choice.specs.Choice.{Choice, Direct, Via, Admits, viaNode}
-use Rattle.routes.specs.declared.kinds.Route.{Route}
+use Rattle.choice.specs.Choice.{Choice, Direct, Via, routeOf, Admits, viaNode}
+use Rattle.packet.specs.declared.route.Route.{Route}
 use Rattle.routes.specs.Kinds.{kindOf, viaKind, plainKind}
 use Rattle.routes.specs.Said.{Said, Says, Refused, saidBy, entryFor, told, heard}
 use Rattle.routes.specs.Checks.{viaGood, entryGood}
 
 pub heard-told : (x : Said) → heard (told x) ≡ x
-unfolding heard told
+unfolding heard told routeOf
 heard-told (Says (Direct m)) = refl
 heard-told (Says (Via v m n)) = refl
 heard-told (Refused e) = refl
 
 pub told-heard : (r : Route) → told (heard r) ≡ r
-unfolding heard told
+unfolding heard told routeOf
 told-heard (Route.Direct m) = refl
 told-heard (Route.Via v m n) = refl
 told-heard (Route.Refused e) = refl

@@ -3,9 +3,9 @@ use Prim.Native.Nat.{ℕ}
 use mathlib.Core.Bool.{cond}
 use lib.Dec.{eqb}
 use Rattle.machine.specs.declared.leg.Mode.the-variants.{Adaptive, Deterministic}
-use Rattle.choice.specs.Choice.{Choice, Direct, Via, viaNode}
+use Rattle.choice.specs.Choice.{Choice, Direct, Via, routeOf, viaNode}
 use Rattle.routes.specs.declared.layout.Entry.{Entry}
-use Rattle.routes.specs.declared.kinds.Route.{Route}
+use Rattle.packet.specs.declared.route.Route.{Route}
 use Rattle.routes.specs.Kinds.{kindOf}
 
 pub data Said : Type 0 where
@@ -30,8 +30,7 @@ entryFor d (Refused e) = record { dest = d; kind = e; via = 0 }
 
 -- Toward the code's enum, and from it.
 unfoldable pub told : Said → Route
-told (Says (Direct m)) = Route.Direct m
-told (Says (Via v m n)) = Route.Via v m n
+told (Says c) = routeOf c
 told (Refused e) = Route.Refused e
 
 unfoldable pub heard : Route → Said

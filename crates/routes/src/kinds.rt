@@ -4,16 +4,10 @@ use crate::layout::Entry;
 use logic::both;
 use logic::either;
 use machine::leg::Mode;
+use packet::Route;
 ghost use mathlib.Core.Path.{_≡_};
 ghost use Rattle.routes.specs.Kinds.{viaKind, plainKind, directKind, byViaKind};
 ghost use Rattle.routes.specs.Said.{saidBy, entryFor, told, heard};
-
-// What a sheet says of a destination: a route, or the number of the refusal.
-pub enum Route {
-    Direct(Mode),
-    Via(u16, Mode, Mode),
-    Refused(u8),
-}
 
 pub fn has_via(kind: u8) -> bool
     ensures { λ r. ⌜ r ≡ viaKind kind ⌝ }

@@ -9,7 +9,6 @@ pub mod route;
 pub mod writing;
 
 pub use checks::check;
-pub use kinds::Route;
 pub use layout::Entry;
 pub use reading::Reading;
 pub use reading::Routes;

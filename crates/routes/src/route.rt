@@ -1,5 +1,4 @@
 // What a sheet says of a destination. It answers from the sheet alone and never judges its routes against the faults.
-use crate::kinds::Route;
 use crate::kinds::route_by;
 use crate::layout::Entry;
 use crate::layout::count_in;
@@ -7,6 +6,7 @@ use crate::layout::entry_in;
 use crate::lookup::find_entry;
 use crate::lookup::lookup_error;
 use machine::leg::Mode;
+use packet::Route;
 ghost use mathlib.Core.Path.{_≡_};
 ghost use Rattle.routes.specs.Said.{told};
 ghost use Rattle.routes.specs.Says.{says};

@@ -1,6 +1,4 @@
 // Test cases of runs, a line each: a pair is planned, and its new packet is given to a list of step and walk calls under the plan's extents and wrap.
-mod new_packet;
-
 use calls::make_calls;
 use case_fields::answers::put_number;
 use case_fields::answers::unreadable;
@@ -8,7 +6,6 @@ use case_fields::nodes::read_destination;
 use case_fields::nodes::read_source;
 use case_fields::sheets::PLAN_BYTES;
 use case_fields::sheets::read_plan;
-use new_packet::new_packet;
 use packet::Packet;
 use packet_fields::packets::put_packet;
 use plan::shape_of;
@@ -75,6 +72,6 @@ pub fn answer(line: &[u8], out: &mut [u8], at: usize) -> usize {
     };
     let plan = front(&bytes, size);
     let outcome = pair(plan, source, dest);
-    let packet = new_packet(source, dest, outcome);
+    let packet = Packet::new(source, dest, outcome.route());
     put_run(line, shape_of(plan), packet, dest, outcome, out, at)
 }

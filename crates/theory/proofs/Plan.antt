@@ -1,43 +1,67 @@
 -- All that is claimed of a planned route holds.
 use Prim.Native.Nat.{ℕ, _<_}
-use mathlib.Core.Path.{_≡_, sym, _∙_}
+use mathlib.Core.Path.{_≡_, refl, sym, _∙_}
 use mathlib.Core.Logic.{_↔_}
-use mathlib.Core.Bool.{Bool, true, false, true≢false}
+use mathlib.Core.Bool.{Bool, true, true≢false}
 use mathlib.Core.List.{List, List·Memᴰ}
 use mathlib.Core.Option.{Option, none, some}
-use Rattle.theory.specs.Machine.{Machine, Laws, Inside}
+use Rattle.theory.specs.Machine.{Machine, Laws, Inside, endOf}
 use Rattle.theory.specs.Clear.{ClearLegs, clearLegs}
 use Rattle.theory.specs.Packet.{Packets, PacketLaws}
 use Rattle.theory.specs.Choice.{Order, Best}
-use Rattle.theory.specs.Plan.{planned, Planned}
+use Rattle.theory.specs.Plan.{planned, New, Routed, Planned}
 use Rattle.theory.proofs.Cases.{test}
 use Rattle.theory.proofs.Clear.{clearLegs-iff}
 use Rattle.theory.proofs.Claim.{claim}
 use Rattle.theory.proofs.Choice.{best-is}
 
-module _ {Leg C : Type 0} (M : Machine Leg) (L : Laws M) (legs : C → List Leg) (before : C → C → Bool) (O : Order before) (source : ℕ) (at : source < M .size) where
-  module _
-      {P : Type 0} (K : Packets Leg P) (Good : P → Type 0) (S : PacketLaws M K Good) (sound : ℕ → ℕ → Bool)
-      (Admits : C → Type 0) (cs : List C) (lists : (c : C) → Admits c ↔ List·Memᴰ c cs) (inside : (c : C) → Admits c → Inside M (legs c)) where
-    passes : (c : C) → Admits c → (clearLegs M sound source (legs c) ≡ true) ↔ ClearLegs M sound source (legs c)
-    passes c a = clearLegs-iff M L sound source (legs c) at (inside c a)
+-- The answer, read as an option: a refusal is none, a route some.
+pub record ReadAs {C : Type 0} (o : Option C) (Refuses : Type 0) (Gives : C → Type 0) : Type 0 where
+  pub refuses : o ≡ none → Refuses
+  pub none : Refuses → o ≡ none
+  pub gives : (c : C) → o ≡ some c → Gives c
+  pub some : (c : C) → Gives c → o ≡ some c
 
-    -- Of any answer that is the first of the choices that pass the test.
-    pub best-planned : (answer : Option C) → Best before (λ c. clearLegs M sound source (legs c)) cs answer → Planned M sound legs before K Good Admits source answer
-    best-planned answer b =
-        let is : (c : C) → answer ≡ some c → Admits c = λ c e. lists c .1 (b .chosen c e .listed) in
-        let clear : (c : C) → answer ≡ some c → ClearLegs M sound source (legs c) = λ c e. passes c (is c e) .0 (b .chosen c e .passes) in
+module _
+    {Leg C P : Type 0} (M : Machine Leg) (L : Laws M) (K : Packets Leg P) (Good : P → Type 0) (S : PacketLaws M K Good) (sound : ℕ → ℕ → Bool)
+    (legs : C → List Leg) (before : C → C → Bool) (O : Order before) (Admits : C → Type 0) (cs : List C) (lists : (c : C) → Admits c ↔ List·Memᴰ c cs)
+    (source dest : ℕ) (at : source < M .size) (inside : (c : C) → Admits c → Inside M (legs c)) (ends : (c : C) → Admits c → endOf M source (legs c) ≡ dest)
+    (new : C → P) (starts : (c : C) → Admits c → New K Good source (legs c) (new c)) where
+  passes : (c : C) → Admits c → (clearLegs M sound source (legs c) ≡ true) ↔ ClearLegs M sound source (legs c)
+  passes c a = clearLegs-iff M L sound source (legs c) at (inside c a)
+
+  module _ (o : Option C) (b : Best before (λ c. clearLegs M sound source (legs c)) cs o) where
+    none-clear : (o ≡ none) ↔ ((c : C) → Admits c → ClearLegs M sound source (legs c) → ⊥)
+    none-clear = (
+      λ n c a h. true≢false (sym (passes c a .1 h) ∙ b .refused .0 n c (lists c .0 a)),
+      λ none. b .refused .1 (λ c m. let a = lists c .1 m in test _ (λ t. absurd (none c a (passes c a .0 t))) (λ f. f)),
+    )
+
+    some-routed : (c : C) → o ≡ some c → Routed M K Good sound legs before Admits source dest c (new c)
+    some-routed c e =
+        let is : Admits c = lists c .1 (b .chosen c e .listed) in
+        let clear : ClearLegs M sound source (legs c) = passes c is .0 (b .chosen c e .passes) in
         record {
-          refused = (
-            λ n c a h. true≢false (sym (passes c a .1 h) ∙ b .refused .0 n c (lists c .0 a)),
-            λ none. b .refused .1 (λ c m. let a = lists c .1 m in test _ (λ t. absurd (none c a (passes c a .0 t))) (λ f. f)),
-          );
           admitted = is;
           clear = clear;
-          first = λ c e x a h. b .chosen c e .least x (lists x .0 a) (passes x a .1 h);
-          runs = λ c e q n. claim M L K Good S sound source (legs c) q at (inside c (is c e)) (clear c e) (n .good) (n .at) (n .with);
+          first = λ x a h. b .chosen c e .least x (lists x .0 a) (passes x a .1 h);
+          ends = ends c is;
+          starts = starts c is;
+          runs = λ q n. claim M L K Good S sound source (legs c) q at (inside c is) clear (n .good) (n .at) (n .with);
         }
 
-    pub planned-is : Planned M sound legs before K Good Admits source (planned M sound legs before source cs)
-    unfolding planned
-    planned-is = best-planned _ (best-is before O _ cs)
+    -- Of any answer that says the first of the choices that pass the test.
+    pub best-planned : (Refuses : Type 0) (Gives : C → Type 0) → ReadAs o Refuses Gives → Planned M K Good sound legs before Admits source dest Refuses Gives new
+    best-planned Refuses Gives t = record {
+      refused = (λ r. none-clear .0 (t .none r), λ n. t .refuses (none-clear .1 n));
+      otherwise = λ not. given o refl not;
+      routed = λ c g. some-routed c (t .some c g);
+    }
+      where
+        given : (x : Option C) → o ≡ x → (Refuses → ⊥) → (c : C) × Gives c
+        given none e not = absurd (not (t .refuses e))
+        given (some c) e not = (c, t .gives c e)
+
+  pub planned-is : (Refuses : Type 0) (Gives : C → Type 0) → ReadAs (planned M sound legs before source cs) Refuses Gives → Planned M K Good sound legs before Admits source dest Refuses Gives new
+  unfolding planned
+  planned-is = best-planned _ (best-is before O _ cs)

@@ -30,6 +30,13 @@ pub data Ending : Type 0 where
   UsedUp : Ending
   Declined : ℕ → Ending
 
+-- A walk's number: 15 for a direction not allowed, that of the checks where they decline it, else 0.
+abbrev pub walkNumber : Ending → ℕ
+walkNumber Arrived = 0
+walkNumber NotAllowed = notAllowed
+walkNumber UsedUp = 0
+walkNumber (Declined e) = e
+
 -- The walk reports the hops it has taken with the packet and the ending.
 pub record Walked (P : Type 0) : Type 0 where
   pub packet : P

@@ -6,12 +6,12 @@ use Rattle.board.proofs.forms.stepped_for.Tie as tie
 packet-for-requires : tie.Need-packet-for-requires
 packet-for-requires c κs = search needs
 
-step-number-requires : tie.Need-step-number-requires
-step-number-requires c κs = search needs
+number-requires : tie.Need-number-requires
+number-requires c κs = search needs
 
 returns : tie.Need-returns
 unfolding steppedFor
 returns c = cc
 
 pub stepped-for-spec : {M : Type 1} → statement M
-stepped-for-spec = tie.close (tie.spec packet-for-requires step-number-requires returns)
+stepped-for-spec = tie.close (tie.spec packet-for-requires number-requires returns)

@@ -6,8 +6,8 @@ use Rattle.board.proofs.forms.walked_for.Tie as tie
 packet-for-requires : tie.Need-packet-for-requires
 packet-for-requires c κs = search needs
 
-walk-number-requires : tie.Need-walk-number-requires
-walk-number-requires c κs = search needs
+number-requires : tie.Need-number-requires
+number-requires c κs = search needs
 
 ending-for-requires : tie.Need-ending-for-requires
 ending-for-requires c κs = search needs
@@ -18,4 +18,4 @@ returns c = cc
 
 pub walked-for-spec : {M : Type 1} → statement M
 walked-for-spec =
-    tie.close (tie.spec packet-for-requires walk-number-requires ending-for-requires returns)
+    tie.close (tie.spec packet-for-requires number-requires ending-for-requires returns)

@@ -15,7 +15,7 @@ stepped-for-requires : tie.Need-stepped-for-requires
 stepped-for-requires c κs = search needs
 
 returns : tie.Need-returns
-returns c = rw (← c .before .before .before .packet-of .ensures, ← c .before .before .shape-of .ensures, ← c .before .step .ensures) (c .stepped-for .ensures)
+returns c = rw (← c .before .before .before .packet-of .ensures, ← c .before .before .shape-of .ensures, ← c .before .step .ensures .0) (c .stepped-for .ensures)
 
 pub nafthurm-step-spec : {M : Type 1} → statement M
 nafthurm-step-spec =

@@ -15,7 +15,7 @@ walked-for-requires : tie.Need-walked-for-requires
 walked-for-requires c κs = search needs
 
 returns : tie.Need-returns
-returns c = rw (← c .before .before .before .packet-of .ensures, ← c .before .before .shape-of .ensures, ← c .before .walk .ensures) (c .walked-for .ensures)
+returns c = rw (← c .before .before .before .packet-of .ensures, ← c .before .before .shape-of .ensures, ← c .before .walk .ensures .0) (c .walked-for .ensures)
 
 pub nafthurm-walk-spec : {M : Type 1} → statement M
 nafthurm-walk-spec =

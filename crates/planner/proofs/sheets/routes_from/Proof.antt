@@ -33,8 +33,8 @@ loop-holds c = going _ _ _ _ _ _ _ (c .before .before .before .before .before .b
 outcome-to-requires : tie.Need-outcome-to-requires Inv-loop μ-loop
 outcome-to-requires c κs = tt
 
-route-of-requires : tie.Need-route-of-requires Inv-loop μ-loop
-route-of-requires c κs = tt
+route-requires : tie.Need-route-requires Inv-loop μ-loop
+route-requires c κs = tt
 
 is-listed-requires : tie.Need-is-listed-requires Inv-loop μ-loop
 is-listed-requires c κs = tt
@@ -70,7 +70,7 @@ loop-less : tie.Need-loop-less Inv-loop μ-loop
 loop-less c = let h = c .before .before .before .before .before .before .before .before .before .before .before .loop-test .taken in omega arith
 
 loop-again : tie.Need-loop-again Inv-loop μ-loop
-loop-again c = turn _ _ _ _ _ _ _ _ _ _ (c .before .before .before .before .before .before .before .before .before .before .before .before .loop .inv) (c .before .before .before .before .before .before .before .before .before .before .before .loop-test .taken) _ _ _ _ _ _ _ (c .before .before .before .before .before .before .before .outcome-to .ensures) (c .before .before .before .before .before .before .route-of .ensures) (c .before .before .before .before .before .is-listed .ensures) (c .before .before .before .before .last-at .ensures .0) (c .before .before .before .entry-for .ensures) (c .before .pick-entry .ensures) (c .counted .ensures)
+loop-again c = turn _ _ _ _ _ _ _ _ _ _ (c .before .before .before .before .before .before .before .before .before .before .before .before .loop .inv) (c .before .before .before .before .before .before .before .before .before .before .before .loop-test .taken) _ _ _ _ _ _ _ (c .before .before .before .before .before .before .before .outcome-to .ensures) (c .before .before .before .before .before .before .route .ensures) (c .before .before .before .before .before .is-listed .ensures) (c .before .before .before .before .last-at .ensures .0) (c .before .before .before .entry-for .ensures) (c .before .pick-entry .ensures) (c .counted .ensures)
 
 cast-t31 : tie.Need-cast-t31 Inv-loop μ-loop
 cast-t31 c = let h = few _ _ _ _ _ _ _ _ _ _ (c .before .loop .inv) in omega (arith, h .0)
@@ -92,7 +92,7 @@ routes-from-spec =
     count-requires
     loop-holds
     outcome-to-requires
-    route-of-requires
+    route-requires
     is-listed-requires
     last-at-requires
     entry-for-requires

@@ -1,5 +1,6 @@
 use Rattle.routes.proofs.Lookups.{refused, said}
 use Rattle.routes.specs.Steps.{orDirect}
+use Rattle.choice.specs.Choice.{routeOf}
 use Rattle.routes.specs.Said.{told}
 use Rattle.routes.specs.Lookup.{lookupError}
 use Rattle.routes.specs.declared.route.Found.the-variants.{At, Missing}
@@ -28,7 +29,7 @@ enum-told : tie.Need-enum-told
 enum-told c = search needs
 
 returns-2 : tie.Need-returns-2
-unfolding told orDirect
+unfolding told routeOf orDirect
 returns-2 c =
     let f = c .before .before in
     said _ _ _ (look-ok (f .before)) Missing (sym (c .enum-told .given .1) ∙ f .found-in .ensures)
