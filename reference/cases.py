@@ -123,6 +123,16 @@ def plan_cases():
     yield line('planwrite', extents='2,1,1', wrap=1, faults='-', room=9)
 
 
+def links():
+    """The link that leaves the last place of each dimension, open, wrapped and of extent 1: at the first fault and behind one that exists."""
+    for dim in range(3):
+        for extents, wrap in ([4, 4, 4], 0), ([4, 4, 4], 1 << dim), ([4, 4, 4], 7 ^ 1 << dim), ([1 if d == dim else 3 for d in range(3)], 0):
+            last = extents[0] * extents[1] * extents[2] - 1
+            yield line('plan', plan=plan_of(extents, wrap, (last, dim)))
+            yield line('plan', plan=plan_of(extents, wrap, (0, 3), (last, dim)))
+            yield line('planback', plan=plan_of(extents, wrap, (last, dim)), room=12)
+
+
 def plan_write(rng, plan):
     """A plan's value, sometimes with faults out of order or one that does not exist."""
     faults = list(plan.faults)
@@ -237,6 +247,7 @@ def large_cases():
 
 def lacking():
     yield from many_legs()
+    yield from links()
     yield from plan_cases()
     yield from refusals()
     yield from rare()
