@@ -228,38 +228,67 @@ static void op_back(const char *line) {
     put_written(w);
 }
 
-/* The calls of a run, `s` and a direction or `w` and a run of them, with commas between: each gets the packet of the last. */
-static void op_run(const char *line) {
-    lend_field(&plan, line, "plan");
-    uint16_t source = node(line, "source"), destination = node(line, "destination");
-    nafthurm_shape shape = nafthurm_plan_shape(plan.bytes, plan.size);
-    nafthurm_route route = nafthurm_pair(plan.bytes, plan.size, source, destination).route;
-    if (route.number != 0) {
-        put("number=%d", route.number);
-        return;
+/* The step or walk that `call` spells with `size` characters, on the packet: `s` and a direction, or `w` and a run of them. Gives the packet after it. */
+static nafthurm_packet make_call(const char *call, size_t size, nafthurm_shape shape, nafthurm_packet packet) {
+    lend_hex(&directions, call + 1, size - 1);
+    if (*call == 's') {
+        nafthurm_stepped s = nafthurm_step(shape, packet, directions.bytes[0]);
+        put("%d", s.number);
+        return s.packet;
     }
-    nafthurm_packet packet = nafthurm_new_packet(source, destination, route);
+    nafthurm_walked w = nafthurm_walk(shape, packet, directions.bytes, directions.size);
+    check_kept(&directions);
+    put("%zu+%s", w.hops, ending_text(w.ending));
+    return w.packet;
+}
+
+/* The calls of a line, with commas between, the first on the new packet of a route, each later one on what the last gave. */
+static void put_run(const char *line, nafthurm_packet packet) {
+    nafthurm_shape shape = nafthurm_plan_shape(plan.bytes, plan.size);
     put("legs=");
     put_legs(packet);
     put(" answers=");
     const char *call = text(line, "calls"), *end = call + text_size(call);
     if (*call == '-') put("-"), call = end;
-    for (const char *comma = ""; call < end; comma = ",") {
+    while (call < end) {
         size_t size = strcspn(call, ", \n");
-        lend_hex(&directions, call + 1, size - 1);
-        if (*call == 's') {
-            nafthurm_stepped s = nafthurm_step(shape, packet, directions.bytes[0]);
-            packet = s.packet;
-            put("%s%d", comma, s.number);
-        } else {
-            nafthurm_walked w = nafthurm_walk(shape, packet, directions.bytes, directions.size);
-            packet = w.packet;
-            put("%s%zu+%s", comma, w.hops, ending_text(w.ending));
-        }
-        call += size + (call[size] == ',');
+        packet = make_call(call, size, shape, packet);
+        if (call[size] == ',') put(","), size++;
+        call += size;
     }
     put(" packet=");
     put_packet(packet);
+}
+
+static void op_run(const char *line) {
+    lend_field(&plan, line, "plan");
+    uint16_t source = node(line, "source"), destination = node(line, "destination");
+    nafthurm_route route = nafthurm_pair(plan.bytes, plan.size, source, destination).route;
+    if (route.number != 0) put("number=%d", route.number);
+    else put_run(line, nafthurm_new_packet(source, destination, route));
+}
+
+/* A run along what the sheet that planning from the source writes says of the destination. */
+static void op_sheetrun(const char *line) {
+    lend_field(&plan, line, "plan");
+    uint16_t source = node(line, "source"), destination = node(line, "destination");
+    lend_filled(&out, 0xEE, NAFTHURM_SHEET_BYTES);
+    nafthurm_written w = nafthurm_write_sheet(plan.bytes, plan.size, source, out.bytes, out.size);
+    check_around(&out);
+    if (w.number != 0) {
+        check_kept(&out);
+        put("number=%d", w.number);
+        return;
+    }
+    lend(&sheet, out.bytes, w.size);
+    nafthurm_part part = nafthurm_lookup(plan.bytes, plan.size, sheet.bytes, sheet.size, destination);
+    nafthurm_route route = nafthurm_lookup_route(plan.bytes, plan.size, sheet.bytes, sheet.size, destination);
+    put("number=%d", route.number);
+    if (route.number != 0) return;
+    put(" size=%zu entry=", w.size);
+    put_hex(sheet.bytes + part.start, part.size);
+    put(" ");
+    put_run(line, nafthurm_new_packet(source, destination, route));
 }
 
 int answer_line(const char *line, char answer[ANSWER_MOST]) {
@@ -267,7 +296,8 @@ int answer_line(const char *line, char answer[ANSWER_MOST]) {
         const char *name;
         void (*op)(const char *line);
     } ops[] = {{"step", op_step}, {"walk", op_walk}, {"plan", op_plan}, {"planback", op_planback}, {"dead", op_dead}, {"masks", op_masks},
-               {"pair", op_pair}, {"sheet", op_sheet}, {"listing", op_listing}, {"lookup", op_lookup}, {"back", op_back}, {"run", op_run}};
+               {"pair", op_pair}, {"sheet", op_sheet}, {"listing", op_listing}, {"lookup", op_lookup}, {"back", op_back}, {"run", op_run},
+               {"sheetrun", op_sheetrun}};
     size_t name = text_size(line);
     for (size_t i = 0; i < sizeof ops / sizeof *ops; i++) {
         if (strlen(ops[i].name) != name || strncmp(ops[i].name, line, name) != 0) continue;

@@ -8,6 +8,8 @@ use planner_cases::pair_cases;
 use planner_cases::sheet_cases;
 use route_cases::back_cases;
 use route_cases::lookup_cases;
+use run_cases::pair_runs;
+use run_cases::sheet_runs;
 use text::compare::same;
 use text::field;
 use text::part::front;
@@ -65,11 +67,19 @@ fn planner_operation(name: &[u8], given: &[u8], out: &mut [u8], at: usize) -> us
     if same(name, b"sheet") {
         return sheet_cases::answer(given, out, at);
     }
-    if same(name, b"run") {
-        return run_cases::answer(given, out, at);
-    }
     if same(name, b"listing") {
         return listing_cases::answer(given, out, at);
+    }
+    run_operation(name, given, out, at)
+}
+
+// The operations that run packets along planned routes.
+fn run_operation(name: &[u8], given: &[u8], out: &mut [u8], at: usize) -> usize {
+    if same(name, b"run") {
+        return pair_runs::answer(given, out, at);
+    }
+    if same(name, b"sheetrun") {
+        return sheet_runs::answer(given, out, at);
     }
     unreadable(out, at)
 }

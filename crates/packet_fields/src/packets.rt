@@ -137,23 +137,28 @@ pub fn read_case(line: &[u8]) -> Case {
     }
 }
 
-// Writes a packet of at most two legs.
-pub fn put_packet(out: &mut [u8], at: usize, packet: Packet) -> usize {
+// Writes the legs left of a packet, of which there are at most two.
+pub fn put_legs(out: &mut [u8], at: usize, packet: Packet) -> usize {
     let legs = packet.legs;
     let left = packet.left;
     let first = legs[0];
     let last = legs[1];
     let first_mode = first.mode;
     let last_mode = last.mode;
-    let node = decimal::put(out, at, packet.node as u64);
-    let next = put::byte(out, node, b';');
     if left == 0 {
-        return next;
+        return at;
     }
     if left == 1 {
-        return put_leg(out, next, last.target, last_mode);
+        return put_leg(out, at, last.target, last_mode);
     }
-    put_two(out, next, first.target, first_mode, last.target, last_mode)
+    put_two(out, at, first.target, first_mode, last.target, last_mode)
+}
+
+// Writes a packet of at most two legs.
+pub fn put_packet(out: &mut [u8], at: usize, packet: Packet) -> usize {
+    let node = decimal::put(out, at, packet.node as u64);
+    let next = put::byte(out, node, b';');
+    put_legs(out, next, packet)
 }
 
 // Writes a packet. One with more legs than a packet can hold is written as it was given, in `text`.

@@ -1,14 +1,14 @@
 // The operation `lookup`: a destination's entry, as a part of the lent sheet, and its route.
 use case_fields::answers::put_number;
 use case_fields::answers::unreadable;
-use case_fields::legs::put_leg;
-use case_fields::legs::put_two;
 use case_fields::nodes::read_destination;
 use case_fields::sheets::PLAN_BYTES;
 use case_fields::sheets::ROUTE_BYTES;
 use case_fields::sheets::read_plan;
 use case_fields::sheets::read_routes;
 use packet::Route;
+use packet_fields::routes::number_of;
+use packet_fields::routes::put_legs;
 use routes::layout::ENTRIES_AT;
 use routes::layout::source_in;
 use routes::lookup::find_entry;
@@ -36,26 +36,16 @@ fn put_part(out: &mut [u8], at: usize, sheet: &[u8], dest: u16, entry: &[u8]) ->
     field::put_number(out, first, b":", end as u64)
 }
 
-// Writes the fields of a route before its legs.
-fn put_source(out: &mut [u8], at: usize, source: u16) -> usize {
-    let number = put_number(out, at, 0);
-    let next = field::put_number(out, number, b" source=", source as u64);
-    put::bytes(out, next, b" legs=")
-}
-
 // Writes the field `number`, and of a route the fields `source` and `legs`.
 fn put_route(out: &mut [u8], at: usize, source: u16, dest: u16, route: Route) -> usize {
-    match route {
-        Route::Refused(number) => put_number(out, at, number),
-        Route::Direct(mode) => {
-            let next = put_source(out, at, source);
-            put_leg(out, next, dest, mode)
-        }
-        Route::Via(via, first, second) => {
-            let next = put_source(out, at, source);
-            put_two(out, next, via, first, dest, second)
-        }
+    let number = number_of(route);
+    let next = put_number(out, at, number);
+    if number != 0 {
+        return next;
     }
+    let end = field::put_number(out, next, b" source=", source as u64);
+    let key = put::bytes(out, end, b" legs=");
+    put_legs(out, key, source, dest, route)
 }
 
 fn put_lookup(out: &mut [u8], at: usize, plan: &[u8], sheet: &[u8], dest: u16) -> usize {

@@ -1,0 +1,69 @@
+/* What document 01 says, told plainly and from the bytes alone: the tests hold the library to it. Slow, and meant to be read. */
+#ifndef MODEL_H
+#define MODEL_H
+
+#include "nafthurm.h"
+
+size_t word(const uint8_t *at);
+
+/* ---- The machine: nodes are of the shape, whose extents and wrap are accepted ---- */
+
+int extent(nafthurm_shape s, int dim);
+int wrapped(nafthurm_shape s, int dim);
+int nodes_of(nafthurm_shape s);
+int place(nafthurm_shape s, int node, int dim);
+int stride(nafthurm_shape s, int dim);
+
+/* The node over the link, or -1 where there is none. */
+int over(nafthurm_shape s, int node, int direction);
+
+int distance(nafthurm_shape s, int from, int to);
+
+/* Whether a leg to the target, deterministic if `mode` is not 0, may take the direction. */
+int leg_allows(nafthurm_shape s, int node, int target, int mode, int direction);
+
+/* ---- Checks: the number of the first that declines, or 0 ---- */
+
+uint8_t shape_number(nafthurm_shape s);
+uint8_t packet_number(nafthurm_shape s, nafthurm_packet packet);
+
+int fault_exists(nafthurm_shape s, size_t node, int kind);
+uint8_t plan_number(const uint8_t *plan, size_t size);
+
+/* 13 or 0, under a plan of this shape. */
+uint8_t sheet_number(nafthurm_shape s, const uint8_t *sheet, size_t size);
+
+/* ---- Packets ---- */
+
+int same_packet(nafthurm_packet a, nafthurm_packet b);
+
+/* The front leg dropped while its target is the present node. */
+nafthurm_packet dropped(nafthurm_packet packet);
+
+/* The packet is one that no check declines. */
+int allowed(nafthurm_shape s, nafthurm_packet packet, int direction);
+
+nafthurm_stepped model_step(nafthurm_shape s, nafthurm_packet packet, uint8_t direction);
+nafthurm_walked model_walk(nafthurm_shape s, nafthurm_packet packet, const uint8_t *directions, size_t size);
+
+/* ---- Plans ---- */
+
+/* An accepted plan: bit d of lost[n] for a dead link that leaves node n in direction d. */
+typedef struct {
+    nafthurm_shape shape;
+    uint8_t dead[4096];
+    uint8_t lost[4096];
+} model_plan;
+
+void read_plan(model_plan *plan, const uint8_t *bytes);
+
+/* Whether no walk that the leg's mode allows crosses a dead link. */
+int leg_clear(const model_plan *plan, int from, int target, int mode);
+
+/* The first clear choice, or 11: the two nodes are of the plan and not dead. */
+nafthurm_planned first_choice(const model_plan *plan, int source, int destination);
+
+/* 9, 10, 11, or the first clear choice. */
+nafthurm_planned model_pair(const model_plan *plan, size_t source, size_t destination);
+
+#endif

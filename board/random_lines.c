@@ -1,0 +1,187 @@
+#include "random_lines.h"
+
+#include "lent.h"
+#include "lines.h"
+#include "made.h"
+#include "model.h"
+
+#include <stdarg.h>
+#include <stdio.h>
+
+static char line[ANSWER_MOST];
+static size_t used;
+
+static void say(const char *format, ...) {
+    va_list values;
+    va_start(values, format);
+    int n = vsnprintf(line + used, sizeof line - used, format, values);
+    va_end(values);
+    HOLD(n >= 0 && (size_t)n < sizeof line - used);
+    used += (size_t)n;
+}
+
+static void say_hex(const uint8_t *at, size_t size) {
+    for (size_t i = 0; i < size; i++) say("%02x", at[i]);
+}
+
+static void say_bytes(const char *key, const bytes *b) {
+    say(" %s=%s", key, b->size ? "" : "-");
+    say_hex(b->at, b->size);
+}
+
+static void say_plan(void) { say_bytes("plan", &a_plan); }
+
+/* ---- Packets ---- */
+
+/* Of the legs in use; more than two, as many as the packet says up to four. */
+static void say_packet(nafthurm_shape s, nafthurm_packet p) {
+    say(" extents=%d,%d,%d wrap=%d packet=%d;", s.x, s.y, s.z, s.wrap, p.node);
+    int legs = p.left < 4 ? p.left : 4;
+    for (int i = 0; i < legs; i++) {
+        nafthurm_leg leg = p.legs[legs > 1 ? i % 2 : 1];
+        say("%s%d:%c", i ? "," : "", leg.target, leg.mode ? 'D' : 'A');
+    }
+}
+
+static void packet_line(int walked) {
+    nafthurm_shape s = packet_shape(), given = chance(10) ? hurt_shape(s) : s;
+    nafthurm_packet packet = any_packet(s);
+    bytes run = {.size = 0};
+    if (packet_number(s, packet) == 0) run.size = made_run(s, packet, run.at);
+    say(walked ? "walk" : "step");
+    say_packet(given, packet);
+    if (walked) say_bytes("run", &run);
+    else say(" direction=%d", run.size > 0 && chance(70) ? run.at[0] : ONE_OF(0, 1, 2, 3, 4, 5, 6, 255));
+}
+
+/* ---- Runs ---- */
+
+static nafthurm_packet say_call(nafthurm_shape s, nafthurm_packet packet) {
+    uint8_t run[RUN_MOST];
+    if (chance(50)) {
+        uint8_t direction = chance(75) ? some_direction(s, packet) : (uint8_t)below(7);
+        say("s%02x", direction);
+        return model_step(s, packet, direction).packet;
+    }
+    size_t size = made_run(s, packet, run);
+    if (size > 0 && chance(50)) size = below((uint32_t)size);
+    say("w");
+    say_hex(run, size);
+    return model_walk(s, packet, run, size).packet;
+}
+
+static void say_calls(nafthurm_shape s, nafthurm_packet packet) {
+    uint32_t count = below(7);
+    say(" calls=%s", count ? "" : "-");
+    for (uint32_t i = 0; i < count; i++) {
+        if (i > 0) say(",");
+        packet = say_call(s, packet);
+    }
+}
+
+/* Along the planned route between two nodes, of few so that the reference is quick. */
+static void run_line(const char *operation, int most) {
+    static model_plan model;
+    nafthurm_shape s = any_plan(most, 5);
+    ends e = some_ends(s);
+    say("%s", operation);
+    say_plan();
+    say(" source=%d destination=%d", e.source, e.destination);
+    nafthurm_planned p = {{1, 1, 0}, 0};
+    if (plan_number(a_plan.at, a_plan.size) == 0) {
+        read_plan(&model, a_plan.at);
+        p = model_pair(&model, e.source, e.destination);
+    }
+    if (p.route.number != 0) say(" calls=-");
+    else say_calls(model.shape, nafthurm_new_packet(e.source, e.destination, p.route));
+}
+
+/* ---- Plans and sheets ---- */
+
+/* Sheets of plans of any size: nothing is planned. */
+static void route_line(int back) {
+    nafthurm_shape s = chance(25) ? packet_shape() : made_shape(64);
+    make_plan(s, (int)below(6));
+    if (chance(8)) s = any_plan(64, 100);
+    any_sheet(s, 50);
+    say(back ? "back" : "lookup");
+    say_plan();
+    say_bytes("sheet", &a_sheet);
+    if (back) say(" room=%zu", some_room(a_sheet.size));
+    else say(" destination=%d", a_sheet.size > 12 && chance(50) ? (int)word(a_sheet.at + 7 + 5 * below((uint32_t)(a_sheet.size - 7) / 5)) : any_node(nodes_of(s)));
+}
+
+/* A plan on which the reference is quick. */
+static nafthurm_shape small_plan(int most, uint32_t damaged) {
+    for (;;) {
+        nafthurm_shape s = any_plan(most, damaged);
+        if (plan_number(a_plan.at, a_plan.size) != 0 || a_plan.at[3] * a_plan.at[4] * a_plan.at[5] <= 64) return s;
+    }
+}
+
+static void pair_line(void) {
+    nafthurm_shape s = small_plan(64, 10);
+    ends e = some_ends(s);
+    say("pair");
+    say_plan();
+    say(" source=%d destination=%d", e.source, e.destination);
+}
+
+static void sheet_line(void) {
+    nafthurm_shape s = small_plan(24, 10);
+    say("sheet");
+    say_plan();
+    say(" source=%d room=%d", any_node(nodes_of(s)), ONE_OF(0, 7, 12, 40, 80, 327, 400));
+}
+
+static void listing_line(void) {
+    nafthurm_shape s = small_plan(24, 20);
+    bytes source = {.size = 2};
+    put_word(&source, 0, any_node(nodes_of(s)));
+    say("listing input=");
+    say_hex(source.at, 2);
+    say_hex(a_plan.at, a_plan.size);
+}
+
+static void plan_line(void) {
+    nafthurm_shape s = plan_for_reading();
+    switch (below(5)) {
+    case 0:
+        say("masks"), say_plan();
+        break;
+    case 1:
+        say("planback"), say_plan();
+        say(" room=%zu", some_room(a_plan.size));
+        break;
+    case 2:
+        say("dead"), say_plan();
+        say(" node=%d direction=%d", any_node(nodes_of(s)), ONE_OF(0, 1, 2, 3, 4, 5, 6));
+        break;
+    default: say("plan"), say_plan(); break;
+    }
+}
+
+static void make_line(void) {
+    used = 0;
+    switch (below(11)) {
+    case 0: pair_line(); break;
+    case 1: sheet_line(); break;
+    case 2: listing_line(); break;
+    case 3: run_line("run", 64); break;
+    case 4: run_line("sheetrun", 32); break;
+    case 5: route_line(0); break;
+    case 6: route_line(1); break;
+    case 7: packet_line(0); break;
+    case 8: packet_line(1); break;
+    default: plan_line(); break;
+    }
+}
+
+void print_lines(uint64_t count) {
+    static char answer[ANSWER_MOST];
+    for (uint64_t i = 0; i < count; i++) {
+        make_line();
+        HOLD(answer_line(line, answer));
+        printf("%s => %s\n", line, answer);
+    }
+}
