@@ -1,4 +1,4 @@
--- The longest text: a first line of 14 bytes and 4,096 lines of 15.
+-- How long a text can be: a first line of up to 14 bytes and 4,096 lines of up to 15.
 use Prim.Native.Nat.{ℕ, zero, suc, _+_, _*_, _≤_, _<_}
 use native.Mathlib.Omega.{arith}
 use mathlib.Core.Path.{_≡_, refl}

@@ -1,5 +1,5 @@
 -- `Decimals` has the laws of a number's digits, `Puts` those of what is written, `Lines` those of the lines, `Sources` what the checks leave, `Filling` the
--- loop over the destinations, `Texts` the text as a whole, `Long` what a long input is answered, `Fits` the length of the longest text,
+-- loop over the destinations, `Texts` the text as a whole, `Long` what a long input is answered, `Fits` how long a text can be,
 -- `Reading` the listing of what was read.
 pub mod Decimals
 pub mod Puts
