@@ -21,7 +21,7 @@ use Rattle.plan_input.proofs.Long.{long-declined}
 use Rattle.planner.specs.Sheet.{sourceError, plannedSheet}
 use Rattle.planner.proofs.Planning.{source-of}
 use Rattle.all_sheets.specs.All.{sheetsFrom, left}
-use Rattle.all_sheets.specs.Turn.{NextSource}
+use Rattle.all_sheets.specs.Source.{NextSource}
 
 module _ (p : List ℕ) (S all : ℕ) (l : S < all) where
   one-more : all - S ≡ suc (all - (S + 1))

@@ -20,7 +20,8 @@ use Rattle.planner.specs.Sheet.{sourceError, plannedSheet}
 use Rattle.planner.proofs.Planning.{source-of, sheet-accepted}
 use Rattle.all_sheets.specs.declared.turn.Turn.{Turn}
 use Rattle.all_sheets.specs.All.{left, allSheets}
-use Rattle.all_sheets.specs.Turn.{Turned, Turns, last, turn, NextSource}
+use Rattle.all_sheets.specs.Source.{NextSource}
+use Rattle.all_sheets.specs.Turn.{Turned, Turns, last, turn}
 use Rattle.all_sheets.proofs.Left.{left-decided, none-left, first-left}
 
 -- The longest sheet has 4,095 entries.

@@ -1,11 +1,10 @@
 -- Writing the sheets one a turn.
-use Prim.Native.Nat.{ℕ, _-_, _≤_, _<_}
+use Prim.Native.Nat.{ℕ, _<_}
 use mathlib.Core.Path.{_≡_}
 use mathlib.Core.List.{List, [], _∷_}
 use lib.ListN.{take, drop}
-use Rattle.planner.specs.Sheet.{sourceError}
 use Rattle.all_sheets.specs.declared.turn.Turn.{Turn}
-use Rattle.all_sheets.specs.All.{sheetsFrom, left}
+use Rattle.all_sheets.specs.All.{left}
 
 -- A turn from the board `from` on, which answers r and turns the lent bytes o into t.
 pub record Turned (p : List ℕ) (from : ℕ) (r : Turn) (o t : List ℕ) : Type 0 where
@@ -18,9 +17,3 @@ pub record Turned (p : List ℕ) (from : ℕ) (r : Turn) (o t : List ℕ) : Type
 pub data Turns (p : List ℕ) : ℕ → List (List ℕ) → Type 0 where
   last : {from : ℕ} {r : Turn} {o t : List ℕ} → Turned p from r o t → r .size ≡ 0 → Turns p from []
   turn : {from : ℕ} {r : Turn} {o t : List ℕ} {sheets : List (List ℕ)} → Turned p from r o t → (r .size ≡ 0 → ⊥) → Turns p (r .next) sheets → Turns p from (take (r .size) t ∷ sheets)
-
--- r is the first board with a sheet of those from `from` on, of `all`; where none has one it is not below `all`.
-pub record NextSource (p : List ℕ) (from all r : ℕ) : Type 0 where
-  pub onward : from ≤ r
-  pub sheets : sheetsFrom p from (all - from) ≡ sheetsFrom p r (all - r)
-  pub sound : r < all → sourceError p r ≡ 0

@@ -1,6 +1,6 @@
 // The boards that have a sheet.
 use planner::sheets::source_error;
-ghost use Rattle.all_sheets.specs.Turn.{NextSource};
+ghost use Rattle.all_sheets.specs.Source.{NextSource};
 
 // The first sound board from `from` on, of `all`.
 pub fn next_source(plan: &[u8], from: u16, all: u16) -> u16
