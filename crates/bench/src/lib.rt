@@ -1,7 +1,7 @@
 // What the bench calls from Rust.
-use machine::leg::Leg;
 use machine::leg::Mode;
 use packet::Packet;
+use packet::Route;
 use planner::outcome::Outcome;
 use planner::pair::pair;
 use planner::sheets::write_sheet;
@@ -31,19 +31,8 @@ pub extern "C" fn nafthurm_walk(
     dirs: &[u8],
 ) -> usize {
     let shape = Shape { x, y, z, wrap };
-    let front = Leg {
-        target: via,
-        mode: mode_of(first),
-    };
-    let last = Leg {
-        target,
-        mode: mode_of(second),
-    };
-    let packet = Packet {
-        node,
-        legs: [front, last],
-        left: 2,
-    };
+    let route = Route::Via(via, mode_of(first), mode_of(second));
+    let packet = Packet::new(node, target, route);
     let walked = packet.walk(shape, dirs);
     walked.hops
 }

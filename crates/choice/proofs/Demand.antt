@@ -14,9 +14,10 @@ use Rattle.machine.specs.Node.{isNode}
 use Rattle.machine.specs.Torus.{torus}
 use Rattle.machine.proofs.Nodes.{node-of}
 use Rattle.machine.proofs.Torus.{torus-laws}
-use Rattle.packet.specs.Packet.{lastOf, stored, WellStored}
+use Rattle.packet.specs.Packet.{stored, WellStored}
 use Rattle.packet.specs.New.{newPacket}
 use Rattle.packet.proofs.Stored.{stored-laws}
+use Rattle.packet.proofs.New.{new-direct, new-via}
 use Rattle.plan.specs.Layout.{shapeOf, faultsOf}
 use Rattle.plan.specs.Checks.{large, planError}
 use Rattle.dead.specs.Dead.{deadNode}
@@ -32,9 +33,9 @@ choice-ends s S D (Direct m) = refl
 choice-ends s S D (Via v m n) = refl
 
 pub choice-starts : (s : Shape) (S D : ℕ) (c : Choice) → New (stored s) WellStored S (legsTo D c) (newPacket S D (routeOf c))
-unfolding newPacket routeOf legsTo lastOf
-choice-starts s S D (Direct m) = record { good = omega arith; at = refl; with = refl }
-choice-starts s S D (Via v m n) = record { good = omega arith; at = refl; with = refl }
+unfolding routeOf legsTo
+choice-starts s S D (Direct m) = new-direct s S D m
+choice-starts s S D (Via v m n) = new-via s S D v m n
 
 -- What `chosen` answers.
 module _ (s : Shape) (S D : ℕ) (a : Answer) where

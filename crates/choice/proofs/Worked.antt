@@ -16,6 +16,7 @@ use Rattle.sheet.specs.Bytes.{listFrom}
 use Rattle.plan.specs.Layout.{version, lengthField, bytesAfter, shapeOf, faultCount, faultAt, faultsOf}
 use Rattle.plan.specs.Kinds.{kindDim, kindDir}
 use Rattle.plan.specs.Checks.{large, faultExists, rank, faultsError, planError}
+use Rattle.plan.specs.Worked.{W}
 use Rattle.dead.specs.Dead.{some, namesNode, deadNode, namesLink, names, deadLink, sound}
 use Rattle.choice.specs.Choice.{Direct, Via, legsTo, byVia, vias, choices, lengthFrom, detLegs, viaCount, viaNode, firstMode, keyOf}
 use Rattle.choice.specs.Pair.{Route, Refused, routeIn, pairError, answered, pair}
@@ -26,10 +27,6 @@ sheet a b wrap = 1 ∷ 0 ∷ 6 ∷ a ∷ b ∷ 1 ∷ wrap ∷ 0 ∷ 0 ∷ []
 
 abbrev pub fault : ℕ → ℕ → ℕ → ℕ → List ℕ
 fault a b wrap kind = 1 ∷ 0 ∷ 9 ∷ a ∷ b ∷ 1 ∷ wrap ∷ 0 ∷ 1 ∷ 0 ∷ 0 ∷ kind ∷ []
-
--- Machine W is 4, 4, 1 with X and Y wrapped and link 0 X+ dead.
-abbrev pub W : List ℕ
-W = fault 4 4 3 0
 
 pub record Worked : Type 0 where
   pub w-0-1 : pair W 0 1 ≡ Route (Via 4 Adaptive Deterministic) 3

@@ -4,3 +4,4 @@ pub mod Courses
 pub mod Walks
 pub mod Answers
 pub mod Claim
+pub mod New

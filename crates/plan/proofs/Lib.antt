@@ -5,3 +5,4 @@ pub mod Readings
 pub mod Encoding
 pub mod Writings
 pub mod Rewriting
+pub mod RoundTrips

@@ -1,25 +1,23 @@
--- Writing, and reading what was written.
-use Prim.Native.Nat.{ℕ, zero, suc, _+_, _*_, _≤_, _<_}
+-- The sheet of a plan, and what is read from it.
+use Prim.Native.Nat.{ℕ, zero, suc, _+_, _*_, _<_}
 use native.Mathlib.Omega.{arith}
-use mathlib.Core.Path.{_≡_, refl, sym, ap, _∙_}
+use mathlib.Core.Path.{_≡_, refl, ap, _∙_}
 use mathlib.Core.List.{List, [], _∷_}
-use lib.ListN.{length, getD, take}
-use lib.Seq.{ext-getD, getD-append-add}
+use lib.ListN.{length, getD}
+use lib.Seq.{getD-append-add}
 use borrow.Author.Tests.{lt-ltb, le-ltb, eq-eqb}
-use Rattle.theory.proofs.Cases.{by-le}
 use Rattle.sheet.specs.Bytes.{byte, word, upperByte, lowerByte, listFrom}
-use Rattle.sheet.specs.Output.{outAfter}
-use Rattle.sheet.proofs.Records.{word-of, from-length, from-at}
-use Rattle.sheet.proofs.Outputs.{unread, same-bytes}
+use Rattle.sheet.proofs.Records.{word-of, from-length, from-at, from-same}
+use Rattle.sheet.proofs.Outputs.{unread}
 use Rattle.plan.specs.declared.layout.Fault.{Fault}
 use Rattle.plan.specs.declared.reading.Plan.{Plan}
-use Rattle.plan.specs.declared.reading.Answer.the-variants.{Accepted}
-use Rattle.plan.specs.Layout.{version, shapeOf, faultCount, faultsAt, faultAt}
+use Rattle.plan.specs.Layout.{version, shapeOf, faultCount, faultsAt, faultAt, faultsOf}
 use Rattle.plan.specs.Checks.{large, planError}
-use Rattle.plan.specs.Reading.{noFault, listed, faultArray, planOf, reading}
+use Rattle.plan.specs.Reading.{noFault, faultArray, planOf}
 use Rattle.plan.specs.Writing.{writeError, planFaults, faultsBytes, headBytes, sheetOf}
+use Rattle.plan.specs.Value.{Fits, cleared}
 
--- ---- the head of a plan's sheet
+-- ---- the head
 faults-length : (fs : List Fault) → length (faultsBytes fs) ≡ 3 * length fs
 unfolding faultsBytes
 faults-length [] = refl
@@ -51,11 +49,7 @@ module _ (p : Plan) where
   pub too-many : (o : List ℕ) → 256 < p .count → p .count < 65536 → writeError large (sheetOf p) o ≡ 3
   too-many o h b = unread (planError large (sheetOf p)) (sheetOf p) o (λ z. absurd (omega (arith, many h b))) ∙ many h b
 
--- ---- an accepted sheet is written back as the same bytes
-pub written-back : (s o : List ℕ) → planError large s ≡ 0 → length s ≤ length o → take (length s) (outAfter (writeError large s o) s o) ≡ s
-written-back s o h l = same-bytes (planError large s) s o h l
-
--- ---- a plan that is written is read back as the same plan
+-- ---- the faults
 -- A fault in three bytes, and how it is read from them.
 abbrev threeAt : List ℕ → ℕ → Fault
 threeAt l i = record { node = word l i; kind = byte l (i + 2) }
@@ -76,14 +70,7 @@ fault-back (f ∷ fs) (suc i) h b =
     let e : 3 * suc i ≡ 3 + 3 * i = omega arith in
     rw (e, past-three (upperByte (f .node)) (lowerByte (f .node)) (f .kind) (faultsBytes fs) (3 * i)) (fault-back fs i (omega arith) b)
 
--- A plan as an array of 256 holds it: numbers of two bytes, and zeros past its faults.
-pub record Stored (p : Plan) : Type 0 where
-  pub few : p .count ≤ 256
-  pub long : length (p .faults) ≡ 256
-  pub nodes : (i : ℕ) → getD (p .faults) i noFault .node < 65536
-  pub rest : (i : ℕ) → p .count ≤ i → getD (p .faults) i noFault ≡ noFault
-
-module _ (p : Plan) (h : Stored p) where
+module _ (p : Plan) (h : Fits p) where
   numbered : ℕ → Fault
   numbered i = getD (p .faults) i noFault
 
@@ -103,28 +90,15 @@ module _ (p : Plan) (h : Stored p) where
       let at = from-at numbered (p .count) 0 i noFault b in
       let same : getD (listFrom numbered 0 (p .count)) i noFault ≡ numbered i = at ∙ ap numbered (omega arith) in
       rw (e₁, e₂, past-head (3 * i), past-head (3 * i + 1), past-head (3 * i + 2))
-      (fault-back (listFrom numbered 0 (p .count)) i (omega (arith, from-length numbered (p .count) 0)) (rw same (h .nodes i)) ∙ same)
+      (fault-back (listFrom numbered 0 (p .count)) i (omega (arith, from-length numbered (p .count) 0)) (rw same (h .nodes i b)) ∙ same)
 
-  array-read : faultArray (sheetOf p) ≡ p .faults
-  unfolding faultArray
-  array-read =
-      ext-getD noFault (listFrom (listed (sheetOf p)) 0 256) (p .faults) (from-length (listed (sheetOf p)) 256 0 ∙ sym (h .long))
-      (λ k b. from-at (listed (sheetOf p)) 256 0 k noFault (omega (arith, from-length (listed (sheetOf p)) 256 0)) ∙ ap (listed (sheetOf p)) (omega arith) ∙ one k)
-    where
-      count : faultCount (sheetOf p) ≡ p .count
-      count = head-count p (omega (arith, h .few))
+  faults-read : faultsOf (sheetOf p) ≡ planFaults p
+  unfolding faultsOf planFaults
+  faults-read =
+      ap (listFrom (faultAt (sheetOf p)) 0) (head-count p (h .count))
+      ∙ from-same (faultAt (sheetOf p)) (λ i. getD (p .faults) i noFault) (p .count) 0 (λ k a b. fault-read k (omega arith))
 
-      one : (k : ℕ) → listed (sheetOf p) k ≡ getD (p .faults) k noFault
-      one k =
-          by-le (p .count) k
-          (λ a. rw (count, le-ltb k (p .count) a) (sym (h .rest k a)))
-          (λ a. rw (count, lt-ltb k (p .count) a) (fault-read k a))
-
-  pub read-back : planOf (sheetOf p) ≡ p
-  unfolding planOf
-  read-back = rw (head-shape p, head-count p (omega (arith, h .few)), array-read)
-
-  -- What is written, read again.
-  pub written-read : (o : List ℕ) → planError large (sheetOf p) ≡ 0 → length (sheetOf p) ≤ length o → let t = take (length (sheetOf p)) (outAfter (writeError large (sheetOf p) o) (sheetOf p) o) in reading (planError large t) t ≡ record { answer = Accepted; plan = p }
-  unfolding reading
-  written-read o e l = rw (written-back (sheetOf p) o e l, e, read-back)
+  -- The sheet of a plan, read, is the plan with zeros past its faults.
+  pub plan-read : planOf (sheetOf p) ≡ cleared p
+  unfolding planOf faultArray cleared
+  plan-read = rw (head-shape p, head-count p (h .count), faults-read)

@@ -13,7 +13,7 @@ use Rattle.plan.specs.declared.layout.Fault.{Fault}
 use Rattle.plan.specs.Layout.{planVersion, version, lengthField, bytesAfter, sizeAfter, shapeOf, faultCount, faultsAt, faultsOf}
 use Rattle.plan.specs.Kinds.{linkKind, nodeKind, kindDir}
 
--- What a caller can hold: nodes at most and faults at most.
+-- What a caller can hold: nodes at most and faults at most. No check reads `nodes`: extents of at most 16 keep every plan within 4,096.
 pub record Limits : Type 0 where
   pub nodes : ℕ
   pub faults : ℕ

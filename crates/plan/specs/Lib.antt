@@ -3,4 +3,6 @@ pub mod Kinds
 pub mod Checks
 pub mod Reading
 pub mod Writing
+pub mod Value
+pub mod Worked
 pub mod Steps

@@ -4,13 +4,13 @@ use mathlib.Core.Bool.{Bool, cond}
 use mathlib.Core.List.{List}
 use lib.ListN.{replicate}
 use lib.Dec.{ltb, eqb}
-use Rattle.sheet.specs.Bytes.{listFrom}
+use Rattle.sheet.specs.Bytes.{arrayOf}
 use Rattle.shape.specs.declared.shape.Shape.{Shape}
 use Rattle.plan.specs.declared.layout.Fault.{Fault}
 use Rattle.plan.specs.declared.reading.Plan.{Plan}
 use Rattle.plan.specs.declared.reading.Answer.the-variants.{Accepted, Refused}
 use Rattle.plan.specs.declared.reading.Reading.{Reading}
-use Rattle.plan.specs.Layout.{shapeOf, faultCount, faultAt}
+use Rattle.plan.specs.Layout.{shapeOf, faultCount, faultAt, faultsOf}
 use Rattle.plan.specs.Checks.{large, planError}
 
 abbrev pub noShape : Shape
@@ -37,11 +37,8 @@ abbrev pub faultAnswer : List ℕ → ℕ → Fault
 faultAnswer s i = cond (ltb i (countAnswer s)) (faultAt s i) noFault
 
 -- The faults as an array of 256, with zeros past them.
-abbrev pub listed : List ℕ → ℕ → Fault
-listed s i = cond (ltb i (faultCount s)) (faultAt s i) noFault
-
 unfoldable pub faultArray : List ℕ → List Fault
-faultArray s = listFrom (listed s) 0 256
+faultArray s = arrayOf noFault 256 (faultsOf s)
 
 unfoldable pub planOf : List ℕ → Plan
 planOf s = record { shape = shapeOf s; count = faultCount s; faults = faultArray s }

@@ -5,15 +5,18 @@ use mathlib.Core.Path.{_≡_, refl, sym, ap, _∙_}
 use mathlib.Core.Bool.{Bool, true, false, not, true≢false, false≢true}
 use mathlib.Core.List.{List}
 use mathlib.Core.Option.{Option, none, some}
+use lib.ListN.{length, take}
 use borrow.Author.Tests.{eq-eqb, ne-eqb}
 use Rattle.theory.specs.Checks.{declined, _then_}
 use Rattle.theory.proofs.Cases.{test, by-order}
 use Rattle.theory.proofs.Plan.{ReadAs}
+use Rattle.sheet.specs.Output.{roomError, outAfter}
 use Rattle.shape.specs.declared.shape.Shape.{Shape}
 use Rattle.machine.specs.declared.leg.Mode.the-variants.{Adaptive, Deterministic}
 use Rattle.machine.specs.Number.{nodeCount}
 use Rattle.machine.specs.Node.{isNode}
 use Rattle.machine.proofs.Nodes.{node-of}
+use Rattle.plan.specs.declared.reading.Answer.the-variants.{Accepted}
 use Rattle.plan.specs.Layout.{shapeOf, faultsOf}
 use Rattle.plan.specs.Checks.{large, planError}
 use Rattle.dead.specs.Dead.{deadNode}
@@ -28,8 +31,11 @@ use Rattle.routes.specs.declared.layout.Entry.{Entry}
 use Rattle.routes.specs.Said.{Said, Says, Refused, saidBy, entryFor}
 use Rattle.routes.specs.Checks.{entryGood, entriesGood, routesGood, sheetError}
 use Rattle.routes.specs.Says.{saysOf, says}
+use Rattle.routes.specs.Reading.{reading}
+use Rattle.routes.specs.Value.{routesWith}
 use Rattle.routes.proofs.Entries.{passed}
 use Rattle.routes.proofs.Listed.{written-accepted, written-says}
+use Rattle.routes.proofs.RoundTrips.{good-written-read}
 use Rattle.routes.proofs.Saying.{says-choice, says-refused, choice-good, dead-good, none-good}
 use Rattle.planner.specs.Sheet.{sourceError, saidOf, lists, entriesFrom, plannedSheet}
 use Rattle.planner.specs.Demand.{SheetDemand}
@@ -200,6 +206,14 @@ module _ (p : List ℕ) (S : ℕ) (s : Source p S) where
   pub sheet-says : (D : ℕ) → isNode (shapeOf p) D ≡ true → says p (plannedSheet p S) D ≡ saidOf (pair p S D)
   unfolding plannedSheet
   sheet-says D n = written-says p S all (s .plan) routes-good D n ∙ says-from (nodeCount (shapeOf p)) 0 D (omega arith) (omega (arith, node-of (shapeOf p) D n .below)) (omega arith)
+
+  -- And by the definition of reading, from the bytes that writing it leaves in the output.
+  pub sheet-read :
+      (o : List ℕ) → length (plannedSheet p S) ≤ length o →
+      let w = take (length (plannedSheet p S)) (outAfter (roomError (sourceError p S) (plannedSheet p S) o) (plannedSheet p S) o) in
+      reading (sheetError p w) w ≡ record { answer = Accepted; routes = routesWith S (entriesFrom p S 0 (nodeCount (shapeOf p))) }
+  unfolding plannedSheet
+  sheet-read o l = good-written-read p S all (s .plan) routes-good (sourceError p S) o (no-error p S s) l
 
   pub sheet-demand : (D : ℕ) → isNode (shapeOf p) D ≡ true → deadNode (faultsOf p) D ≡ false → SheetDemand p S D
   sheet-demand D n d =

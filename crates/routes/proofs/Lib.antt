@@ -9,4 +9,5 @@ pub mod Listed
 pub mod Many
 pub mod Readings
 pub mod Rewriting
+pub mod RoundTrips
 pub mod Saying

@@ -41,7 +41,7 @@ module _ (r : Routes) (long : length (r .entries) ≡ 4095) (many : 4095 < r .co
   unfolding sheetOf
   no-entry =
       let z = past r 4095 (omega arith) many in
-      entry-read (r .source) (routeEntries r) 4095 (omega (arith, entries-count r)) (rw z (omega arith, omega arith)) ∙ z
+      entry-read (r .source) (routeEntries r) 4095 (omega (arith, entries-count r)) (rw z (record { dest = omega arith; via = omega arith })) ∙ z
 
   bad : (m : Shape) → sheetGood m (sheetOf r) ≡ true → ⊥
   unfolding sheetGood routesGood entriesOf sheetOf entryGood

@@ -62,11 +62,9 @@ module _ (m : Shape) (S : ℕ) where
   rising (e ∷ es) least h = let c = cons m S least e es h in (c .rises, rising es (e .dest + 1) (c .later))
 
   fit : nodeCount m ≤ 4096 → (es : List Entry) (least : ℕ) → entriesGood m S least es ≡ true → AllFit es
-  fit b [] least h = tt
-  fit b (e ∷ es) least h =
-      let c = cons m S least e es h in
-      let g = good-entry e (c .here) in
-      ((omega arith, omega arith), fit b es (e .dest + 1) (c .later))
+  fit b [] least h i k = absurd (omega arith)
+  fit b (e ∷ es) least h zero k = let g = good-entry e (cons m S least e es h .here) in record { dest = omega arith; via = omega arith }
+  fit b (e ∷ es) least h (suc i) k = fit b es (e .dest + 1) (cons m S least e es h .later) i (omega arith)
 
   -- The nodes from least on, without the source, are enough for them.
   room : S < nodeCount m → (es : List Entry) (least : ℕ) → least ≤ nodeCount m → entriesGood m S least es ≡ true → (length es + least ≤ nodeCount m) × (least ≤ S → length es + 1 + least ≤ nodeCount m)

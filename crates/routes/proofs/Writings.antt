@@ -8,21 +8,19 @@ use lib.ListN.{length, getD}
 use lib.Seq.{getD-append-add}
 use borrow.Author.Tests.{le-leb, eq-eqb}
 use Rattle.sheet.specs.Bytes.{byte, word, upperByte, lowerByte, listFrom}
-use Rattle.sheet.proofs.Records.{word-of, from-same}
+use Rattle.sheet.proofs.Records.{word-of, as-list}
 use Rattle.shape.specs.declared.shape.Shape.{Shape}
 use Rattle.plan.specs.Layout.{version, lengthField, bytesAfter}
 use Rattle.routes.specs.declared.layout.Entry.{Entry}
 use Rattle.routes.specs.Layout.{source, entryCount, entriesAt, entryAt, entriesOf, sizeAfter, noEntry}
 use Rattle.routes.specs.Checks.{headGood, routesGood, sheetGood}
+use Rattle.routes.specs.Reading.{entryArray, routesOf}
 use Rattle.routes.specs.Writing.{headBytes, entriesBytes, sheetBytes}
+use Rattle.routes.specs.Value.{EntryFits, routesWith}
 
--- Numbers of two bytes.
-abbrev pub Fits : Entry → Type 0
-Fits e = (e .dest < 65536) × (e .via < 65536)
-
+-- Each of the entries fits.
 abbrev pub AllFit : List Entry → Type 0
-AllFit [] = Unit {0}
-AllFit (e ∷ es) = Fits e × AllFit es
+AllFit es = (i : ℕ) → i < length es → EntryFits (getD es i noEntry)
 
 -- An entry in five bytes, and how it is read from them.
 abbrev fiveAt : List ℕ → ℕ → Entry
@@ -37,27 +35,13 @@ past-five a b c d e l i =
     let e₃ : 5 + i + 3 ≡ suc (suc (suc (suc (suc (i + 3))))) = omega arith in
     rw (e₄, e₃, e₂, e₁, e₀)
 
-entry-back : (es : List Entry) (i : ℕ) → i < length es → Fits (getD es i noEntry) → fiveAt (entriesBytes es) (5 * i) ≡ getD es i noEntry
+entry-back : (es : List Entry) (i : ℕ) → i < length es → EntryFits (getD es i noEntry) → fiveAt (entriesBytes es) (5 * i) ≡ getD es i noEntry
 unfolding entriesBytes
 entry-back [] i h b = absurd (omega arith)
-entry-back (e ∷ es) zero h b = rw (word-of (e .dest) (b .0), word-of (e .via) (b .1))
+entry-back (e ∷ es) zero h b = rw (word-of (e .dest) (b .dest), word-of (e .via) (b .via))
 entry-back (e ∷ es) (suc i) h b =
     let q : 5 * suc i ≡ 5 + 5 * i = omega arith in
     rw (q, past-five (upperByte (e .dest)) (lowerByte (e .dest)) (e .kind) (upperByte (e .via)) (lowerByte (e .via)) (entriesBytes es) (5 * i)) (entry-back es i (omega arith) b)
-
-fits-at : (es : List Entry) → AllFit es → (i : ℕ) → i < length es → Fits (getD es i noEntry)
-fits-at [] f i h = absurd (omega arith)
-fits-at (e ∷ es) f zero h = f .0
-fits-at (e ∷ es) f (suc i) h = fits-at es (f .1) i (omega arith)
-
--- A list is its elements.
-as-list : (es : List Entry) (i : ℕ) (f : ℕ → Entry) → ((k : ℕ) → f (i + k) ≡ getD es k noEntry) → listFrom f i (length es) ≡ es
-unfolding listFrom
-as-list [] i f h = refl
-as-list (e ∷ es) i f h =
-    let z : i ≡ i + 0 = omega arith in
-    let q : f i ≡ e = ap f z ∙ h 0 in
-    rw (q, as-list es (suc i) f (λ k. ap f {y = i + suc k} (omega arith) ∙ h (suc k)))
 
 entries-length : (es : List Entry) → length (entriesBytes es) ≡ 5 * length es
 unfolding entriesBytes
@@ -89,7 +73,7 @@ module _ (S : ℕ) (es : List Entry) where
   unfolding sheetBytes headBytes
   past-head i = getD-append-add (headBytes S (length es)) (entriesBytes es) i 0
 
-  pub entry-read : (i : ℕ) → i < length es → Fits (getD es i noEntry) → entryAt (sheetBytes S es) i ≡ getD es i noEntry
+  pub entry-read : (i : ℕ) → i < length es → EntryFits (getD es i noEntry) → entryAt (sheetBytes S es) i ≡ getD es i noEntry
   unfolding entryAt
   entry-read i h b =
       let e₁ : entriesAt + 5 * i + 1 ≡ 7 + (5 * i + 1) = omega arith in
@@ -103,9 +87,7 @@ module _ (S : ℕ) (es : List Entry) where
   unfolding entriesOf
   entries-read h f =
       let s = sheetBytes S es in
-      ap (listFrom (entryAt s) 0) (count-read h)
-      ∙ from-same (entryAt s) (λ k. getD es k noEntry) (length es) 0 (λ k a b. entry-read k (omega arith) (fits-at es f k (omega arith)))
-      ∙ as-list es 0 (λ k. getD es k noEntry) (λ k. ap (λ (j : ℕ). getD es j noEntry) (omega arith))
+      ap (listFrom (entryAt s) 0) (count-read h) ∙ as-list noEntry es 0 (entryAt s) (λ k b. entry-read (0 + k) (omega arith) (f (0 + k) (omega arith)) ∙ ap (λ (i : ℕ). getD es i noEntry) (omega arith))
 
   pub head-good : length es ≤ 4095 → headGood (sheetBytes S es) ≡ true
   unfolding headGood bytesAfter
@@ -117,3 +99,8 @@ module _ (S : ℕ) (es : List Entry) where
   pub sheet-good : (m : Shape) → S < 65536 → length es ≤ 4095 → AllFit es → sheetGood m (sheetBytes S es) ≡ routesGood m S es
   unfolding sheetGood
   sheet-good m a h f = rw (head-good h, source-read a, entries-read (omega arith) f)
+
+  -- Its sheet, read, is the routes with these entries.
+  pub routes-read : S < 65536 → length es ≤ 4095 → AllFit es → routesOf (sheetBytes S es) ≡ routesWith S es
+  unfolding routesOf entryArray routesWith
+  routes-read a h f = rw (source-read a, count-read (omega arith), entries-read (omega arith) f)

@@ -6,4 +6,5 @@ pub mod Lookup
 pub mod Says
 pub mod Reading
 pub mod Writing
+pub mod Value
 pub mod Steps

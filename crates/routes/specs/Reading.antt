@@ -1,25 +1,20 @@
 -- Reading a route sheet: an accepted sheet as a value, or the number.
 use Prim.Native.Nat.{ℕ, zero, suc}
-use mathlib.Core.Bool.{cond}
 use mathlib.Core.List.{List}
 use lib.ListN.{replicate}
-use lib.Dec.{ltb}
-use Rattle.sheet.specs.Bytes.{listFrom}
+use Rattle.sheet.specs.Bytes.{arrayOf}
 use Rattle.plan.specs.declared.reading.Answer.the-variants.{Accepted, Refused}
 use Rattle.routes.specs.declared.layout.Entry.{Entry}
 use Rattle.routes.specs.declared.reading.Routes.{Routes}
 use Rattle.routes.specs.declared.reading.Reading.{Reading}
-use Rattle.routes.specs.Layout.{source, entryCount, entryAt, noEntry}
+use Rattle.routes.specs.Layout.{source, entryCount, entriesOf, noEntry}
 
 abbrev pub noRoutes : Routes
 noRoutes = record { source = 0; count = 0; entries = replicate 4095 noEntry }
 
 -- The entries as an array of 4,095, with zeros past them.
-abbrev pub listed : List ℕ → ℕ → Entry
-listed s i = cond (ltb i (entryCount s)) (entryAt s i) noEntry
-
 unfoldable pub entryArray : List ℕ → List Entry
-entryArray s = listFrom (listed s) 0 4095
+entryArray s = arrayOf noEntry 4095 (entriesOf s)
 
 unfoldable pub routesOf : List ℕ → Routes
 routesOf s = record { source = source s; count = entryCount s; entries = entryArray s }

@@ -15,6 +15,10 @@ use Rattle.theory.proofs.Clear.{clearLegs-iff}
 use Rattle.theory.proofs.Claim.{claim}
 use Rattle.theory.proofs.Choice.{best-is}
 
+-- Every well stored packet is a new packet of the legs that it has left.
+pub new-of : {Leg P : Type 0} (K : Packets Leg P) (Good : P → Type 0) (q : P) → Good q → New K Good (K .node q) (K .legs q) q
+new-of K Good q g = record { good = g; at = refl; with = refl }
+
 -- The answer, read as an option: a refusal is none, a route some.
 pub record ReadAs {C : Type 0} (o : Option C) (Refuses : Type 0) (Gives : C → Type 0) : Type 0 where
   pub refuses : o ≡ none → Refuses

@@ -1,11 +1,15 @@
 use native.Mathlib.Omega.{arith}
 use Prim.Native.Nat.{_-_}
-use Rattle.plan.proofs.Readings.{Filling, begin, onward, ended}
+use mathlib.Core.Path.{_≡_}
+use Rattle.sheet.proofs.Fill.{Filling, begin, onward, ended}
+use Rattle.plan.specs.Layout.{faultCount, faultAt, faultsOf}
+use Rattle.plan.specs.Reading.{noFault, faultArray}
+use Rattle.plan.proofs.Plans.{within-large}
 use Rattle.plan.proofs.reading.faults_in.Statement.{statement}
 use Rattle.plan.proofs.reading.faults_in.Tie as tie
 
 abbrev Inv-loop : tie.InvT-loop
-Inv-loop sheet count faults₀ i₀ faults i = Filling sheet count faults i
+Inv-loop sheet count faults₀ i₀ faults i = (count ≡ faultCount sheet) × Filling noFault (faultAt sheet) 256 count faults i
 
 abbrev μ-loop : tie.MeasureT-loop
 μ-loop sheet count faults₀ i₀ faults i = count - i
@@ -17,7 +21,7 @@ cast-count : tie.Need-cast-count Inv-loop μ-loop
 cast-count c = omega arith
 
 loop-holds : tie.Need-loop-holds Inv-loop μ-loop
-loop-holds c = begin _ _ (c .before .before .pre) (c .count-in .ensures)
+loop-holds c = (c .count-in .ensures, begin noFault _ 256 _ (omega (arith, c .count-in .ensures, within-large _ (c .before .before .pre) .faults)))
 
 cast-fault-in : tie.Need-cast-fault-in Inv-loop μ-loop
 cast-fault-in c = omega arith
@@ -38,10 +42,11 @@ loop-less : tie.Need-loop-less Inv-loop μ-loop
 loop-less c = omega arith
 
 loop-again : tie.Need-loop-again Inv-loop μ-loop
-loop-again c = onward _ _ _ _ (c .before .before .loop .inv) _ (c .fault-in .ensures) (c .before .loop-test .taken)
+loop-again c = let inv = c .before .before .loop .inv in (inv .0, onward noFault _ 256 _ _ _ (inv .1) _ (c .fault-in .ensures) (c .before .loop-test .taken))
 
 returns : tie.Need-returns Inv-loop μ-loop
-returns c = ended _ _ _ _ (c .before .loop .inv) (c .loop-test .left)
+unfolding faultArray faultsOf
+returns c = let inv = c .before .loop .inv in rw (← inv .0) (ended noFault _ 256 _ _ _ (inv .1) (c .loop-test .left))
 
 pub faults-in-spec : {M : Type 1} → statement M
 faults-in-spec =

@@ -1,4 +1,4 @@
-use Rattle.plan.specs.Reading.{planOf}
+use Rattle.plan.specs.Reading.{planOf, reading}
 use mathlib.Core.Path.{sym, _∙_}
 use Rattle.plan.proofs.Readings.{refused, read-as}
 use Rattle.plan.proofs.reading.read.Statement.{statement}
@@ -20,7 +20,7 @@ count-in-requires : tie.Need-count-in-requires
 count-in-requires c κs = tt
 
 returns-2 : tie.Need-returns-2
-unfolding planOf
+unfolding reading planOf
 returns-2 c = read-as _ _ (c .before .before .before .before .check .ensures) (c .before .before .before .if1 .left) _ (cc)
 
 pub read-spec : {M : Type 1} → statement M

@@ -1,5 +1,5 @@
 use Rattle.routes.proofs.Readings.{few, refused, read-as}
-use Rattle.routes.specs.Reading.{routesOf}
+use Rattle.routes.specs.Reading.{routesOf, reading}
 use mathlib.Core.Path.{sym, _∙_}
 use borrow.Author.Needs.{needs}
 use Rattle.routes.proofs.reading.read.Statement.{statement}
@@ -21,7 +21,7 @@ count-in-requires : tie.Need-count-in-requires
 count-in-requires c κs = search needs
 
 returns-2 : tie.Need-returns-2
-unfolding routesOf
+unfolding reading routesOf
 returns-2 c = read-as _ _ _ (c .before .before .before .before .check .ensures) (c .before .before .before .if1 .left) _ (cc)
 
 pub read-spec : {M : Type 1} → statement M

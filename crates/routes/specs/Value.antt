@@ -1,0 +1,27 @@
+-- The value of routes.
+use Prim.Native.Nat.{ℕ, _<_}
+use mathlib.Core.List.{List}
+use lib.ListN.{length, getD}
+use Rattle.sheet.specs.Bytes.{arrayOf}
+use Rattle.routes.specs.declared.layout.Entry.{Entry}
+use Rattle.routes.specs.declared.reading.Routes.{Routes}
+use Rattle.routes.specs.Layout.{noEntry}
+use Rattle.routes.specs.Writing.{routeEntries}
+
+-- The numbers that a sheet holds in two bytes fit them, as the code's u16 do.
+pub record EntryFits (e : Entry) : Type 0 where
+  pub dest : e .dest < 65536
+  pub via : e .via < 65536
+
+pub record Fits (r : Routes) : Type 0 where
+  pub source : r .source < 65536
+  pub count : r .count < 65536
+  pub entries : (i : ℕ) → i < r .count → EntryFits (getD (r .entries) i noEntry)
+
+-- The routes from the source S with these entries, and zeros past them.
+unfoldable pub routesWith : ℕ → List Entry → Routes
+routesWith S es = record { source = S; count = length es; entries = arrayOf noEntry 4095 es }
+
+-- The routes with zeros past their entries. What stands there is no entry.
+unfoldable pub cleared : Routes → Routes
+cleared r = record { source = r .source; count = r .count; entries = arrayOf noEntry 4095 (routeEntries r) }
