@@ -362,7 +362,7 @@ ends some_ends(nafthurm_shape s) {
         int node = (int)word(at) % nodes_of(s), to = at[2] < 3 ? over(s, node, 2 * at[2]) : -1;
         one = (uint16_t)node, other = to >= 0 && chance(40) ? (uint16_t)to : some_node(s, one);
     }
-    if (chance(8)) one = corner(s), other = corner(s);
+    if (chance(15)) one = corner(s), other = corner(s);
     if (chance(3)) other = one;
     ends e = chance(50) ? (ends){one, other} : (ends){other, one};
     if (chance(6)) *(chance(50) ? &e.source : &e.destination) = outside(nodes_of(s));

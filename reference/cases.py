@@ -171,6 +171,13 @@ def refusals():
         yield line('run', plan=plan, source=source, destination=destination, calls='s00,w')
 
 
+def alike():
+    """Destinations that share a byte with one that is listed."""
+    plan, routes = plan_of([16, 16, 2], 3), routes_of(2, (5, 1, 0), (300, 2, 301), (511, 11, 0))
+    for destination in 5, 261, 256, 300, 44, 301, 511, 255:
+        yield line('lookup', plan=plan, sheet=routes, destination=destination)
+
+
 def rare():
     """Pairs with a direct deterministic route, or with two deterministic legs."""
     rng = random.Random('rare/%s' % SEED)
@@ -230,7 +237,7 @@ def faults_between(rng, shape, source, destination):
 
 
 def large_cases():
-    """Pairs and runs on machines of more than 1,024 nodes, and sheets of more than 48 destinations."""
+    """Pairs and runs on machines of more than 1,024 nodes, and sheets and a listing of more than 48 destinations."""
     for i in range(LARGE):
         rng = random.Random('large/%s/%d' % (SEED, i))
         plan, shape, source, destination = large_machine(rng)
@@ -243,6 +250,7 @@ def large_cases():
                                (plan_of([8, 8, 8], 7, (0, 0), (9, 1), (100, 3)), 0, 1287), (plan_of([16, 16, 2], 3, (0, 0), (17, 1), (300, 3)), 1, 1847),
                                (plan_of([7, 9, 8], 2, (0, 0), (17, 1), (300, 3)), 1, 727), (plan_of([16, 16, 1], 3, *[(n, 0) for n in range(0, 256, 5)]), 1, 1137)):
         yield line('sheet', plan=plan, source=source, room=room)
+    yield line('listing', input=ref.two(1000) + plan_of([16, 9, 8], 0, (999, 0)))
 
 
 def lacking():
@@ -250,6 +258,7 @@ def lacking():
     yield from links()
     yield from plan_cases()
     yield from refusals()
+    yield from alike()
     yield from rare()
     yield from large_cases()
 
