@@ -14,6 +14,7 @@ use Rattle.packet.specs.declared.stepper.Ending.{Ending}
 use Rattle.packet.specs.declared.stepper.Walked.{Walked}
 use Rattle.packet.specs.declared.route.Route.{Route}
 use Rattle.packet.specs.Packet.{noLeg}
+use Rattle.packet.specs.New.{routeNumber}
 use Rattle.packet.specs.Answers.{answerNumber, endingNumber}
 use Rattle.choice.specs.Choice.{det}
 use Rattle.sheet.specs.declared.output.Written.{Written}
@@ -71,14 +72,9 @@ writtenFor (Written.Refused e) = record { number = e; size = 0 }
 abbrev pub partFor : ℕ → ℕ → PartForm
 partFor at len = record { start = at; size = len }
 
-abbrev pub refusalIn : Route → ℕ
-refusalIn (Route.Direct m) = 0
-refusalIn (Route.Via v m n) = 0
-refusalIn (Route.Refused e) = e
-
 -- The kind and the via as in the entry of a sheet; the kind of a refusal is its number.
 unfoldable pub routeFor : Route → RouteForm
-routeFor r = record { number = refusalIn r; kind = entryFor 0 (heard r) .kind; via = entryFor 0 (heard r) .via }
+routeFor r = record { number = routeNumber r; kind = entryFor 0 (heard r) .kind; via = entryFor 0 (heard r) .via }
 
 unfoldable pub plannedFor : Outcome → PlannedForm
 plannedFor (Outcome.Direct m len) = record { route = routeFor (Route.Direct m); length = len }

@@ -13,7 +13,7 @@ use routes::kinds::route_by;
 use shape::Shape;
 use sheet::output::Written;
 ghost use mathlib.Core.Path.{_≡_};
-ghost use Rattle.board.specs.Forms.{shapeOf, shapeFor, modeOf, legOf, packetOf, packetFor, steppedFor, endingFor, walkedFor, writtenFor, refusalIn, routeFor, plannedFor, routeIn, legFor, madeFor};
+ghost use Rattle.board.specs.Forms.{shapeOf, shapeFor, modeOf, legOf, packetOf, packetFor, steppedFor, endingFor, walkedFor, writtenFor, routeFor, plannedFor, routeIn, legFor, madeFor};
 
 #[repr(C)]
 pub struct ShapeForm {
@@ -190,23 +190,13 @@ pub fn written_for(written: Written) -> WrittenForm
     }
 }
 
-fn refusal_in(route: Route) -> u8
-    ensures { λ r. ⌜ r ≡ refusalIn route ⌝ }
-{
-    match route {
-        Route::Direct(_) => 0,
-        Route::Via(_, _, _) => 0,
-        Route::Refused(number) => number,
-    }
-}
-
 // The kind and the via as in the entry of a sheet.
 pub fn route_for(route: Route) -> RouteForm
     ensures { λ r. ⌜ r ≡ routeFor route ⌝ }
 {
     let entry = entry_for(0, route);
     RouteForm {
-        number: refusal_in(route),
+        number: route.number(),
         kind: entry.kind,
         via: entry.via,
     }

@@ -1,10 +1,16 @@
--- The new packet of a route.
+-- A route's number, and the new packet of a route.
 use Prim.Native.Nat.{ℕ}
 use mathlib.Core.List.{[], _∷_}
 use Rattle.machine.specs.declared.leg.Mode.the-variants.{Adaptive}
 use Rattle.machine.specs.Torus.{leg}
 use Rattle.packet.specs.declared.packet.Packet.{Packet}
 use Rattle.packet.specs.declared.route.Route.{Route}
+
+-- 0, or the number of the refusal.
+abbrev pub routeNumber : Route → ℕ
+routeNumber (Route.Direct m) = 0
+routeNumber (Route.Via v m n) = 0
+routeNumber (Route.Refused e) = e
 
 -- A new packet is at the source S of its route to D with all the route's legs left. A refusal has none: its packet has over two legs, which is 14.
 unfoldable pub newPacket : ℕ → ℕ → Route → Packet

@@ -3,13 +3,26 @@ use crate::packet::Packet;
 use machine::leg::Leg;
 use machine::leg::Mode;
 ghost use mathlib.Core.Path.{_≡_};
-ghost use Rattle.packet.specs.New.{newPacket};
+ghost use Rattle.packet.specs.New.{routeNumber, newPacket};
 
 // A route to a destination: one leg, or two legs by a via; or the number of the refusal.
 pub enum Route {
     Direct(Mode),
     Via(u16, Mode, Mode),
     Refused(u8),
+}
+
+impl Route {
+    // 0, or the number of the refusal.
+    pub fn number(self) -> u8
+        ensures { λ r. ⌜ r ≡ routeNumber self ⌝ }
+    {
+        match self {
+            Route::Direct(_) => 0,
+            Route::Via(_, _, _) => 0,
+            Route::Refused(number) => number,
+        }
+    }
 }
 
 impl Packet {

@@ -3,15 +3,6 @@ use crate::packets;
 use packet::Packet;
 use packet::Route;
 
-// 0 for a route.
-pub fn number_of(route: Route) -> u8 {
-    match route {
-        Route::Direct(_) => 0,
-        Route::Via(_, _, _) => 0,
-        Route::Refused(number) => number,
-    }
-}
-
 // Writes the legs of a route, which are those of its new packet.
 pub fn put_legs(out: &mut [u8], at: usize, source: u16, dest: u16, route: Route) -> usize {
     packets::put_legs(out, at, Packet::new(source, dest, route))

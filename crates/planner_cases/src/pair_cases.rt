@@ -5,7 +5,6 @@ use case_fields::nodes::Ends;
 use case_fields::nodes::read_ends;
 use case_fields::sheets::PLAN_BYTES;
 use case_fields::sheets::read_plan;
-use packet_fields::routes::number_of;
 use packet_fields::routes::put_legs;
 use planner::outcome::Outcome;
 use planner::pair::pair;
@@ -26,7 +25,7 @@ fn length_of(outcome: Outcome) -> u8 {
 // Writes the field `number`, and of a route the fields `legs` and `length`.
 fn put_outcome(out: &mut [u8], at: usize, source: u16, dest: u16, outcome: Outcome) -> usize {
     let route = outcome.route();
-    let number = number_of(route);
+    let number = route.number();
     let next = put_number(out, at, number);
     if number != 0 {
         return next;

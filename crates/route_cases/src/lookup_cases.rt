@@ -7,7 +7,6 @@ use case_fields::sheets::ROUTE_BYTES;
 use case_fields::sheets::read_plan;
 use case_fields::sheets::read_routes;
 use packet::Route;
-use packet_fields::routes::number_of;
 use packet_fields::routes::put_legs;
 use routes::layout::ENTRIES_AT;
 use routes::layout::source_in;
@@ -38,7 +37,7 @@ fn put_part(out: &mut [u8], at: usize, sheet: &[u8], dest: u16, entry: &[u8]) ->
 
 // Writes the field `number`, and of a route the fields `source` and `legs`.
 fn put_route(out: &mut [u8], at: usize, source: u16, dest: u16, route: Route) -> usize {
-    let number = number_of(route);
+    let number = route.number();
     let next = put_number(out, at, number);
     if number != 0 {
         return next;

@@ -7,7 +7,6 @@ use case_fields::nodes::read_ends;
 use case_fields::sheets::PLAN_BYTES;
 use case_fields::sheets::read_plan;
 use packet::Packet;
-use packet_fields::routes::number_of;
 use plan::shape_of;
 use planner::pair::pair;
 use text::hex::Count;
@@ -16,7 +15,7 @@ use text::part::front;
 // Writes the fields of the run; the field `number` of a refused pair.
 fn run_pair(line: &[u8], plan: &[u8], source: u16, dest: u16, out: &mut [u8], at: usize) -> usize {
     let route = pair(plan, source, dest).route();
-    let number = number_of(route);
+    let number = route.number();
     if number != 0 {
         return put_number(out, at, number);
     }

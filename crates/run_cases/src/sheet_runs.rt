@@ -8,7 +8,6 @@ use case_fields::sheets::PLAN_BYTES;
 use case_fields::sheets::ROUTE_BYTES;
 use case_fields::sheets::read_plan;
 use packet::Packet;
-use packet_fields::routes::number_of;
 use plan::shape_of;
 use planner::sheets::write_sheet;
 use routes::lookup::lookup;
@@ -38,7 +37,7 @@ fn run_sheet(
     at: usize,
 ) -> usize {
     let said = route(plan, sheet, dest);
-    let number = number_of(said);
+    let number = said.number();
     let next = put_number(out, at, number);
     if number != 0 {
         return next;

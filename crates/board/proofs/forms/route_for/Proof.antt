@@ -6,12 +6,12 @@ use Rattle.board.proofs.forms.route_for.Tie as tie
 entry-for-requires : tie.Need-entry-for-requires
 entry-for-requires c κs = search needs
 
-refusal-in-requires : tie.Need-refusal-in-requires
-refusal-in-requires c κs = search needs
+number-requires : tie.Need-number-requires
+number-requires c κs = search needs
 
 returns : tie.Need-returns
 unfolding routeFor
 returns c = cc
 
 pub route-for-spec : {M : Type 1} → statement M
-route-for-spec = tie.close (tie.spec entry-for-requires refusal-in-requires returns)
+route-for-spec = tie.close (tie.spec entry-for-requires number-requires returns)
