@@ -22,7 +22,7 @@ use Rattle.plan.specs.Checks.{large, planError}
 use Rattle.dead.specs.Dead.{deadNode}
 use Rattle.dead.proofs.Table.{is-node}
 use Rattle.tables.proofs.LastHop.{self-clear}
-use Rattle.choice.specs.Choice.{Choice, Direct, Via, Admits, lengthOf}
+use Rattle.choice.specs.Choice.{Choice, Direct, Via, routeOf, Admits, lengthOf}
 use Rattle.choice.specs.Pair as Pair
 use Rattle.choice.specs.Pair.{soundIn, routeIn, pairError, chosen, answered, pair}
 use Rattle.choice.proofs.First.{direct-first}
@@ -37,6 +37,7 @@ use Rattle.routes.proofs.Entries.{passed}
 use Rattle.routes.proofs.Listed.{written-accepted, written-says}
 use Rattle.routes.proofs.RoundTrips.{good-written-read}
 use Rattle.routes.proofs.Saying.{says-choice, says-refused, choice-good, dead-good, none-good}
+use Rattle.planner.specs.Outcome.{told, routeFrom}
 use Rattle.planner.specs.Sheet.{sourceError, saidOf, lists, entriesFrom, plannedSheet}
 use Rattle.planner.specs.Demand.{SheetDemand}
 
@@ -93,9 +94,15 @@ said-refused : (n : ℕ) → saidOf (Pair.Refused n) ≡ Refused n
 unfolding saidOf
 said-refused n = refl
 
-said-route : (c : Choice) (len : ℕ) → saidOf (Pair.Route c len) ≡ Says c
+said-choice : (c : Choice) (len : ℕ) → saidOf (Pair.Route c len) ≡ Says c
 unfolding saidOf
-said-route c len = refl
+said-choice c len = refl
+
+-- The route of an outcome, of which `Packet::new` makes the new packet, is the choice.
+pub route-told : (c : Choice) (len : ℕ) → routeFrom (told (Pair.Route c len)) ≡ routeOf c
+unfolding routeFrom told routeOf
+route-told (Direct m) len = refl
+route-told (Via v m n) len = refl
 
 entry-dest : (d : ℕ) (x : Said) → entryFor d x .dest ≡ d
 unfolding entryFor
@@ -125,7 +132,7 @@ module _ (p : List ℕ) (S : ℕ) (s : Source p S) where
             (o : Option Choice) → pair p S D ≡ chosen (shapeOf p) S D o →
             ((c : Choice) → (len : ℕ) × (pair p S D ≡ Pair.Route c len) → Admits (shapeOf p) S D c) → Q (saidOf (pair p S D))
         by-chosen none e admitted = rw (e, said-refused 11) eleven
-        by-chosen (some c) e admitted = let len = lengthOf (shapeOf p) S D c in rw (e, said-route c len) (route c (admitted c (len, e)))
+        by-chosen (some c) e admitted = let len = lengthOf (shapeOf p) S D c in rw (e, said-choice c len) (route c (admitted c (len, e)))
 
     -- An entry says what it was made for.
     entry-says : saidBy (entryFor D (saidOf (pair p S D))) ≡ saidOf (pair p S D)
