@@ -27,11 +27,11 @@ module _ (p : List ℕ) (S all : ℕ) (l : S < all) where
   one-more : all - S ≡ suc (all - (S + 1))
   one-more = omega arith
 
-  from-dead : (sourceError p S ≡ 0 → ⊥) → sheetsFrom p S (all - S) ≡ sheetsFrom p (S + 1) (all - (S + 1))
+  pub from-dead : (sourceError p S ≡ 0 → ⊥) → sheetsFrom p S (all - S) ≡ sheetsFrom p (S + 1) (all - (S + 1))
   unfolding sheetsFrom
   from-dead h = rw (one-more, ne-eqb (sourceError p S) 0 h, add-one S)
 
-  from-sound : sourceError p S ≡ 0 → sheetsFrom p S (all - S) ≡ plannedSheet p S ∷ sheetsFrom p (S + 1) (all - (S + 1))
+  pub from-sound : sourceError p S ≡ 0 → sheetsFrom p S (all - S) ≡ plannedSheet p S ∷ sheetsFrom p (S + 1) (all - (S + 1))
   unfolding sheetsFrom
   from-sound h = rw (one-more, eq-eqb (sourceError p S) 0 h, add-one S)
 
@@ -56,11 +56,11 @@ module _ (p : List ℕ) (from all : ℕ) where
 
 -- ---- what is left
 module _ (p : List ℕ) (S : ℕ) where
-  left-accepted : planError large p ≡ 0 → left p S ≡ sheetsFrom p S (nodeCount (shapeOf p) - S)
+  pub left-accepted : planError large p ≡ 0 → left p S ≡ sheetsFrom p S (nodeCount (shapeOf p) - S)
   unfolding left isPlan
   left-accepted h = rw (eq-eqb (planError large p) 0 h)
 
-  left-declined : (planError large p ≡ 0 → ⊥) → left p S ≡ []
+  pub left-declined : (planError large p ≡ 0 → ⊥) → left p S ≡ []
   unfolding left isPlan
   left-declined h = rw (ne-eqb (planError large p) 0 h)
 

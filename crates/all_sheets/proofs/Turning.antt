@@ -26,7 +26,7 @@ use Rattle.all_sheets.proofs.Left.{left-decided, none-left, first-left}
 
 -- The longest sheet has 4,095 entries.
 module _ (p : List ℕ) (S : ℕ) (ok : sourceError p S ≡ 0) where
-  sheet-long : 7 ≤ length (plannedSheet p S)
+  pub sheet-long : 7 ≤ length (plannedSheet p S)
   sheet-long = accepted p (plannedSheet p S) (sheet-accepted p S (source-of p S ok)) .head .long
 
   sheet-fits : length (plannedSheet p S) ≤ 20482
