@@ -1,8 +1,9 @@
--- 'Legs and choices': the choices from a source to a destination, their length and their order.
-use Prim.Native.Nat.{ℕ, zero, suc, _+_, _<_}
+-- 'Legs and choices': the choices from a source to a destination, their length and their order. A choice is its legs; all else is computed from them.
+use Prim.Native.Nat.{ℕ, zero, suc, _+_, _<_, _≤_}
 use mathlib.Core.Path.{_≡_}
-use mathlib.Core.Bool.{Bool, cond, _||_}
+use mathlib.Core.Bool.{Bool, true, cond, not, _&&_}
 use mathlib.Core.List.{List, [], _∷_, _++_}
+use lib.ListN.{length}
 use lib.Dec.{eqb}
 use Rattle.theory.specs.Choice.{lex}
 use Rattle.shape.specs.declared.shape.Shape.{Shape}
@@ -12,75 +13,124 @@ use Rattle.machine.specs.declared.leg.Mode.the-variants.{Adaptive, Deterministi
 use Rattle.machine.specs.Number.{nodeCount}
 use Rattle.machine.specs.Hop.{distance}
 use Rattle.machine.specs.Torus.{leg}
-use Rattle.packet.specs.declared.route.Route.{Route}
 
--- One leg, or two legs by one via node; each leg in either mode.
-pub data Choice : Type 0 where
-  Direct : Mode → Choice
-  Via : ℕ → Mode → Mode → Choice
+abbrev pub Choice : Type 0
+Choice = List Leg
 
--- The legs of a choice to the destination D.
-unfoldable pub legsTo : ℕ → Choice → List Leg
-legsTo D (Direct m) = leg D m ∷ []
-legsTo D (Via v m n) = leg v m ∷ leg D n ∷ []
+-- One leg, or two legs by one via node.
+abbrev pub mostVias : ℕ
+mostVias = 1
 
--- The choice as the code's enum.
-unfoldable pub routeOf : Choice → Route
-routeOf (Direct m) = Route.Direct m
-routeOf (Via v m n) = Route.Via v m n
+-- The targets of the legs: the vias in order, then the destination.
+unfoldable pub targetsOf : Choice → List ℕ
+targetsOf [] = []
+targetsOf (l ∷ ls) = l .target ∷ targetsOf ls
 
--- A via node that is neither S nor D. S = D has one route: direct, adaptive.
-abbrev pub Admits : Shape → ℕ → ℕ → Choice → Type 0
-Admits s S D (Direct m) = S ≡ D → m ≡ Adaptive
-Admits s S D (Via v m n) = (v < nodeCount s) × (v ≡ S → ⊥) × (v ≡ D → ⊥) × (S ≡ D → ⊥)
+-- The vias: the targets of all legs but the last.
+unfoldable pub viasOf : Choice → List ℕ
+viasOf [] = []
+viasOf (l ∷ []) = []
+viasOf (l ∷ m ∷ ls) = l .target ∷ viasOf (m ∷ ls)
 
--- The same as a list, of the nodes below a number as vias.
-unfoldable pub byVia : ℕ → List Choice
-byVia v = Via v Adaptive Adaptive ∷ Via v Adaptive Deterministic ∷ Via v Deterministic Adaptive ∷ Via v Deterministic Deterministic ∷ []
-
-unfoldable pub vias : ℕ → ℕ → ℕ → List Choice
-vias S D zero = []
-vias S D (suc v) = cond (eqb v S || eqb v D) (vias S D v) (byVia v ++ vias S D v)
-
-unfoldable pub choices : ℕ → ℕ → ℕ → List Choice
-choices n S D = cond (eqb S D) (Direct Adaptive ∷ []) (Direct Adaptive ∷ Direct Deterministic ∷ vias S D n)
-
--- Length = the sum of the legs' distances.
-abbrev pub legLength : Shape → ℕ → ℕ → ℕ
-legLength s p t = distance s p t
-
-unfoldable pub lengthFrom : Shape → ℕ → List Leg → ℕ
-lengthFrom s p [] = 0
-lengthFrom s p (l ∷ ls) = legLength s p (l .target) + lengthFrom s (l .target) ls
-
-abbrev pub lengthOf : Shape → ℕ → ℕ → Choice → ℕ
-lengthOf s S D c = lengthFrom s S (legsTo D c)
-
--- 0 for adaptive, 1 for deterministic.
+-- 0 for adaptive, 1 for deterministic; the modes leg by leg, and how many legs are deterministic.
 abbrev pub det : Mode → ℕ
 det Adaptive = 0
 det Deterministic = 1
 
-unfoldable pub detLegs : Choice → ℕ
-detLegs (Direct m) = det m
-detLegs (Via v m n) = det m + det n
+unfoldable pub modesOf : Choice → List ℕ
+modesOf [] = []
+modesOf (l ∷ ls) = det (l .mode) ∷ modesOf ls
 
-unfoldable pub viaCount : Choice → ℕ
-viaCount (Direct m) = 0
-viaCount (Via v m n) = 1
+unfoldable pub detsOf : Choice → ℕ
+detsOf [] = 0
+detsOf (l ∷ ls) = det (l .mode) + detsOf ls
 
-unfoldable pub viaNode : Choice → ℕ
-viaNode (Direct m) = 0
-viaNode (Via v m n) = v
+-- Where the legs from p end.
+unfoldable pub endFrom : ℕ → Choice → ℕ
+endFrom p [] = p
+endFrom p (l ∷ ls) = endFrom (l .target) ls
 
-unfoldable pub firstMode : Choice → Mode
-firstMode (Direct m) = m
-firstMode (Via v m n) = m
+-- `far p t`: the length of a leg from p to t. Length = the sum of the legs' distances.
+unfoldable pub lengthFrom : (ℕ → ℕ → ℕ) → ℕ → Choice → ℕ
+lengthFrom far p [] = 0
+lengthFrom far p (l ∷ ls) = far p (l .target) + lengthFrom far (l .target) ls
 
 -- The order compares, smallest first: length; number of deterministic legs; number of vias; via's node number; then first leg adaptive before first
--- leg deterministic.
-unfoldable pub keyOf : Shape → ℕ → ℕ → Choice → List ℕ
-keyOf s S D c = lengthOf s S D c ∷ detLegs c ∷ viaCount c ∷ viaNode c ∷ det (firstMode c) ∷ []
+-- leg deterministic. For any number of vias: the vias in order, then the modes leg by leg, adaptive first. The destination stands behind the vias,
+-- where it never decides among choices to one destination.
+unfoldable pub keyOf : (ℕ → ℕ → ℕ) → ℕ → Choice → List ℕ
+keyOf far S c = lengthFrom far S c ∷ detsOf c ∷ length (viasOf c) ∷ (targetsOf c ++ modesOf c)
 
-abbrev pub beforeIn : Shape → ℕ → ℕ → Choice → Choice → Bool
-beforeIn s S D a b = lex (keyOf s S D a) (keyOf s S D b)
+abbrev pub before : (ℕ → ℕ → ℕ) → ℕ → Choice → Choice → Bool
+before far S a b = lex (keyOf far S a) (keyOf far S b)
+
+-- All numbers of a list are below n; v is none of them; they are all different.
+abbrev pub Below : ℕ → List ℕ → Type 0
+Below n [] = Unit {0}
+Below n (x ∷ xs) = (x < n) × Below n xs
+
+abbrev pub Misses : ℕ → List ℕ → Type 0
+Misses v [] = Unit {0}
+Misses v (x ∷ xs) = (v ≡ x → ⊥) × Misses v xs
+
+abbrev pub Different : List ℕ → Type 0
+Different [] = Unit {0}
+Different (x ∷ xs) = Misses x xs × Different xs
+
+-- A choice from S to D with at most k vias, on n nodes, each leg in either mode: the vias are nodes, and S, the vias and D are all different.
+-- S = D has one route: direct, adaptive.
+pub record Admits (k n S D : ℕ) (c : Choice) : Type 0 where
+  pub ends : endFrom S c ≡ D
+  pub few : length (viasOf c) ≤ k
+  pub inside : Below n (viasOf c)
+  pub apart : (S ≡ D → ⊥) → Different (S ∷ targetsOf c)
+  pub self : S ≡ D → c ≡ leg D Adaptive ∷ []
+
+-- The same as a list. What f lists for each number below n.
+unfoldable pub over : {C : Type 0} → ℕ → (ℕ → List C) → List C
+over zero f = []
+over (suc v) f = f v ++ over v f
+
+-- Each of the lists with a leg to v before it, in either mode.
+unfoldable pub after : ℕ → List Choice → List Choice
+after v [] = []
+after v (c ∷ cs) = (leg v Adaptive ∷ c) ∷ (leg v Deterministic ∷ c) ∷ after v cs
+
+unfoldable pub direct : ℕ → List Choice
+direct D = (leg D Adaptive ∷ []) ∷ (leg D Deterministic ∷ []) ∷ []
+
+-- All lists of legs to D by at most k nodes.
+unfoldable pub legsBy : ℕ → ℕ → ℕ → List Choice
+legsBy zero n D = direct D
+legsBy (suc k) n D = direct D ++ over n (λ v. after v (legsBy k n D))
+
+unfoldable pub misses : ℕ → List ℕ → Bool
+misses v [] = true
+misses v (x ∷ xs) = not (eqb v x) && misses v xs
+
+unfoldable pub different : List ℕ → Bool
+different [] = true
+different (x ∷ xs) = misses x xs && different xs
+
+unfoldable pub kept : ℕ → List Choice → List Choice
+kept S [] = []
+kept S (c ∷ cs) = cond (different (S ∷ targetsOf c)) (c ∷ kept S cs) (kept S cs)
+
+unfoldable pub choicesBy : ℕ → ℕ → ℕ → ℕ → List Choice
+choicesBy k n S D = cond (eqb S D) ((leg D Adaptive ∷ []) ∷ []) (kept S (legsBy k n D))
+
+-- On the machine of a shape.
+abbrev pub legLength : Shape → ℕ → ℕ → ℕ
+legLength s = distance s
+
+abbrev pub lengthOf : Shape → ℕ → Choice → ℕ
+lengthOf s S c = lengthFrom (legLength s) S c
+
+abbrev pub beforeIn : Shape → ℕ → Choice → Choice → Bool
+beforeIn s S = before (legLength s) S
+
+abbrev pub AdmitsIn : Shape → ℕ → ℕ → Choice → Type 0
+AdmitsIn s S D = Admits mostVias (nodeCount s) S D
+
+abbrev pub choices : Shape → ℕ → ℕ → List Choice
+choices s S D = choicesBy mostVias (nodeCount s) S D

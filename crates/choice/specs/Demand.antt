@@ -2,23 +2,24 @@
 use Prim.Native.Nat.{ℕ}
 use mathlib.Core.Path.{_≡_}
 use mathlib.Core.List.{List}
+use Rattle.numbers.specs.Numbers.{noClearChoice}
 use Rattle.theory.specs.Machine.{hopsOf}
 use Rattle.theory.specs.Plan.{Planned}
 use Rattle.machine.specs.Torus.{torus}
 use Rattle.packet.specs.Packet.{stored, WellStored}
 use Rattle.packet.specs.New.{newPacket}
 use Rattle.plan.specs.Layout.{shapeOf}
-use Rattle.choice.specs.Choice.{Choice, legsTo, routeOf, Admits, lengthOf, beforeIn}
-use Rattle.choice.specs.Pair.{Route, Refused, soundIn, pair}
+use Rattle.plan.specs.Checks.{Limits}
+use Rattle.choice.specs.Choice.{Choice, AdmitsIn, lengthOf, beforeIn}
+use Rattle.choice.specs.Answer.{Answer, Given, Refused}
+use Rattle.choice.specs.Pair.{soundIn, pair}
 
--- Of an answer for S and D under the plan p, given by what it says: it refuses exactly when no admitted choice is clear; otherwise it gives one that is
--- admitted, clear, first in the order and to D, with a new packet of it, and of every new packet and every list of step and walk calls the whole claim.
-abbrev pub PlannedIn : List ℕ → ℕ → ℕ → Type 0 → (Choice → Type 0) → Type 0
-PlannedIn p S D Refuses Gives =
-    Planned (torus (shapeOf p)) (stored (shapeOf p)) WellStored (soundIn p) (legsTo D) (beforeIn (shapeOf p) S D) (Admits (shapeOf p) S D) S D Refuses Gives (λ c. newPacket S D (routeOf c))
+-- Of an answer for S and D under the plan p: it refuses with 11 exactly when no admitted choice is clear; otherwise it gives one that is admitted,
+-- clear, first in the order and to D, with a new packet of it, and of every new packet and every list of step and walk calls the whole claim. Its
+-- length, the sum of the legs' distances, is the route's hops.
+pub record PlannedIn (p : List ℕ) (S D : ℕ) (a : Answer) : Type 0 where
+  pub planned : Planned (torus (shapeOf p)) (stored (shapeOf p)) WellStored (soundIn p) (beforeIn (shapeOf p) S) (AdmitsIn (shapeOf p) S D) S D (a ≡ Refused noClearChoice) (λ c. a ≡ Given c) (newPacket S)
+  pub hops : (c : Choice) → a ≡ Given c → lengthOf (shapeOf p) S c ≡ hopsOf (torus (shapeOf p)) S c
 
--- Planning a pair refuses with 11, and a route comes with its length: the sum of the legs' distances, which is also the route's hops.
-pub record Demand (p : List ℕ) (S D : ℕ) : Type 0 where
-  pub planned : PlannedIn p S D (pair p S D ≡ Refused 11) (λ c. (len : ℕ) × (pair p S D ≡ Route c len))
-  pub length : (c : Choice) (len : ℕ) → pair p S D ≡ Route c len → len ≡ lengthOf (shapeOf p) S D c
-  pub hops : (c : Choice) (len : ℕ) → pair p S D ≡ Route c len → len ≡ hopsOf (torus (shapeOf p)) S (legsTo D c)
+abbrev pub Demand : Limits → List ℕ → ℕ → ℕ → Type 0
+Demand L p S D = PlannedIn p S D (pair L p S D)

@@ -1,3 +1,5 @@
 pub mod Choice
+pub mod Answer
+pub mod Outcome
 pub mod Pair
 pub mod Demand

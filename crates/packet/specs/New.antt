@@ -1,19 +1,26 @@
--- A route's number, and the new packet of a route.
-use Prim.Native.Nat.{ℕ}
-use mathlib.Core.List.{[], _∷_}
-use Rattle.machine.specs.declared.leg.Mode.the-variants.{Adaptive}
+-- The legs of a route, and the new packet of legs.
+use Prim.Native.Nat.{ℕ, _-_}
+use mathlib.Core.List.{List, [], _∷_, _++_}
+use lib.ListN.{length, replicate}
+use Rattle.machine.specs.declared.leg.Leg.{Leg}
 use Rattle.machine.specs.Torus.{leg}
 use Rattle.packet.specs.declared.packet.Packet.{Packet}
 use Rattle.packet.specs.declared.route.Route.{Route}
+use Rattle.packet.specs.Packet.{mostLegs, noLeg}
 
--- 0, or the number of the refusal.
-abbrev pub routeNumber : Route → ℕ
-routeNumber (Route.Direct m) = 0
-routeNumber (Route.Via v m n) = 0
-routeNumber (Route.Refused e) = e
+-- The legs of a route to D.
+unfoldable pub legsTo : ℕ → Route → List Leg
+legsTo D (Route.Direct m) = leg D m ∷ []
+legsTo D (Route.Via v m n) = leg v m ∷ leg D n ∷ []
 
--- A new packet is at the source S of its route to D with all the route's legs left. A refusal has none: its packet has over two legs, which is 14.
-unfoldable pub newPacket : ℕ → ℕ → Route → Packet
-newPacket S D (Route.Direct m) = record { node = S; legs = leg D m ∷ leg D m ∷ []; left = 1 }
-newPacket S D (Route.Via v m n) = record { node = S; legs = leg v m ∷ leg D n ∷ []; left = 2 }
-newPacket S D (Route.Refused e) = record { node = S; legs = leg D Adaptive ∷ leg D Adaptive ∷ []; left = 255 }
+-- An array that ends in these legs; before them it holds the first of them.
+abbrev pub frontOr : List Leg → Leg
+frontOr [] = noLeg
+frontOr (l ∷ ls) = l
+
+abbrev pub arrayWith : List Leg → List Leg
+arrayWith ls = replicate (mostLegs - length ls) (frontOr ls) ++ ls
+
+-- A new packet is at the source S of its route with all the route's legs left.
+unfoldable pub newPacket : ℕ → List Leg → Packet
+newPacket S ls = record { node = S; legs = arrayWith ls; left = length ls }

@@ -9,7 +9,8 @@ use lib.ListN.{length, length-append}
 use Rattle.theory.specs.Machine.{Machine, Laws, Inside, hopsOf, endOf, dropped, allows}
 use Rattle.theory.specs.Clear.{Sound, ClearLegs, lead}
 use Rattle.theory.specs.Run.{Call, Step, Walk, Run, count, at, start, takes, moved, offered, called, ran}
-use Rattle.theory.specs.Packet.{Packets, PacketLaws, Walked, judged, mayGo, arrived, isNone, Ending, Arrived, NotAllowed, UsedUp, notAllowed, halt, further, tried, step, goes, walk, after, afterAll}
+use Rattle.numbers.specs.Numbers.{notAllowed}
+use Rattle.theory.specs.Packet.{Packets, PacketLaws, Walked, judged, mayGo, arrived, isNone, Ending, Arrived, NotAllowed, UsedUp, halt, further, tried, step, goes, walk, after, afterAll}
 use Rattle.theory.specs.Claim.{Tells, Told, Claim}
 use Rattle.theory.proofs.Cases.{test}
 use Rattle.theory.proofs.Drops.{dropped-keeps, Settled, dropped-settled, settled-dropped}

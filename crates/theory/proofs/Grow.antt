@@ -29,8 +29,8 @@ module _ {Leg : Type 0} (M : Machine Leg) (sound₁ sound₂ : ℕ → ℕ → B
       let both = and-eq-true-iff (clear M sound₂ l p) _ .0 h in
       and-eq-true-iff (clear M sound₁ l p) _ .1 (clearIn-less _ l p (both .0), clearLegs-less (M .target l) ls (both .1))
 
-  pub grown-is : {C : Type 0} (legs : C → List Leg) (before : C → C → Bool) → Order before → (source : ℕ) (cs : List C) → Grown M sound₁ sound₂ legs before source cs
+  pub grown-is : (before : List Leg → List Leg → Bool) → Order before → (source : ℕ) (cs : List (List Leg)) → Grown M sound₁ sound₂ before source cs
   unfolding planned
-  grown-is legs before O source cs =
-      let f = fewer-is before O _ (λ c. clearLegs M sound₂ source (legs c)) (λ c. clearLegs-less source (legs c)) cs in
+  grown-is before O source cs =
+      let f = fewer-is before O _ (clearLegs M sound₂ source) (clearLegs-less source) cs in
       record { refused = f .refused; not-earlier = f .not-earlier; kept = f .kept }

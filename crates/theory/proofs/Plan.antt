@@ -27,45 +27,45 @@ pub record ReadAs {C : Type 0} (o : Option C) (Refuses : Type 0) (Gives : C → 
   pub some : (c : C) → Gives c → o ≡ some c
 
 module _
-    {Leg C P : Type 0} (M : Machine Leg) (L : Laws M) (K : Packets Leg P) (Good : P → Type 0) (S : PacketLaws M K Good) (sound : ℕ → ℕ → Bool)
-    (legs : C → List Leg) (before : C → C → Bool) (O : Order before) (Admits : C → Type 0) (cs : List C) (lists : (c : C) → Admits c ↔ List·Memᴰ c cs)
-    (source dest : ℕ) (at : source < M .size) (inside : (c : C) → Admits c → Inside M (legs c)) (ends : (c : C) → Admits c → endOf M source (legs c) ≡ dest)
-    (new : C → P) (starts : (c : C) → Admits c → New K Good source (legs c) (new c)) where
-  passes : (c : C) → Admits c → (clearLegs M sound source (legs c) ≡ true) ↔ ClearLegs M sound source (legs c)
-  passes c a = clearLegs-iff M L sound source (legs c) at (inside c a)
+    {Leg P : Type 0} (M : Machine Leg) (L : Laws M) (K : Packets Leg P) (Good : P → Type 0) (S : PacketLaws M K Good) (sound : ℕ → ℕ → Bool)
+    (before : List Leg → List Leg → Bool) (O : Order before) (Admits : List Leg → Type 0) (cs : List (List Leg)) (lists : (c : List Leg) → Admits c ↔ List·Memᴰ c cs)
+    (source dest : ℕ) (at : source < M .size) (inside : (c : List Leg) → Admits c → Inside M c) (ends : (c : List Leg) → Admits c → endOf M source c ≡ dest)
+    (new : List Leg → P) (starts : (c : List Leg) → Admits c → New K Good source c (new c)) where
+  passes : (c : List Leg) → Admits c → (clearLegs M sound source c ≡ true) ↔ ClearLegs M sound source c
+  passes c a = clearLegs-iff M L sound source c at (inside c a)
 
-  module _ (o : Option C) (b : Best before (λ c. clearLegs M sound source (legs c)) cs o) where
-    none-clear : (o ≡ none) ↔ ((c : C) → Admits c → ClearLegs M sound source (legs c) → ⊥)
+  module _ (o : Option (List Leg)) (b : Best before (clearLegs M sound source) cs o) where
+    none-clear : (o ≡ none) ↔ ((c : List Leg) → Admits c → ClearLegs M sound source c → ⊥)
     none-clear = (
       λ n c a h. true≢false (sym (passes c a .1 h) ∙ b .refused .0 n c (lists c .0 a)),
       λ none. b .refused .1 (λ c m. let a = lists c .1 m in test _ (λ t. absurd (none c a (passes c a .0 t))) (λ f. f)),
     )
 
-    some-routed : (c : C) → o ≡ some c → Routed M K Good sound legs before Admits source dest c (new c)
+    some-routed : (c : List Leg) → o ≡ some c → Routed M K Good sound before Admits source dest c (new c)
     some-routed c e =
         let is : Admits c = lists c .1 (b .chosen c e .listed) in
-        let clear : ClearLegs M sound source (legs c) = passes c is .0 (b .chosen c e .passes) in
+        let clear : ClearLegs M sound source c = passes c is .0 (b .chosen c e .passes) in
         record {
           admitted = is;
           clear = clear;
           first = λ x a h. b .chosen c e .least x (lists x .0 a) (passes x a .1 h);
           ends = ends c is;
           starts = starts c is;
-          runs = λ q n. claim M L K Good S sound source (legs c) q at (inside c is) clear (n .good) (n .at) (n .with);
+          runs = λ q n. claim M L K Good S sound source c q at (inside c is) clear (n .good) (n .at) (n .with);
         }
 
     -- Of any answer that says the first of the choices that pass the test.
-    pub best-planned : (Refuses : Type 0) (Gives : C → Type 0) → ReadAs o Refuses Gives → Planned M K Good sound legs before Admits source dest Refuses Gives new
+    pub best-planned : (Refuses : Type 0) (Gives : List Leg → Type 0) → ReadAs o Refuses Gives → Planned M K Good sound before Admits source dest Refuses Gives new
     best-planned Refuses Gives t = record {
       refused = (λ r. none-clear .0 (t .none r), λ n. t .refuses (none-clear .1 n));
       otherwise = λ not. given o refl not;
       routed = λ c g. some-routed c (t .some c g);
     }
       where
-        given : (x : Option C) → o ≡ x → (Refuses → ⊥) → (c : C) × Gives c
+        given : (x : Option (List Leg)) → o ≡ x → (Refuses → ⊥) → (c : List Leg) × Gives c
         given none e not = absurd (not (t .refuses e))
         given (some c) e not = (c, t .gives c e)
 
-  pub planned-is : (Refuses : Type 0) (Gives : C → Type 0) → ReadAs (planned M sound legs before source cs) Refuses Gives → Planned M K Good sound legs before Admits source dest Refuses Gives new
+  pub planned-is : (Refuses : Type 0) (Gives : List Leg → Type 0) → ReadAs (planned M sound before source cs) Refuses Gives → Planned M K Good sound before Admits source dest Refuses Gives new
   unfolding planned
   planned-is = best-planned _ (best-is before O _ cs)

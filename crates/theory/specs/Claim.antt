@@ -4,10 +4,11 @@ use mathlib.Core.Path.{_≡_}
 use mathlib.Core.Logic.{_↔_}
 use mathlib.Core.Bool.{Bool, true, cond}
 use mathlib.Core.List.{List, [], _∷_}
+use Rattle.numbers.specs.Numbers.{notAllowed}
 use Rattle.theory.specs.Machine.{Machine, hopsOf, endOf}
 use Rattle.theory.specs.Clear.{Sound, lead}
 use Rattle.theory.specs.Run.{Call, Step, Walk, Run, count, start, takes, called, ran}
-use Rattle.theory.specs.Packet.{Packets, notAllowed, mayGo, arrived, step, walk, after, afterAll}
+use Rattle.theory.specs.Packet.{Packets, mayGo, arrived, step, walk, after, afterAll}
 
 module _ {Leg P : Type 0} (M : Machine Leg) (K : Packets Leg P) where
   -- A step is declined, with 15, exactly when its direction is not taken, and a walk reports the hops that it adds.

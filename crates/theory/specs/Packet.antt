@@ -4,6 +4,7 @@ use mathlib.Core.Path.{_≡_}
 use mathlib.Core.Bool.{Bool, true, false, cond}
 use mathlib.Core.List.{List, [], _∷_}
 use lib.Dec.{eqb}
+use Rattle.numbers.specs.Numbers.{notAllowed}
 use Rattle.theory.specs.Machine.{Machine, Inside, dropped, allows}
 use Rattle.theory.specs.Run.{Call, Step, Walk}
 
@@ -13,10 +14,6 @@ pub record Packets (Leg P : Type 0) : Type 0 where
   pub legs : P → List Leg
   pub check : P → ℕ
   pub hop : P → ℕ → P
-
--- The number of a direction that is not allowed, or above 5.
-abbrev pub notAllowed : ℕ
-notAllowed = 15
 
 -- What a step answers: the packet, and the number of the refusal or 0.
 pub record Stepped (P : Type 0) : Type 0 where

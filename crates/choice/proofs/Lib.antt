@@ -1,4 +1,0 @@
-pub mod Choices
-pub mod Demand
-pub mod Worked
-pub mod First
