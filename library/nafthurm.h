@@ -1,9 +1,9 @@
 /*
  * Nafthurm for a board's program: plan and route sheets, planned routes, packets, steps and walks.
  *
- * Link libboard.a (`rt staticlib board` writes target/staticlib/libboard.a; x86-64 Linux). It needs nothing but memcpy and memset.
+ * Link libnafthurm.a (`rt staticlib nafthurm` writes target/staticlib/libnafthurm.a; x86-64 Linux). It needs nothing but memcpy and memset.
  *
- * Every call is proved to meet its contract in crates/board/src, which is the definition of the call that it stands for: it ends, never reaches
+ * Every call is proved to meet its contract in crates/nafthurm/src, which is the definition of the call that it stands for: it ends, never reaches
  * outside the bytes that it is lent, and takes any bytes and any numbers. Nothing has to be tested before a call. What the proof takes for granted,
  * since C cannot be asked, is that
  *   - a pointer and the size behind it name that many bytes that may be read (and written where it is not const); no pointer is null, also where the
@@ -35,7 +35,7 @@ extern "C" {
 #define NAFTHURM_SHEET_BYTES 20482
 #define NAFTHURM_LISTING_BYTES 61454
 
-/* Bytes of stack, held to by board/test.c. */
+/* Bytes of stack, held to by library/tests/test.c. */
 #define NAFTHURM_STACK 1024
 #define NAFTHURM_STACK_PAIR 32768
 #define NAFTHURM_STACK_SHEET 131072
@@ -69,7 +69,7 @@ typedef struct {
 /* A planned route and its length in hops, 0 where it is refused. */
 typedef struct {
     nafthurm_route route;
-    uint8_t length;
+    uint16_t length;
 } nafthurm_planned;
 
 /* mode: 0 adaptive, any other byte deterministic. */

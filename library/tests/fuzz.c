@@ -5,7 +5,7 @@
  * touched, a refusal changes nothing and has the number that the model says, an accepted sheet is written back as the same bytes, each hop and walk is
  * the model's, a planned route is the model's on small plans, and its packet, by whatever hops are allowed, arrives after the length of the route
  * without crossing a dead link.
- * --lines prints cases with the library's answers instead, for board/against-reference.
+ * --lines prints cases with the library's answers instead, for against-reference.
  */
 #include "lent.h"
 #include "made.h"

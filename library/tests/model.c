@@ -231,7 +231,7 @@ nafthurm_planned first_choice(const model_plan *plan, int source, int destinatio
     if (source == destination) return (nafthurm_planned){{0, 0, 0}, 0};
     for (int length = distance(plan->shape, source, destination); length <= 90; length++) {
         choice found = first_of_length(plan, source, destination, length);
-        if (found.kind >= 0) return (nafthurm_planned){{0, (uint8_t)found.kind, (uint16_t)found.via}, (uint8_t)length};
+        if (found.kind >= 0) return (nafthurm_planned){{0, (uint8_t)found.kind, (uint16_t)found.via}, (uint16_t)length};
     }
     return (nafthurm_planned){{11, 11, 0}, 0};
 }

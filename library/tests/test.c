@@ -21,7 +21,7 @@ static nafthurm_planned pair(const uint8_t *bytes, size_t size, uint16_t source,
     return p;
 }
 
-static void is_route(nafthurm_planned p, uint8_t kind, uint16_t via, uint8_t length) {
+static void is_route(nafthurm_planned p, uint8_t kind, uint16_t via, uint16_t length) {
     HOLD(p.route.number == 0);
     HOLD(p.route.kind == kind);
     HOLD(p.route.via == via);

@@ -11,7 +11,7 @@ fn sheet_of_w() -> Vec<u8> {
     out[..47].to_vec()
 }
 
-fn route(plan: &[u8], source: u16, destination: u16) -> Result<(Route, u8), Refused> {
+fn route(plan: &[u8], source: u16, destination: u16) -> Result<(Route, u16), Refused> {
     pair(plan, source, destination).map(|p| (p.route, p.length))
 }
 

@@ -1,5 +1,5 @@
 /*
- * Wrong answers put around the library's calls, one at a time, by the number in the environment's WRONG: board/run sees that fuzz notices each of them.
+ * Wrong answers put around the library's calls, one at a time, by the number in the environment's WRONG: the script run sees that fuzz notices each of them.
  * They are slips of one place each, most of them such that few inputs show them.
  */
 #include "model.h"

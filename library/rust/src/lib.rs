@@ -1,5 +1,5 @@
 //! Nafthurm for a board's program in Rust: plan and route sheets, planned routes, packets, steps and walks. Every call takes any bytes and any
-//! numbers; what each checks, and in which order, stands in board/nafthurm.h, and the numbers of refusals in docs/NUMBERS.md.
+//! numbers; what each checks, and in which order, stands in library/nafthurm.h, and the numbers of refusals in docs/NUMBERS.md.
 mod raw;
 
 /// The largest plan sheet, of 256 faults.
@@ -39,7 +39,7 @@ pub enum Route {
 #[derive(Clone, Copy, Debug, PartialEq, Eq)]
 pub struct Planned {
     pub route: Route,
-    pub length: u8,
+    pub length: u16,
 }
 
 #[derive(Clone, Copy, Debug, PartialEq, Eq)]

@@ -1,4 +1,4 @@
-//! The calls as C has them: board/nafthurm.h.
+//! The calls as C has them: library/nafthurm.h.
 use crate::{Leg, Mode, Refused, Shape};
 
 #[repr(C)]
@@ -23,7 +23,7 @@ pub struct Route {
 #[repr(C)]
 pub struct Planned {
     pub route: Route,
-    pub length: u8,
+    pub length: u16,
 }
 
 #[repr(C)]
