@@ -1,8 +1,8 @@
 -- What document 01 says of distance and hops, as theorems about the definitions.
 use Prim.Native.Nat.{ℕ, zero, suc, _+_, _≤_, _<_}
-use mathlib.Core.Bool.{Bool, true, false, false≢true, cond, not, _&&_}
+use mathlib.Core.Bool.{Bool, true, false, cond, not, _&&_}
 use mathlib.Core.Path.{_≡_, refl, sym, ap, _∙_}
-use mathlib.Core.Logic.{_⊎_, ⊎-elim}
+use mathlib.Core.Logic.{_⊎_}
 use native.Mathlib.Omega.{arith}
 use lib.Dec.{leb, lit≤}
 use borrow.Author.Tests.{eqb-true, eqb-false, le-leb, leb-true}
@@ -14,10 +14,11 @@ use Rattle.shape.specs.declared.shape.Dim.the-variants.{X, Y, Z}
 use Rattle.shape.specs.Shape.{shapeError, extentOf, coordOf, wrappedIn, put}
 use Rattle.shape.specs.Axis.{place}
 use Rattle.machine.specs.Number.{nodeCount, numberOf, coordsOf}
-use Rattle.machine.specs.Hop.{dirDim, dirPlus, plusDir, minusDir, halfRingDir, opposite, part, distance, link, neighbour, useful, toward, same, firstDirection}
+use Rattle.machine.specs.Hop.{dirDim, dirPlus, plusDir, minusDir, dirOf, opposite, along, part, distance, link, neighbour, useful, rule, toward, same, firstDirection}
 use Rattle.machine.specs.ByCoords.{linkAlong, movedAlong, movedAt}
 use Rattle.machine.proofs.Numbers.{number-coords, inside}
 use Rattle.shape.proofs.AxisLaws.{axis-symmetric, axis-zero, axis-self, axis-some, axis-step, back-place, back-link}
+use Rattle.shape.proofs.Runs.{one-taken}
 use Rattle.machine.proofs.ByCoords.{inside-at, along-small, distance-at, distance-put, neighbour-coords, neighbour-below, plus-of, minus-of}
 
 pub useful-link : (s : Shape) (n t dir : ℕ) → useful s n t dir ≡ true → link s n dir ≡ true
@@ -75,25 +76,27 @@ module _ (s : Shape) (h : shapeError s ≡ 0) (n t : ℕ) (hn : n < nodeCount s)
       rw (plus-of s h n hn t d, minus-of s h n hn t d)
       (axis-some (extentOf s d) (wrappedIn s d) _ _ (inside-at s _ (inside s h n hn) d) (inside-at s _ (inside s h t ht) d) (eqb-false _ _ e))
 
-  -- In the useful direction of that dimension; where both are useful, at half a ring, in either.
-  way-useful : (d : Dim) (p m : Bool) → useful s n t (plusDir d) ≡ p → useful s n t (minusDir d) ≡ m → (p ≡ true) ⊎ (m ≡ true) → useful s n t (cond (p && m) (halfRingDir d) (cond p (plusDir d) (minusDir d))) ≡ true
-  way-useful d true true ep em some = ep
-  way-useful d true false ep em some = ep
-  way-useful d false m ep em some = ⊎-elim (λ u. absurd (false≢true u)) (λ u. em ∙ u) some
+  way-useful : (d : Dim) (plus : Bool) → useful s n t (dirOf d plus) ≡ cond plus (useful s n t (plusDir d)) (useful s n t (minusDir d))
+  way-useful d true = refl
+  way-useful d false = refl
 
-  toward-useful : (d : Dim) → same s n t d ≡ false → useful s n t (toward s n t d) ≡ true
+  -- toward another node the deterministic direction is useful by any rule for half a ring, so some direction is
+  toward-useful : (ties : ℕ → Bool) (d : Dim) → same s n t d ≡ false → useful s n t (toward ties s n t d) ≡ true
   unfolding toward
-  toward-useful d e = way-useful d (useful s n t (plusDir d)) (useful s n t (minusDir d)) refl refl (some-useful d e)
+  toward-useful ties d e =
+      let plus = useful s n t (plusDir d) in
+      let minus = useful s n t (minusDir d) in
+      let way = cond (plus && minus) (ties (along s n d)) plus in
+      way-useful d way ∙ one-taken plus minus (ties (along s n d)) way (some-useful d e) refl
 
-  -- toward another node the deterministic direction is useful, so some direction is
-  pub first-useful : (n ≡ t → ⊥) → useful s n t (firstDirection s n t) ≡ true
+  pub first-useful : (ties : ℕ → Bool) → (n ≡ t → ⊥) → useful s n t (firstDirection ties s n t) ≡ true
   unfolding firstDirection
-  first-useful ne = go (same s n t X) (same s n t Y) (same s n t Z) refl refl refl
+  first-useful ties ne = go (same s n t X) (same s n t Y) (same s n t Z) refl refl refl
     where
-      go : (a b c : Bool) → same s n t X ≡ a → same s n t Y ≡ b → same s n t Z ≡ c → useful s n t (cond (not a) (toward s n t X) (cond (not b) (toward s n t Y) (cond (not c) (toward s n t Z) 6))) ≡ true
-      go false b c ea eb ec = toward-useful X ea
-      go true false c ea eb ec = toward-useful Y eb
-      go true true false ea eb ec = toward-useful Z ec
+      go : (a b c : Bool) → same s n t X ≡ a → same s n t Y ≡ b → same s n t Z ≡ c → useful s n t (cond (not a) (toward ties s n t X) (cond (not b) (toward ties s n t Y) (cond (not c) (toward ties s n t Z) 6))) ≡ true
+      go false b c ea eb ec = toward-useful ties X ea
+      go true false c ea eb ec = toward-useful ties Y eb
+      go true true false ea eb ec = toward-useful ties Z ec
       go true true true ea eb ec = absurd (ne (same-node all))
         where
           all : (d : Dim) → coordOf (coordsOf s n) d ≡ coordOf (coordsOf s t) d
@@ -171,8 +174,8 @@ pub triangle : (s : Shape) (h : shapeError s ≡ 0) (k n v t : ℕ) → n < node
 triangle s h zero n v t hn hv ht e = rw (distance-zero s h n v hn hv e) (omega arith)
 triangle s h (suc k) n v t hn hv ht e =
     let ne : n ≡ v → ⊥ = λ q. omega (arith, ap (λ m. distance s m v) q, distance-self s v) in
-    let dir = firstDirection s n v in
-    let u = first-useful s h n v hn hv ne in
+    let dir = firstDirection rule s n v in
+    let u = first-useful s h n v hn hv rule ne in
     let l = useful-link s n v dir u in
     let z = useful-lowers s n v dir u in
     let one = distance-step s h n dir hn l t ht in

@@ -2,6 +2,7 @@
 use crate::leg::Mode;
 use logic::both;
 use logic::pick;
+use logic::pick_bool;
 use shape::Coords;
 use shape::Dim;
 use shape::Shape;
@@ -13,8 +14,8 @@ ghost use mathlib.Core.Path.{_≡_};
 ghost use Prim.Native.Nat.{_+_, _*_, _%_, _≤_, _<_};
 ghost use Rattle.shape.specs.Shape.{wrappedIn};
 ghost use Rattle.machine.specs.Number.{numberOf};
-ghost use Rattle.machine.specs.Hop.{dirDim, dirPlus, plusDir, minusDir, halfRingDir};
-ghost use Rattle.machine.specs.ByCoords.{inDim, distanceAlong, usefulAlong, distanceAt, linkAt, movedAt, usefulAt, towardAt, firstAt, allowedAt};
+ghost use Rattle.machine.specs.Hop.{dirDim, dirPlus, plusDir, minusDir, rule};
+ghost use Rattle.machine.specs.ByCoords.{inDim, distanceAlong, usefulAlong, distanceAt, linkAt, movedAt, usefulAt, goesAlong, towardAt, firstAt, allowedAt};
 
 fn dim_of(dir: u8) -> Dim
     ensures { λ r. ⌜ r ≡ dirDim dir ⌝ }
@@ -62,11 +63,11 @@ fn minus_dir(d: Dim) -> u8
     }
 }
 
-// The way that a deterministic leg goes at half a ring.
-fn half_ring_dir(d: Dim) -> u8
-    ensures { λ r. ⌜ r ≡ halfRingDir d ⌝ }
+// Whether a deterministic leg goes plus at half a ring, from the place p of its dimension.
+fn half_ring_plus(p: u8) -> bool
+    ensures { λ r. ⌜ r ≡ rule p ⌝ }
 {
-    plus_dir(d)
+    true
 }
 
 // The node number of coordinates, of any size: modulo 65,536.
@@ -164,21 +165,27 @@ pub fn useful_at(shape: Shape, at: Coords, to: Coords, dir: u8) -> bool
     both(dir <= 5, axis::useful(len, ring, p, q, is_plus(dir)))
 }
 
-fn toward_at(shape: Shape, at: Coords, to: Coords, d: Dim) -> u8
-    ensures { λ r. ⌜ r ≡ towardAt shape at to d ⌝ }
+fn goes_along(shape: Shape, at: Coords, to: Coords, d: Dim) -> bool
+    ensures { λ r. ⌜ r ≡ goesAlong rule shape at to d ⌝ }
 {
     let plus = useful_along(shape, at, to, d, true);
     let minus = useful_along(shape, at, to, d, false);
+    pick_bool(both(plus, minus), half_ring_plus(coord(at, d)), plus)
+}
+
+fn toward_at(shape: Shape, at: Coords, to: Coords, d: Dim) -> u8
+    ensures { λ r. ⌜ r ≡ towardAt rule shape at to d ⌝ }
+{
     pick(
-        both(plus, minus),
-        half_ring_dir(d),
-        pick(plus, plus_dir(d), minus_dir(d)),
+        goes_along(shape, at, to, d),
+        plus_dir(d),
+        minus_dir(d),
     )
 }
 
 // The direction of a deterministic leg; 6, no direction, where the coordinates are the same.
 pub fn first_at(shape: Shape, at: Coords, to: Coords) -> u8
-    ensures { λ r. ⌜ r ≡ firstAt shape at to ⌝ }
+    ensures { λ r. ⌜ r ≡ firstAt rule shape at to ⌝ }
 {
     if at.x != to.x {
         return toward_at(shape, at, to, Dim::X);
@@ -194,7 +201,7 @@ pub fn first_at(shape: Shape, at: Coords, to: Coords) -> u8
 
 // Whether a leg's mode allows the direction.
 pub fn allowed_at(mode: Mode, shape: Shape, at: Coords, to: Coords, dir: u8) -> bool
-    ensures { λ r. ⌜ r ≡ allowedAt mode shape at to dir ⌝ }
+    ensures { λ r. ⌜ r ≡ allowedAt rule mode shape at to dir ⌝ }
 {
     match mode {
         Mode::Adaptive => useful_at(shape, at, to, dir),
