@@ -4,8 +4,8 @@ use mathlib.Core.Bool.{Bool, true, false, cond, not, _&&_}
 use mathlib.Core.Path.{_≡_, refl, sym, ap, _∙_}
 use mathlib.Core.Logic.{_⊎_}
 use native.Mathlib.Omega.{arith}
-use lib.Dec.{leb, lit≤}
-use borrow.Author.Tests.{eqb-true, eqb-false, le-leb, leb-true}
+use lib.Dec.{leb}
+use borrow.Author.Tests.{eqb-true, eqb-false, eq-eqb, le-leb, leb-true}
 use Rattle.theory.proofs.Bools.{and-true}
 use Rattle.shape.specs.declared.shape.Shape.{Shape}
 use Rattle.shape.specs.declared.shape.Coords.{Coords}
@@ -16,6 +16,7 @@ use Rattle.shape.specs.Axis.{place}
 use Rattle.machine.specs.Number.{nodeCount, numberOf, coordsOf}
 use Rattle.machine.specs.Hop.{dirDim, dirPlus, plusDir, minusDir, dirOf, opposite, along, part, distance, link, neighbour, useful, rule, toward, same, firstDirection}
 use Rattle.machine.specs.ByCoords.{linkAlong, movedAlong, movedAt}
+use Rattle.machine.proofs.Directions.{opposite-is}
 use Rattle.machine.proofs.Numbers.{number-coords, inside}
 use Rattle.shape.proofs.AxisLaws.{axis-symmetric, axis-zero, axis-self, axis-some, axis-step, back-place, back-link}
 use Rattle.shape.proofs.Runs.{one-taken}
@@ -29,6 +30,10 @@ useful-link s n t dir e = and-true (link s n dir) _ e .0
 pub useful-lowers : (s : Shape) (n t dir : ℕ) → useful s n t dir ≡ true → distance s (neighbour s n dir) t + 1 ≡ distance s n t
 unfolding useful
 useful-lowers s n t dir e = eqb-true _ _ (and-true (link s n dir) _ e .1)
+
+pub useful-of : (s : Shape) (n t dir : ℕ) → link s n dir ≡ true → distance s (neighbour s n dir) t + 1 ≡ distance s n t → useful s n t dir ≡ true
+unfolding useful
+useful-of s n t dir l e = rw (l, eq-eqb (distance s (neighbour s n dir) t + 1) (distance s n t) e)
 
 pub distance-symmetric : (s : Shape) (n t : ℕ) → distance s n t ≡ distance s t n
 unfolding distance
@@ -105,16 +110,6 @@ module _ (s : Shape) (h : shapeError s ≡ 0) (n t : ℕ) (hn : n < nodeCount s)
           all Z = eqb-true _ _ ec
 
 -- ---- back over the same link
-pub opposite-is : (dir : ℕ) → dir ≤ 5 → (opposite dir ≤ 5) × (dirDim (opposite dir) ≡ dirDim dir) × (dirPlus (opposite dir) ≡ not (dirPlus dir))
-unfolding opposite dirDim
-opposite-is zero h = (lit≤ tt, refl, refl)
-opposite-is (suc zero) h = (lit≤ tt, refl, refl)
-opposite-is (suc (suc zero)) h = (lit≤ tt, refl, refl)
-opposite-is (suc (suc (suc zero))) h = (lit≤ tt, refl, refl)
-opposite-is (suc (suc (suc (suc zero)))) h = (lit≤ tt, refl, refl)
-opposite-is (suc (suc (suc (suc (suc zero))))) h = (lit≤ tt, refl, refl)
-opposite-is (suc (suc (suc (suc (suc (suc n)))))) h = absurd (omega arith)
-
 pub put-at : (c : Coords) (d : Dim) (v : ℕ) → coordOf (put c d v) d ≡ v
 put-at c X v = refl
 put-at c Y v = refl
@@ -143,7 +138,7 @@ module _ (s : Shape) (h : shapeError s ≡ 0) (n dir : ℕ) (hn : n < nodeCount 
   link-back =
       let o = opposite-is dir low in
       let d = dirDim dir in
-      rw (neighbour-coords s h n hn dir, o .1, o .2, le-leb (opposite dir) 5 (o .0), put-at (coordsOf s n) d _)
+      rw (neighbour-coords s h n hn dir, o .dim, o .way, le-leb (opposite dir) 5 (o .low), put-at (coordsOf s n) d _)
       (back-link (extentOf s d) (wrappedIn s d) _ (dirPlus dir) (inside-at s _ (inside s h n hn) d) held)
 
   back-coords : movedAlong s (movedAlong s (coordsOf s n) (dirDim dir) (dirPlus dir)) (dirDim dir) (not (dirPlus dir)) ≡ coordsOf s n
@@ -156,7 +151,7 @@ module _ (s : Shape) (h : shapeError s ≡ 0) (n dir : ℕ) (hn : n < nodeCount 
   unfolding movedAt
   neighbour-back =
       let o = opposite-is dir low in
-      neighbour-from s (neighbour s n dir) (opposite dir) ∙ rw (neighbour-coords s h n hn dir, o .1, o .2, back-coords) (number-coords s h n)
+      neighbour-from s (neighbour s n dir) (opposite dir) ∙ rw (neighbour-coords s h n hn dir, o .dim, o .way, back-coords) (number-coords s h n)
 
   -- a hop changes the distance to any node by one at most
   pub distance-step : (t : ℕ) → t < nodeCount s → distance s n t ≤ distance s (neighbour s n dir) t + 1

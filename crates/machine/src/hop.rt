@@ -15,7 +15,8 @@ ghost use Prim.Native.Nat.{_+_, _*_, _%_, _≤_, _<_};
 ghost use Rattle.shape.specs.Shape.{wrappedIn};
 ghost use Rattle.machine.specs.Number.{numberOf};
 ghost use Rattle.machine.specs.Hop.{dirDim, dirPlus, plusDir, minusDir, rule};
-ghost use Rattle.machine.specs.ByCoords.{inDim, distanceAlong, usefulAlong, distanceAt, linkAt, movedAt, usefulAt, goesAlong, towardAt, firstAt, allowedAt};
+ghost use Rattle.shape.specs.Steps.{goes};
+ghost use Rattle.machine.specs.ByCoords.{inDim, distanceAlong, distanceAt, linkAt, movedAt, usefulAt, towardAt, firstAt, allowedAt};
 
 fn dim_of(dir: u8) -> Dim
     ensures { λ r. ⌜ r ≡ dirDim dir ⌝ }
@@ -68,6 +69,15 @@ fn half_ring_plus(p: u8) -> bool
     ensures { λ r. ⌜ r ≡ rule p ⌝ }
 {
     true
+}
+
+// Whether a deterministic leg goes plus from the place p of a dimension toward the place q.
+pub fn goes_plus(len: u8, ring: bool, p: u8, q: u8) -> bool
+    ensures { λ r. ⌜ r ≡ goes rule len ring p q ⌝ }
+{
+    let plus = axis::useful(len, ring, p, q, true);
+    let minus = axis::useful(len, ring, p, q, false);
+    pick_bool(both(plus, minus), half_ring_plus(p), plus)
 }
 
 // The node number of coordinates, of any size: modulo 65,536.
@@ -132,18 +142,6 @@ pub fn moved_at(shape: Shape, at: Coords, dir: u8) -> Coords
     }
 }
 
-fn useful_along(shape: Shape, at: Coords, to: Coords, d: Dim, plus: bool) -> bool
-    ensures { λ r. ⌜ r ≡ usefulAlong shape at to d plus ⌝ }
-{
-    axis::useful(
-        extent(shape, d),
-        wrapped(shape, d),
-        coord(at, d),
-        coord(to, d),
-        plus,
-    )
-}
-
 // The wrap of a direction's dimension.
 fn wrapped_in(shape: Shape, dir: u8) -> bool
     ensures { λ r. ⌜ r ≡ wrappedIn shape (dirDim dir) ⌝ }
@@ -165,22 +163,16 @@ pub fn useful_at(shape: Shape, at: Coords, to: Coords, dir: u8) -> bool
     both(dir <= 5, axis::useful(len, ring, p, q, is_plus(dir)))
 }
 
-fn goes_along(shape: Shape, at: Coords, to: Coords, d: Dim) -> bool
-    ensures { λ r. ⌜ r ≡ goesAlong rule shape at to d ⌝ }
-{
-    let plus = useful_along(shape, at, to, d, true);
-    let minus = useful_along(shape, at, to, d, false);
-    pick_bool(both(plus, minus), half_ring_plus(coord(at, d)), plus)
-}
-
 fn toward_at(shape: Shape, at: Coords, to: Coords, d: Dim) -> u8
     ensures { λ r. ⌜ r ≡ towardAt rule shape at to d ⌝ }
 {
-    pick(
-        goes_along(shape, at, to, d),
-        plus_dir(d),
-        minus_dir(d),
-    )
+    let plus = goes_plus(
+        extent(shape, d),
+        wrapped(shape, d),
+        coord(at, d),
+        coord(to, d),
+    );
+    pick(plus, plus_dir(d), minus_dir(d))
 }
 
 // The direction of a deterministic leg; 6, no direction, where the coordinates are the same.

@@ -2,8 +2,20 @@ use borrow.Author.Needs.{needs}
 use Rattle.machine.proofs.hop.toward_at.Statement.{statement}
 use Rattle.machine.proofs.hop.toward_at.Tie as tie
 
-goes-along-requires : tie.Need-goes-along-requires
-goes-along-requires c κs = search needs
+extent-requires : tie.Need-extent-requires
+extent-requires c κs = search needs
+
+wrapped-requires : tie.Need-wrapped-requires
+wrapped-requires c κs = search needs
+
+coord-requires : tie.Need-coord-requires
+coord-requires c κs = search needs
+
+coord-requires-2 : tie.Need-coord-requires-2
+coord-requires-2 c κs = search needs
+
+goes-plus-requires : tie.Need-goes-plus-requires
+goes-plus-requires c κs = search needs
 
 plus-dir-requires : tie.Need-plus-dir-requires
 plus-dir-requires c κs = search needs
@@ -20,4 +32,13 @@ returns c = cc
 pub toward-at-spec : {M : Type 1} → statement M
 toward-at-spec =
     tie.close
-    (tie.spec goes-along-requires plus-dir-requires minus-dir-requires pick-requires returns)
+    (tie.spec
+    extent-requires
+    wrapped-requires
+    coord-requires
+    coord-requires-2
+    goes-plus-requires
+    plus-dir-requires
+    minus-dir-requires
+    pick-requires
+    returns)
