@@ -1,4 +1,6 @@
 pub mod Choice
+pub mod OneVia
+pub mod Further
 pub mod Answer
 pub mod Outcome
 pub mod Pair

@@ -1,0 +1,4 @@
+pub mod Lists
+pub mod Keys
+pub mod Listed
+pub mod Tidy
