@@ -2,3 +2,7 @@ pub mod Lists
 pub mod Keys
 pub mod Listed
 pub mod Tidy
+pub mod Further
+pub mod OneVia
+pub mod Direct
+pub mod AtTorus
