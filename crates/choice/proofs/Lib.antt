@@ -6,3 +6,5 @@ pub mod Further
 pub mod OneVia
 pub mod Direct
 pub mod AtTorus
+pub mod Demand
+pub mod Worked

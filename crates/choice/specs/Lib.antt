@@ -5,3 +5,4 @@ pub mod Answer
 pub mod Outcome
 pub mod Pair
 pub mod Demand
+pub mod Worked
