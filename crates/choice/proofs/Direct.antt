@@ -14,7 +14,7 @@ use Rattle.machine.specs.declared.leg.Mode.{Mode}
 use Rattle.machine.specs.declared.leg.Mode.the-variants.{Adaptive, Deterministic}
 use Rattle.machine.specs.Torus.{leg}
 use Rattle.choice.specs.Choice.{Choice, targetsOf, viasOf, modesOf, detsOf, endFrom, lengthFrom, keyOf, before, Below, Admits, choicesBy}
-use Rattle.choice.specs.Further.{clearFrom, firstBy}
+use Rattle.choice.specs.Further.{clearChoice, firstBy}
 use Rattle.choice.proofs.Lists.{below-targets}
 use Rattle.choice.proofs.Keys.{before-order, fewer-before}
 use Rattle.choice.proofs.Listed.{admits-lists, direct-admits, lists-admits}
@@ -42,7 +42,7 @@ module _ (far : ℕ → ℕ → ℕ) (n : ℕ) (still : (p : ℕ) → far p p �
     pub direct-first : clear (leg D Adaptive) S ≡ true → firstBy far clear k n S D ≡ some (leg D Adaptive ∷ [])
     unfolding firstBy clearBy
     direct-first h =
-        best-first (before far S) (before-order far S) (clearFrom clear S) (choicesBy k n S D) (leg D Adaptive ∷ []) (record {
+        best-first (before far S) (before-order far S) (clearChoice clear S) (choicesBy k n S D) (leg D Adaptive ∷ []) (record {
           listed = admits-lists k n S D (leg D Adaptive ∷ []) (direct-admits k n S D);
           passes = rw h;
           least = λ e m _ ne.

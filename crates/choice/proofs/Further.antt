@@ -19,7 +19,7 @@ use Rattle.machine.specs.declared.leg.Mode.{Mode}
 use Rattle.machine.specs.declared.leg.Mode.the-variants.{Adaptive, Deterministic}
 use Rattle.machine.specs.Torus.{leg}
 use Rattle.choice.specs.Choice.{Choice, targetsOf, viasOf, endFrom, before, Below, Misses, Different, Admits, over, choicesBy}
-use Rattle.choice.specs.Further.{clearFrom, firstBy, better, alone, followed, furthered}
+use Rattle.choice.specs.Further.{clearChoice, firstBy, better, alone, followed, furthered}
 use Rattle.choice.proofs.Lists.{vias-legs, legs-count, targets-behind, end-behind, clear-behind, Split, split, below-vias, below-targets}
 use Rattle.choice.proofs.Keys.{leg-inj, before-order, adaptive-before, append-before}
 use Rattle.choice.proofs.Listed.{over-has, has-over, admits-lists, lists-admits}
@@ -127,7 +127,7 @@ module _ (far : ℕ → ℕ → ℕ) (clear : Leg → ℕ → Bool) (n : ℕ) wh
       go [] ne e = absurd (ne e)
       go (l ∷ ls) ne e = omega arith
 
-  admits-loose : (k m S D : ℕ) (c : Choice) → D < n → k ≤ m → Admits k n S D c → clearFrom clear S c ≡ true → Loose far clear n m S D c
+  admits-loose : (k m S D : ℕ) (c : Choice) → D < n → k ≤ m → Admits k n S D c → clearChoice clear S c ≡ true → Loose far clear n m S D c
   admits-loose k m S D c lt le a h =
       let few = a .few in
       record { ends = a .ends; some = admits-some k S D c a; few = omega arith; inside = below-targets n S c (rw (a .ends) lt) (a .inside); passes = h }
@@ -136,16 +136,16 @@ module _ (far : ℕ → ℕ → ℕ) (clear : Leg → ℕ → Bool) (n : ℕ) wh
     O : Order (before far S)
     O = before-order far S
 
-    firsts : (k D : ℕ) → Best (before far S) (clearFrom clear S) (choicesBy k n S D) (firstBy far clear k n S D)
+    firsts : (k D : ℕ) → Best (before far S) (clearChoice clear S) (choicesBy k n S D) (firstBy far clear k n S D)
     unfolding firstBy
-    firsts k D = best-is (before far S) O (clearFrom clear S) (choicesBy k n S D)
+    firsts k D = best-is (before far S) O (clearChoice clear S) (choicesBy k n S D)
 
     first-loose : (k m D : ℕ) (c : Choice) → D < n → k ≤ m → firstBy far clear k n S D ≡ some c → Loose far clear n m S D c
     first-loose k m D c lt le e =
         let f = firsts k D .chosen c e in
         admits-loose k m S D c lt le (lists-admits k n S D c (f .listed)) (f .passes)
 
-    some-first : (k D : ℕ) (a : Choice) → Admits k n S D a → clearFrom clear S a ≡ true → (b : Choice) × (firstBy far clear k n S D ≡ some b)
+    some-first : (k D : ℕ) (a : Choice) → Admits k n S D a → clearChoice clear S a ≡ true → (b : Choice) × (firstBy far clear k n S D ≡ some b)
     some-first k D a adm h = go (firstBy far clear k n S D) refl
       where
         go : (o : Option Choice) → firstBy far clear k n S D ≡ o → (b : Choice) × (firstBy far clear k n S D ≡ some b)
@@ -168,23 +168,23 @@ module _ (far : ℕ → ℕ → ℕ) (clear : Leg → ℕ → Bool) (n : ℕ) wh
           (List·Memᴰ·append-cases (alone (firstBy far clear k n S D)) m)
 
       abbrev pub IsFirst : Choice → Type 0
-      IsFirst c = First (before far S) (clearFrom clear S) (choicesBy (suc k) n S D) c
+      IsFirst c = First (before far S) (clearChoice clear S) (choicesBy (suc k) n S D) c
 
       -- Nothing clear comes before the first, repeated nodes or not.
       none-before : (c g : Choice) → IsFirst c → Loose far clear n (suc k) S D g → before far S g c ≡ true → ⊥
       none-before c g f o h =
           let s = admitted-first far clear n S still empty (suc k) D g o in
-          let later = first-not-later (before far S) O (clearFrom clear S) (choicesBy (suc k) n S D) c (s .legs) f (admits-lists (suc k) n S D (s .legs) (s .admitted)) (s .passes) in
+          let later = first-not-later (before far S) O (clearChoice clear S) (choicesBy (suc k) n S D) c (s .legs) f (admits-lists (suc k) n S D (s .legs) (s .admitted)) (s .passes) in
           ⊎-elim
           (λ q. true≢false (sym h ∙ rw (← q) later))
-          (λ b. true≢false (sym (before-trans (before far S) O (clearFrom clear S) (s .legs) g c b h) ∙ later))
+          (λ b. true≢false (sym (before-trans (before far S) O (clearChoice clear S) (s .legs) g c b h) ∙ later))
           (s .sooner)
 
       few-first : (c : Choice) → IsFirst c → length (viasOf c) ≤ k → firstBy far clear k n S D ≡ some c
       unfolding firstBy
       few-first c f few =
           let a = lists-admits (suc k) n S D c (f .listed) in
-          best-first (before far S) O (clearFrom clear S) (choicesBy k n S D) c (record {
+          best-first (before far S) O (clearChoice clear S) (choicesBy k n S D) c (record {
             listed = admits-lists k n S D c (record { ends = a .ends; few = few; inside = a .inside; apart = a .apart; self = a .self });
             passes = f .passes;
             least = λ e m t ne.
@@ -202,7 +202,7 @@ module _ (far : ℕ → ℕ → ℕ) (clear : Leg → ℕ → Bool) (n : ℕ) wh
           (λ t. rw (t, h))
 
       -- What stands before it is the first choice to its via.
-      front-first : (a b : Choice) (m : Mode) → IsFirst (a ++ (leg D m ∷ [])) → endFrom S a < n → Admits k n S (endFrom S a) a → clearFrom clear S a ≡ true → clear (leg D m) (endFrom S a) ≡ true → firstBy far clear k n S (endFrom S a) ≡ some b → b ≡ a
+      front-first : (a b : Choice) (m : Mode) → IsFirst (a ++ (leg D m ∷ [])) → endFrom S a < n → Admits k n S (endFrom S a) a → clearChoice clear S a ≡ true → clear (leg D m) (endFrom S a) ≡ true → firstBy far clear k n S (endFrom S a) ≡ some b → b ≡ a
       front-first a b m f lt adm ca cx e =
           let w = endFrom S a in
           let g = firsts k w .chosen b e in
@@ -210,7 +210,7 @@ module _ (far : ℕ → ℕ → ℕ) (clear : Leg → ℕ → Bool) (n : ℕ) wh
           test (before far S b a)
           (λ t. absurd (none-before (a ++ (leg D m ∷ [])) (b ++ (leg D m ∷ [])) f (loose-behind k S w b (leg D m) o target cx)
           (append-before far S b a (leg D m) (o .some) (admits-some k S w a adm) (o .ends) t)))
-          (λ t. O .apart b a t (first-not-later (before far S) O (clearFrom clear S) (choicesBy k n S w) b a g (admits-lists k n S w a adm) ca))
+          (λ t. O .apart b a t (first-not-later (before far S) O (clearChoice clear S) (choicesBy k n S w) b a g (admits-lists k n S w a adm) ca))
 
       -- Where the first choice has k + 1 vias, what stands before its last leg is the first choice to its last via, by k vias, and the leg is the better one.
       record Ahead (a : Choice) (m : Mode) : Type 0 where
@@ -235,7 +235,7 @@ module _ (far : ℕ → ℕ → ℕ) (clear : Leg → ℕ → Bool) (n : ℕ) wh
           let lt = end-below n S a legs allA in
           let viasA = vias-legs a legs in
           let admA : Admits k n S w a = record { ends = refl; few = omega arith; inside = below-vias n a allA; apart = λ _. diffA; self = λ e. absurd (end-misses S S a legs (diffA .0) e) } in
-          let both = and-true (clearFrom clear S a) (clear (leg D m) w) (rw (clear-behind clear S a (leg D m)) at (f .passes)) in
+          let both = and-true (clearChoice clear S a) (clear (leg D m) w) (rw (clear-behind clear S a (leg D m)) at (f .passes)) in
           let b = some-first k w a admA (both .0) in
           let same = front-first a (b .0) m f lt admA (both .0) (both .1) (b .1) in
           record {
@@ -295,6 +295,6 @@ module _ (far : ℕ → ℕ → ℕ) (clear : Leg → ℕ → Bool) (n : ℕ) wh
                     let listed = admits-lists (suc k) n S D (s .legs) (s .admitted) in
                     ⊎-elim
                     (λ q. rw (← q) (f .least (s .legs) listed (s .passes) (λ r. ne (sym q ∙ r))))
-                    (λ b. first-before (before far S) O (clearFrom clear S) (choicesBy (suc k) n S D) c (s .legs) g f listed (s .passes) b)
+                    (λ b. first-before (before far S) O (clearChoice clear S) (choicesBy (suc k) n S D) c (s .legs) g f listed (s .passes) b)
                     (s .sooner);
               }))

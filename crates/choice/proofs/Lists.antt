@@ -9,7 +9,7 @@ use Rattle.theory.specs.Machine.{endBy, sumBy}
 use Rattle.theory.specs.Clear.{clearBy}
 use Rattle.machine.specs.declared.leg.Leg.{Leg}
 use Rattle.choice.specs.Choice.{Choice, targetsOf, viasOf, det, modesOf, detsOf, endFrom, lengthFrom, Below}
-use Rattle.choice.specs.Further.{clearFrom}
+use Rattle.choice.specs.Further.{clearChoice}
 
 pub vias-legs : (c : Choice) → 1 ≤ length c → suc (length (viasOf c)) ≡ length c
 unfolding viasOf
@@ -64,10 +64,10 @@ and-assoc : (a b c : Bool) → (a && (b && c)) ≡ ((a && b) && c)
 and-assoc true b c = refl
 and-assoc false b c = refl
 
-pub clear-behind : (clear : Leg → ℕ → Bool) (p : ℕ) (c : Choice) (l : Leg) → clearFrom clear p (c ++ (l ∷ [])) ≡ (clearFrom clear p c && clear l (endFrom p c))
+pub clear-behind : (clear : Leg → ℕ → Bool) (p : ℕ) (c : Choice) (l : Leg) → clearChoice clear p (c ++ (l ∷ [])) ≡ (clearChoice clear p c && clear l (endFrom p c))
 unfolding clearBy endBy
 clear-behind clear p [] l = and-one (clear l p)
-clear-behind clear p (x ∷ c) l = ap (λ r. clear x p && r) (clear-behind clear (x .target) c l) ∙ and-assoc (clear x p) (clearFrom clear (x .target) c) (clear l (endFrom (x .target) c))
+clear-behind clear p (x ∷ c) l = ap (λ r. clear x p && r) (clear-behind clear (x .target) c l) ∙ and-assoc (clear x p) (clearChoice clear (x .target) c) (clear l (endFrom (x .target) c))
 
 -- Of a choice with a leg at its end, what stands before it.
 pub record Split (c : Choice) : Type 0 where

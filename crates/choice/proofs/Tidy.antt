@@ -19,7 +19,7 @@ use Rattle.machine.specs.declared.leg.Mode.{Mode}
 use Rattle.machine.specs.declared.leg.Mode.the-variants.{Adaptive, Deterministic}
 use Rattle.machine.specs.Torus.{leg}
 use Rattle.choice.specs.Choice.{Choice, targetsOf, viasOf, det, modesOf, detsOf, endFrom, lengthFrom, keyOf, before, Below, Misses, Different, Admits}
-use Rattle.choice.specs.Further.{clearFrom}
+use Rattle.choice.specs.Further.{clearChoice}
 use Rattle.choice.proofs.Lists.{vias-legs, below-vias}
 use Rattle.choice.proofs.Keys.{fewer-before}
 use Rattle.choice.proofs.Listed.{direct-admits}
@@ -30,11 +30,11 @@ module _ (far : ℕ → ℕ → ℕ) (clear : Leg → ℕ → Bool) (n : ℕ) wh
     ends : endFrom p c ≡ D
     inside : Below n (targetsOf c)
     apart : Different (p ∷ targetsOf c)
-    passes : clearFrom clear p c ≡ true
+    passes : clearChoice clear p c ≡ true
 
   straight-on : (p D : ℕ) (l : Leg) (ls : Choice) → Straight p D (l ∷ ls) → Straight (l .target) D ls
   unfolding endBy targetsOf clearBy
-  straight-on p D l ls s = record { ends = s .ends; inside = s .inside .1; apart = s .apart .1; passes = and-true (clear l p) (clearFrom clear (l .target) ls) (s .passes) .1 }
+  straight-on p D l ls s = record { ends = s .ends; inside = s .inside .1; apart = s .apart .1; passes = and-true (clear l p) (clearChoice clear (l .target) ls) (s .passes) .1 }
 
   -- Such legs from S, no longer than the legs c from p.
   record Cut (S p D : ℕ) (c : Choice) : Type 0 where
@@ -92,11 +92,11 @@ module _ (far : ℕ → ℕ → ℕ) (clear : Leg → ℕ → Bool) (n : ℕ) wh
       })
       (cut p (l .target) D (r .legs) s)
 
-  tidy : (p D : ℕ) (c : Choice) → endFrom p c ≡ D → Below n (targetsOf c) → clearFrom clear p c ≡ true → Tidy p D c
+  tidy : (p D : ℕ) (c : Choice) → endFrom p c ≡ D → Below n (targetsOf c) → clearChoice clear p c ≡ true → Tidy p D c
   unfolding endBy targetsOf clearBy sumBy detsOf
   tidy p D [] e b k = record { legs = []; straight = record { ends = e; inside = tt; apart = (tt, tt); passes = refl }; long = omega arith; dets = omega arith; fewer = inl refl }
   tidy p D (l ∷ ls) e b k =
-      let both = and-true (clear l p) (clearFrom clear (l .target) ls) k in
+      let both = and-true (clear l p) (clearChoice clear (l .target) ls) k in
       tidy-on p D l ls (b .0) (both .0) (tidy (l .target) D ls e (b .1) (both .1))
 
   -- Clear legs from S to D by at most k nodes, ends and repeated ones among them or not.
@@ -105,13 +105,13 @@ module _ (far : ℕ → ℕ → ℕ) (clear : Leg → ℕ → Bool) (n : ℕ) wh
     pub some : 1 ≤ length c
     pub few : length (viasOf c) ≤ k
     pub inside : Below n (targetsOf c)
-    pub passes : clearFrom clear S c ≡ true
+    pub passes : clearChoice clear S c ≡ true
 
   -- An admitted clear choice that is these legs or comes before them.
   pub record Sooner (k S D : ℕ) (c : Choice) : Type 0 where
     pub legs : Choice
     pub admitted : Admits k n S D legs
-    pub passes : clearFrom clear S legs ≡ true
+    pub passes : clearChoice clear S legs ≡ true
     pub sooner : (legs ≡ c) ⊎ (before far S legs c ≡ true)
 
   some-leg : (S D : ℕ) (c : Choice) → (S ≡ D → ⊥) → endFrom S c ≡ D → 1 ≤ length c

@@ -11,12 +11,12 @@ use Rattle.machine.specs.Torus.{leg}
 use Rattle.choice.specs.Choice.{Choice, before, over, choicesBy}
 
 -- `clear l p`: the leg l is clear from p. A choice is clear if all its legs are.
-abbrev pub clearFrom : (Leg → ℕ → Bool) → ℕ → Choice → Bool
-clearFrom clear p c = clearBy (λ l. l .target) clear p c
+abbrev pub clearChoice : (Leg → ℕ → Bool) → ℕ → Choice → Bool
+clearChoice clear p c = clearBy (λ l. l .target) clear p c
 
 -- The first clear choice from S to D with at most k vias, on n nodes; `far p t` is the length of a leg from p to t.
 unfoldable pub firstBy : (ℕ → ℕ → ℕ) → (Leg → ℕ → Bool) → ℕ → ℕ → ℕ → ℕ → Option Choice
-firstBy far clear k n S D = best (before far S) (clearFrom clear S) (choicesBy k n S D)
+firstBy far clear k n S D = best (before far S) (clearChoice clear S) (choicesBy k n S D)
 
 -- The leg from w to D in its better clear mode.
 unfoldable pub better : (Leg → ℕ → Bool) → ℕ → ℕ → Option Leg
