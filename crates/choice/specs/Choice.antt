@@ -5,6 +5,7 @@ use mathlib.Core.Bool.{Bool, true, cond, not, _&&_}
 use mathlib.Core.List.{List, [], _∷_, _++_}
 use lib.ListN.{length}
 use lib.Dec.{eqb}
+use Rattle.theory.specs.Machine.{endBy, sumBy}
 use Rattle.theory.specs.Choice.{lex}
 use Rattle.shape.specs.declared.shape.Shape.{Shape}
 use Rattle.machine.specs.declared.leg.Leg.{Leg}
@@ -45,15 +46,12 @@ unfoldable pub detsOf : Choice → ℕ
 detsOf [] = 0
 detsOf (l ∷ ls) = det (l .mode) + detsOf ls
 
--- Where the legs from p end.
-unfoldable pub endFrom : ℕ → Choice → ℕ
-endFrom p [] = p
-endFrom p (l ∷ ls) = endFrom (l .target) ls
+-- Where the legs from p end. `far p t`: the length of a leg from p to t. Length = the sum of the legs' distances.
+abbrev pub endFrom : ℕ → Choice → ℕ
+endFrom p c = endBy (λ l. l .target) p c
 
--- `far p t`: the length of a leg from p to t. Length = the sum of the legs' distances.
-unfoldable pub lengthFrom : (ℕ → ℕ → ℕ) → ℕ → Choice → ℕ
-lengthFrom far p [] = 0
-lengthFrom far p (l ∷ ls) = far p (l .target) + lengthFrom far (l .target) ls
+abbrev pub lengthFrom : (ℕ → ℕ → ℕ) → ℕ → Choice → ℕ
+lengthFrom far p c = sumBy (λ l. l .target) far p c
 
 -- The order compares, smallest first: length; number of deterministic legs; number of vias; via's node number; then first leg adaptive before first
 -- leg deterministic. For any number of vias: the vias in order, then the modes leg by leg, adaptive first. The destination stands behind the vias,

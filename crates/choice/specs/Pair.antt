@@ -6,6 +6,7 @@ use mathlib.Core.Option.{Option, none, some}
 use Rattle.numbers.specs.Numbers.{nodeOutside, deadEnd, noClearChoice}
 use Rattle.theory.specs.Checks.{declined, _then_}
 use Rattle.theory.specs.Plan.{planned}
+use Rattle.shape.specs.declared.shape.Shape.{Shape}
 use Rattle.machine.specs.Node.{isNode}
 use Rattle.machine.specs.Torus.{torus}
 use Rattle.plan.specs.Layout.{shapeOf, faultsOf}
@@ -18,11 +19,12 @@ use Rattle.choice.specs.Answer.{Answer, Given, Refused, answered}
 abbrev pub soundIn : List ℕ → ℕ → ℕ → Bool
 soundIn p n d = sound (shapeOf p) (faultsOf p) n d
 
--- The first clear choice in the order.
-unfoldable pub routeIn : List ℕ → ℕ → ℕ → Option Choice
-routeIn p S D =
-    let s = shapeOf p in
-    planned (torus s) (soundIn p) (beforeIn s S) S (choices s S D)
+-- The first clear choice in the order: where `sound n d` says which links are sound, and under the plan p.
+unfoldable pub routeBy : Shape → (ℕ → ℕ → Bool) → ℕ → ℕ → Option Choice
+routeBy s sound S D = planned (torus s) sound (beforeIn s S) S (choices s S D)
+
+abbrev pub routeIn : List ℕ → ℕ → ℕ → Option Choice
+routeIn p S D = routeBy (shapeOf p) (soundIn p) S D
 
 -- A pair checks 1 to 8, then 9, 10.
 unfoldable pub pairError : Limits → List ℕ → ℕ → ℕ → ℕ

@@ -1,5 +1,5 @@
 -- `best` finds the first of the candidates that pass, and what becomes of it when fewer pass.
-use Prim.Native.Nat.{ℕ, _<_}
+use Prim.Native.Nat.{ℕ, _<_, _≤_}
 use native.Mathlib.Omega.{arith}
 use mathlib.Core.Path.{_≡_, refl, sym, _∙_}
 use mathlib.Core.Logic.{_⊎_, inl, inr, ⊎-elim}
@@ -110,6 +110,21 @@ module _ {C : Type 0} (before : C → C → Bool) (O : Order before) (ok : C →
           let q : b ≡ c = O .apart b c (h .least b (g .listed) (g .passes)) (g .least c (f .listed) (f .passes)) in
           cc
 
+  pub before-trans : (a b c : C) → before a b ≡ true → before b c ≡ true → before a c ≡ true
+  before-trans a b c h k = test (before a c) (λ t. t) (λ f.
+      let e : a ≡ c = O .apart a c f (O .trans a b c (O .asym a b h) (O .asym b c k)) in
+      let back : before b a ≡ true = rw e k in
+      absurd (true≢false (sym back ∙ O .asym a b h)))
+
+  -- What passes is not before the first; and the first is before all that something that passes is before.
+  pub first-not-later : (cs : List C) (c e : C) → First before ok cs c → List·Memᴰ e cs → ok e ≡ true → before e c ≡ false
+  first-not-later cs c e f m k = first-least cs c f .least e m k
+
+  pub first-before : (cs : List C) (c e g : C) → First before ok cs c → List·Memᴰ e cs → ok e ≡ true → before e g ≡ true → before c g ≡ true
+  first-before cs c e g f m k h = test (before c e)
+      (λ t. before-trans c e g t h)
+      (λ t. let q : c ≡ e = O .apart c e t (first-not-later cs c e f m k) in rw q h)
+
 module _ {C : Type 0} (before : C → C → Bool) (O : Order before) (ok₁ ok₂ : C → Bool) (fewer : (c : C) → ok₂ c ≡ true → ok₁ c ≡ true) where
   pub fewer-is : (cs : List C) → Fewer before ok₁ ok₂ cs
   fewer-is cs = record {
@@ -127,11 +142,11 @@ best-same before ok₁ ok₂ [] h = refl
 best-same before ok₁ ok₂ (c ∷ cs) h = rw (h c (List·Memᴰ·head refl), best-same before ok₁ ok₂ cs (λ e m. h e (List·Memᴰ·tail m)))
 
 -- The order by the size of a number, where different candidates have different numbers.
-pub rank-order : {C : Type 0} (rank : C → ℕ) → ((a b : C) → rank a ≡ rank b → a ≡ b) → Order (λ a b. ltb (rank a) (rank b))
-rank-order rank inj = record {
-  asym = λ a b h. le-ltb (rank b) (rank a) (omega (arith, ltb-true (rank a) (rank b) h));
-  trans = λ a b c h k. le-ltb (rank c) (rank a) (omega (arith, ltb-false (rank b) (rank a) h, ltb-false (rank c) (rank b) k));
-  apart = λ a b h k. inj a b (omega (arith, ltb-false (rank a) (rank b) h, ltb-false (rank b) (rank a) k));
+pub number-order : {C : Type 0} (number : C → ℕ) → ((a b : C) → number a ≡ number b → a ≡ b) → Order (λ a b. ltb (number a) (number b))
+number-order number inj = record {
+  asym = λ a b h. le-ltb (number b) (number a) (omega (arith, ltb-true (number a) (number b) h));
+  trans = λ a b c h k. le-ltb (number c) (number a) (omega (arith, ltb-false (number b) (number a) h, ltb-false (number c) (number b) k));
+  apart = λ a b h k. inj a b (omega (arith, ltb-false (number a) (number b) h, ltb-false (number b) (number a) k));
 }
 
 -- The order by a key, compared place by place.
@@ -139,13 +154,37 @@ pub lex-less : (x y : ℕ) (xs ys : List ℕ) → x < y → lex (x ∷ xs) (y �
 unfolding lex
 lex-less x y xs ys h = rw (lt-ltb x y h)
 
-lex-more : (x y : ℕ) (xs ys : List ℕ) → y < x → lex (x ∷ xs) (y ∷ ys) ≡ false
+pub lex-more : (x y : ℕ) (xs ys : List ℕ) → y < x → lex (x ∷ xs) (y ∷ ys) ≡ false
 unfolding lex
 lex-more x y xs ys h = rw (le-ltb x y (omega arith), lt-ltb y x h)
 
 pub lex-same : (x y : ℕ) (xs ys : List ℕ) → x ≡ y → lex (x ∷ xs) (y ∷ ys) ≡ lex xs ys
 unfolding lex
 lex-same x y xs ys h = rw (le-ltb x y (omega arith), le-ltb y x (omega arith))
+
+-- What decides at the first place, and where a comparison says what another does.
+pub lex-least : (x y : ℕ) (xs ys : List ℕ) → x ≤ y → (x ≡ y → lex xs ys ≡ true) → lex (x ∷ xs) (y ∷ ys) ≡ true
+lex-least x y xs ys le rest = by-order x y (lex-less x y xs ys) (λ e. lex-same x y xs ys e ∙ rest e) (λ g. absurd (omega arith))
+
+pub lex-step :
+    (x y x′ y′ : ℕ) (xs ys xs′ ys′ : List ℕ) →
+    (x < y → x′ < y′) →
+    (x ≡ y → x′ ≡ y′) →
+    (x ≡ y → lex xs ys ≡ true → lex xs′ ys′ ≡ true) →
+    lex (x ∷ xs) (y ∷ ys) ≡ true →
+    lex (x′ ∷ xs′) (y′ ∷ ys′) ≡ true
+lex-step x y x′ y′ xs ys xs′ ys′ less same rest h =
+    by-order x y
+    (λ g. lex-less x′ y′ xs′ ys′ (less g))
+    (λ e. lex-same x′ y′ xs′ ys′ (same e) ∙ rest e (sym (lex-same x y xs ys e) ∙ h))
+    (λ g. absurd (true≢false (sym h ∙ lex-more x y xs ys g)))
+
+pub lex-agree : (x y x′ y′ : ℕ) (xs ys us vs : List ℕ) → x ≡ x′ → y ≡ y′ → (x ≡ y → lex xs ys ≡ lex us vs) → lex (x ∷ xs) (y ∷ ys) ≡ lex (x′ ∷ us) (y′ ∷ vs)
+lex-agree x y x′ y′ xs ys us vs e f rest =
+    by-order x y
+    (λ g. lex-less x y xs ys g ∙ sym (lex-less x′ y′ us vs (omega arith)))
+    (λ q. lex-same x y xs ys q ∙ (rest q ∙ sym (lex-same x′ y′ us vs (omega arith))))
+    (λ g. lex-more x y xs ys g ∙ sym (lex-more x′ y′ us vs (omega arith)))
 
 -- What a comparison's answer tells.
 lex-true : (x y : ℕ) (xs ys : List ℕ) → lex (x ∷ xs) (y ∷ ys) ≡ true → (x < y) ⊎ ((x ≡ y) × (lex xs ys ≡ true))

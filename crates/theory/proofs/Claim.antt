@@ -6,7 +6,7 @@ use mathlib.Core.Logic.{_↔_}
 use mathlib.Core.Bool.{Bool, true, false, cond, false≢true}
 use mathlib.Core.List.{List, [], _∷_, _++_}
 use lib.ListN.{length, length-append}
-use Rattle.theory.specs.Machine.{Machine, Laws, Inside, hopsOf, endOf, dropped, allows}
+use Rattle.theory.specs.Machine.{Machine, Laws, Inside, endBy, sumBy, hopsOf, endOf, dropped, allows}
 use Rattle.theory.specs.Clear.{Sound, ClearLegs, lead}
 use Rattle.theory.specs.Run.{Call, Step, Walk, Run, count, at, start, takes, moved, offered, called, ran}
 use Rattle.numbers.specs.Numbers.{notAllowed}
@@ -38,7 +38,7 @@ module _ {Leg : Type 0} (M : Machine Leg) (L : Laws M) (sound : ℕ → ℕ → 
     clear : ClearLegs M sound p ls
 
   ahead-drop : (n p : ℕ) (l : Leg) (ls : List Leg) → M .target l ≡ p → Ahead n p (l ∷ ls) → Ahead n p ls
-  unfolding hopsOf endOf
+  unfolding sumBy endBy
   ahead-drop n p l ls e a = record {
     at = a .at;
     inside = a .inside .1;
@@ -51,7 +51,7 @@ module _ {Leg : Type 0} (M : Machine Leg) (L : Laws M) (sound : ℕ → ℕ → 
   ahead-dropped n p = dropped-keeps (M .target) p (λ ls. Ahead n p ls) (ahead-drop n p)
 
   ahead-hop : (n p d : ℕ) (ls : List Leg) → allows M p ls d ≡ true → Ahead n p ls → (sound p d ≡ true) × Ahead (suc n) (M .next p d) ls
-  unfolding hopsOf endOf allows
+  unfolding sumBy endBy allows
   ahead-hop n p d [] h a = absurd (false≢true h)
   ahead-hop n p d (l ∷ ls) h a =
       let on = clear-on M L sound l p d h (a .clear .0) in (
@@ -72,7 +72,7 @@ module _ {Leg : Type 0} (M : Machine Leg) (L : Laws M) (sound : ℕ → ℕ → 
     onward : n < whole → (d : ℕ) × (d < M .ways) × (allows M p ls d ≡ true)
 
   ahead-judged : (n p : ℕ) (ls : List Leg) → Settled (M .target) p ls → Ahead n p ls → Judged n p ls
-  unfolding hopsOf endOf allows
+  unfolding sumBy endBy allows
   ahead-judged n p [] s a = record {
     none = (λ _. omega (arith, a .total), λ _. refl);
     at-end = λ _. a .goal;

@@ -8,7 +8,7 @@ use mathlib.Core.List.{List, [], _∷_}
 use lib.Dec.{eqb}
 use borrow.Author.Tests.{eqb-true, eqb-false}
 use Rattle.theory.specs.Machine.{Machine, Laws, Inside}
-use Rattle.theory.specs.Clear.{Allows, Sound, Clear, ClearLegs, every, clearIn, clear, clearLegs}
+use Rattle.theory.specs.Clear.{Allows, Sound, Clear, ClearLegs, every, clearBy, clearIn, clear, clearLegs}
 use Rattle.theory.proofs.Cases.{test}
 
 pub every-true : (n : ℕ) (f : ℕ → Bool) → every n f ≡ true → (d : ℕ) → d < n → f d ≡ true
@@ -85,7 +85,7 @@ module _ {Leg : Type 0} (M : Machine Leg) (L : Laws M) (sound : ℕ → ℕ → 
 
   -- A choice passes the test exactly if all its legs are clear.
   pub clearLegs-iff : (p : ℕ) (ls : List Leg) → p < M .size → Inside M ls → (clearLegs M sound p ls ≡ true) ↔ ClearLegs M sound p ls
-  unfolding clearLegs
+  unfolding clearBy
   clearLegs-iff p [] at i = (λ _. tt, λ _. refl)
   clearLegs-iff p (l ∷ ls) at i =
       let both = and-eq-true-iff (clear M sound l p) (clearLegs M sound (M .target l) ls) in
@@ -109,6 +109,6 @@ module _ {Leg : Type 0} (M : Machine Leg) (L : Laws M) (sound₁ sound₂ : ℕ 
       (λ h. one .1 (λ ds w. sound-same M L sound₂ sound₁ (λ l p d at end a. sym (same l p d at end a)) l p ds at end w (two .0 h ds w)))
 
   pub clearLegs-same : (p : ℕ) (ls : List Leg) → p < M .size → Inside M ls → clearLegs M sound₁ p ls ≡ clearLegs M sound₂ p ls
-  unfolding clearLegs
+  unfolding clearBy
   clearLegs-same p [] at i = refl
   clearLegs-same p (l ∷ ls) at i = rw (clear-same l p at (i .0), clearLegs-same (M .target l) ls (i .0) (i .1))

@@ -4,7 +4,7 @@ use mathlib.Core.Path.{_≡_, refl}
 use mathlib.Core.Bool.{Bool, true, and-eq-true-iff}
 use mathlib.Core.List.{List, [], _∷_}
 use Rattle.theory.specs.Machine.{Machine}
-use Rattle.theory.specs.Clear.{clearIn, clear, clearLegs}
+use Rattle.theory.specs.Clear.{clearBy, clearIn, clear, clearLegs}
 use Rattle.theory.specs.Choice.{Order}
 use Rattle.theory.specs.Plan.{planned, Grown}
 use Rattle.theory.proofs.Cases.{test}
@@ -23,7 +23,7 @@ module _ {Leg : Type 0} (M : Machine Leg) (sound₁ sound₂ : ℕ → ℕ → B
       (λ a. rw a)
 
   clearLegs-less : (p : ℕ) (ls : List Leg) → clearLegs M sound₂ p ls ≡ true → clearLegs M sound₁ p ls ≡ true
-  unfolding clearLegs clear
+  unfolding clearBy clear
   clearLegs-less p [] h = refl
   clearLegs-less p (l ∷ ls) h =
       let both = and-eq-true-iff (clear M sound₂ l p) _ .0 h in

@@ -10,6 +10,11 @@ unfoldable pub every : ℕ → (ℕ → Bool) → Bool
 every zero f = true
 every (suc n) f = f n && every n f
 
+-- `clear l p`: the leg l is clear from p. A choice is clear if all its legs are.
+unfoldable pub clearBy : {Leg : Type 0} → (Leg → ℕ) → (Leg → ℕ → Bool) → ℕ → List Leg → Bool
+clearBy target clear p [] = true
+clearBy target clear p (l ∷ ls) = clear l p && clearBy target clear (target l) ls
+
 module _ {Leg : Type 0} (M : Machine Leg) where
   -- A walk is a list of directions. The leg's mode allows each of them where it is taken.
   abbrev pub Allows : Leg → ℕ → List ℕ → Type 0
@@ -45,6 +50,5 @@ module _ {Leg : Type 0} (M : Machine Leg) where
     unfoldable pub clear : Leg → ℕ → Bool
     clear l p = clearIn (M .hops p (M .target l)) l p
 
-    unfoldable pub clearLegs : ℕ → List Leg → Bool
-    clearLegs p [] = true
-    clearLegs p (l ∷ ls) = clear l p && clearLegs (M .target l) ls
+    abbrev pub clearLegs : ℕ → List Leg → Bool
+    clearLegs p ls = clearBy (M .target) clear p ls

@@ -15,6 +15,16 @@ pub record Machine (Leg : Type 0) : Type 0 where
   pub target : Leg → ℕ
   pub allowed : Leg → ℕ → ℕ → Bool
 
+-- Of the legs of a route from p: where they end; and the sum of their lengths, where `far p t` is the length of a leg from p to t.
+module _ {Leg : Type 0} (target : Leg → ℕ) where
+  unfoldable pub endBy : ℕ → List Leg → ℕ
+  endBy p [] = p
+  endBy p (l ∷ ls) = endBy (target l) ls
+
+  unfoldable pub sumBy : (ℕ → ℕ → ℕ) → ℕ → List Leg → ℕ
+  sumBy far p [] = 0
+  sumBy far p (l ∷ ls) = far p (target l) + sumBy far (target l) ls
+
 module _ {Leg : Type 0} (M : Machine Leg) where
   -- What a machine has to meet, of legs to a node and places that are nodes: an allowed direction is a direction, leads to a node and lowers the hops
   -- left by exactly one; no hops are left at the target and there alone; before the target some direction is allowed.
@@ -32,13 +42,11 @@ module _ {Leg : Type 0} (M : Machine Leg) where
   Inside (l ∷ ls) = (M .target l < M .size) × Inside ls
 
   -- The hops of a route from p, and where it ends.
-  unfoldable pub hopsOf : ℕ → List Leg → ℕ
-  hopsOf p [] = 0
-  hopsOf p (l ∷ ls) = M .hops p (M .target l) + hopsOf (M .target l) ls
+  abbrev pub hopsOf : ℕ → List Leg → ℕ
+  hopsOf p ls = sumBy (M .target) (M .hops) p ls
 
-  unfoldable pub endOf : ℕ → List Leg → ℕ
-  endOf p [] = p
-  endOf p (l ∷ ls) = endOf (M .target l) ls
+  abbrev pub endOf : ℕ → List Leg → ℕ
+  endOf p ls = endBy (M .target) p ls
 
   -- The front leg's mode allows d at p. With no leg left no direction is allowed.
   unfoldable pub allows : ℕ → List Leg → ℕ → Bool

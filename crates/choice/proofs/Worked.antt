@@ -1,0 +1,48 @@
+-- The worked lines hold; and the theorem on planning a pair speaks of machine W.
+use mathlib.Core.Path.{_≡_, refl}
+use mathlib.Core.List.{List, [], _∷_}
+use Rattle.theory.specs.Machine.{endBy, sumBy}
+use Rattle.theory.specs.Clear.{every, clearBy, clearIn, clear}
+use Rattle.theory.specs.Choice.{lex, earlier, best}
+use Rattle.theory.specs.Plan.{planned}
+use Rattle.shape.specs.Shape.{shapeError, badExtents, badWraps}
+use Rattle.shape.specs.Axis.{axisDistance, hasLink, place}
+use Rattle.machine.specs.Number.{nodeCount, numberOf, coordsOf}
+use Rattle.machine.specs.Hop.{dirDim, opposite, link, neighbour, distance, useful, toward, firstDirection}
+use Rattle.machine.specs.Node.{isNode}
+use Rattle.machine.specs.Torus.{allowedBy}
+use Rattle.sheet.specs.Bytes.{listFrom}
+use Rattle.plan.specs.Layout.{version, lengthField, bytesAfter, shapeOf, faultCount, faultAt, faultsOf}
+use Rattle.plan.specs.Kinds.{kindDim, kindDir}
+use Rattle.plan.specs.Checks.{large, faultExists, rank, faultsError, planError}
+use Rattle.plan.specs.Worked.{W}
+use Rattle.dead.specs.Dead.{some, namesNode, deadNode, namesLink, names, deadLink, sound}
+use Rattle.choice.specs.Choice.{targetsOf, viasOf, modesOf, detsOf, keyOf, over, after, direct, legsBy, misses, different, kept, choicesBy}
+use Rattle.choice.specs.Answer.{answered}
+use Rattle.choice.specs.Outcome.{told}
+use Rattle.choice.specs.Pair.{routeBy, pairError, pair}
+use Rattle.choice.specs.Demand.{Demand}
+use Rattle.choice.specs.Worked.{Worked}
+use Rattle.choice.proofs.Demand.{demand}
+
+pub worked : Worked
+unfolding endBy sumBy every clearBy clearIn clear lex earlier best planned shapeError badExtents badWraps axisDistance hasLink place nodeCount numberOf coordsOf dirDim opposite link neighbour distance useful toward firstDirection isNode allowedBy listFrom version lengthField bytesAfter shapeOf faultCount faultAt faultsOf kindDim kindDir faultExists rank faultsError planError some namesNode deadNode namesLink names deadLink sound targetsOf viasOf modesOf detsOf keyOf over after direct legsBy misses different kept choicesBy answered told routeBy pairError pair
+worked = record {
+  w-0-1 = refl;
+  w-0-2 = refl;
+  w-0-7 = refl;
+  w-0-0 = refl;
+  ring-of-4 = refl;
+  ring-of-5 = refl;
+  open-2 = refl;
+  dead-node = refl;
+  extent-16 = refl;
+  extent-17 = refl;
+  wrapped-3 = refl;
+  wrapped-2 = refl;
+}
+
+-- What the theorem assumes holds of W, 0 and 1.
+pub w-demand : Demand large W 0 1
+unfolding shapeError badExtents badWraps nodeCount isNode listFrom version lengthField bytesAfter shapeOf faultCount faultAt faultsOf kindDim kindDir coordsOf hasLink link dirDim faultExists rank faultsError planError some namesNode deadNode
+w-demand = demand large W 0 1 refl refl refl refl refl
