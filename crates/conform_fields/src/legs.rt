@@ -31,11 +31,10 @@ pub fn put_two(
     put_leg(out, comma, target, second)
 }
 
-// Writes the legs of a route to `dest`; none of a refusal.
+// Writes the legs of a route to `dest`.
 pub fn put_route(out: &mut [u8], at: usize, dest: u16, route: Route) -> usize {
     match route {
         Route::Direct(mode) => put_leg(out, at, dest, mode),
         Route::Via(via, first, second) => put_two(out, at, via, first, dest, second),
-        Route::Refused(_) => at,
     }
 }

@@ -1,6 +1,7 @@
 // The operations `run` and `sheetrun`: the new packet of a planned route is given to a list of step and walk calls under the plan's extents and wrap. The
 // route is what planning a pair gives, or what the sheet that planning from the source writes says of the destination.
 use crate::along_route::put_run;
+use choice::Outcome;
 use conform_fields::answers::put_number;
 use conform_fields::answers::unreadable;
 use conform_fields::sheets::PLAN_BYTES;
@@ -21,13 +22,13 @@ use text::put;
 
 // Writes the fields of the run; the field `number` of a refused pair.
 fn run_pair(line: &[u8], plan: &[u8], source: u16, dest: u16, out: &mut [u8], at: usize) -> usize {
-    let route = pair(plan, source, dest).route();
-    let number = route.number();
-    if number != 0 {
-        return put_number(out, at, number);
+    match pair(plan, source, dest) {
+        Outcome::Refused(number) => put_number(out, at, number),
+        Outcome::Given(route, _) => {
+            let packet = Packet::new(source, dest, route);
+            put_run(line, shape_of(plan), packet, out, at, at)
+        }
     }
-    let packet = Packet::new(source, dest, route);
-    put_run(line, shape_of(plan), packet, out, at, at)
 }
 
 // Writes the answer to a line `run plan=.. source=.. destination=.. calls=..`.
@@ -56,16 +57,16 @@ fn run_sheet(
     out: &mut [u8],
     at: usize,
 ) -> usize {
-    let said = route(plan, sheet, dest);
-    let number = said.number();
-    let next = put_number(out, at, number);
-    if number != 0 {
-        return next;
+    match route(plan, sheet, dest) {
+        Outcome::Refused(number) => put_number(out, at, number),
+        Outcome::Given(said, _) => {
+            let number = put_number(out, at, 0);
+            let entry = put_entry(out, number, plan, sheet, dest);
+            let blank = put::byte(out, entry, b' ');
+            let packet = Packet::new(source, dest, said);
+            put_run(line, shape_of(plan), packet, out, at, blank)
+        }
     }
-    let entry = put_entry(out, next, plan, sheet, dest);
-    let blank = put::byte(out, entry, b' ');
-    let packet = Packet::new(source, dest, said);
-    put_run(line, shape_of(plan), packet, out, at, blank)
 }
 
 // Writes the sheet into `lent`, then the fields; the field `number` of a refused sheet.

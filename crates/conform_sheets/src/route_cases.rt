@@ -1,16 +1,16 @@
 // The operations `lookup` and `back`: a destination's entry, as a part of the lent sheet, and its route; a route sheet is written back into lent output
 // filled with EE.
+use choice::Outcome;
 use conform_fields::answers::put_number;
 use conform_fields::answers::put_written;
 use conform_fields::answers::unreadable;
-use conform_fields::legs;
+use conform_fields::legs::put_route;
 use conform_fields::nodes::read_destination;
 use conform_fields::sheets::PLAN_BYTES;
 use conform_fields::sheets::ROUTE_BYTES;
 use conform_fields::sheets::read_plan;
 use conform_fields::sheets::read_room;
 use conform_fields::sheets::read_routes;
-use packet::Route;
 use routes::layout::ENTRIES_AT;
 use routes::layout::source_in;
 use routes::lookup::find_entry;
@@ -42,21 +42,22 @@ fn put_part(out: &mut [u8], at: usize, sheet: &[u8], dest: u16, entry: &[u8]) ->
 }
 
 // Writes the field `number`, and of a route the fields `source` and `legs`.
-fn put_route(out: &mut [u8], at: usize, source: u16, dest: u16, route: Route) -> usize {
-    let number = route.number();
-    let next = put_number(out, at, number);
-    if number != 0 {
-        return next;
+fn put_outcome(out: &mut [u8], at: usize, source: u16, dest: u16, outcome: Outcome) -> usize {
+    match outcome {
+        Outcome::Refused(number) => put_number(out, at, number),
+        Outcome::Given(route, _) => {
+            let number = put_number(out, at, 0);
+            let end = field::put_number(out, number, b" source=", source as u64);
+            let key = put::bytes(out, end, b" legs=");
+            put_route(out, key, dest, route)
+        }
     }
-    let end = field::put_number(out, next, b" source=", source as u64);
-    let key = put::bytes(out, end, b" legs=");
-    legs::put_route(out, key, dest, route)
 }
 
 fn put_lookup(out: &mut [u8], at: usize, plan: &[u8], sheet: &[u8], dest: u16) -> usize {
     let end = put_part(out, at, sheet, dest, lookup(plan, sheet, dest));
     let next = put::byte(out, end, b' ');
-    put_route(out, next, source_in(sheet), dest, route(plan, sheet, dest))
+    put_outcome(out, next, source_in(sheet), dest, route(plan, sheet, dest))
 }
 
 // Writes the answer to a line `lookup plan=.. sheet=.. destination=..`.

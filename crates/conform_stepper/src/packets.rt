@@ -1,12 +1,14 @@
 // Packets as text: `node;target:mode,target:mode`.
 use conform_fields::answers::put_number;
 use conform_fields::legs::put_leg;
-use conform_fields::legs::put_two;
+use conform_fields::lists::put_comma;
 use conform_fields::shapes::ShapeField;
 use conform_fields::shapes::read_shape;
 use machine::leg::Leg;
 use machine::leg::Mode;
 use packet::Packet;
+use packet::packet::Legs;
+use packet::packet::MOST_LEGS;
 use shape::Shape;
 use text::decimal;
 use text::decimal::Word;
@@ -67,25 +69,30 @@ fn leg(s: &[u8]) -> LegField {
 
 // A packet with no legs.
 fn resting(node: u16) -> Packet {
-    Packet {
-        node: node,
-        legs: [Leg {
-            target: 0,
-            mode: Mode::Adaptive,
-        }; 2],
-        left: 0,
-    }
+    let leg = Leg {
+        target: 0,
+        mode: Mode::Adaptive,
+    };
+    Packet::with(node, [leg; MOST_LEGS], 0)
 }
 
-// The packet with one more leg behind those that it has. Of more than two legs it keeps the count, which the stepper declines.
-fn with_leg(packet: Packet, leg: Leg) -> Packet {
-    let legs = packet.legs;
-    let left = packet.left;
-    Packet {
-        node: packet.node,
-        legs: [legs[1], leg],
-        left: if left < 255 { left + 1 } else { left },
+// The legs, each a place nearer to the front, and one more behind them.
+fn moved_up(legs: Legs, leg: Leg) -> Legs {
+    let mut next = legs;
+    let mut i = 1;
+    while i < MOST_LEGS {
+        next[i - 1] = legs[i];
+        i += 1;
     }
+    next[MOST_LEGS - 1] = leg;
+    next
+}
+
+// The packet with one more leg behind those that it has. Of more legs than it can hold it keeps the count, which the stepper declines.
+fn with_leg(packet: Packet, leg: Leg) -> Packet {
+    let left = packet.left;
+    let legs = moved_up(packet.legs, leg);
+    Packet::with(packet.node, legs, if left < 255 { left + 1 } else { left })
 }
 
 fn readable(packet: Packet) -> PacketField {
@@ -159,24 +166,35 @@ pub(crate) fn read_case(line: &[u8]) -> Case {
     }
 }
 
-// Writes the legs left of a packet, of which there are at most two.
-pub fn put_legs(out: &mut [u8], at: usize, packet: Packet) -> usize {
-    let legs = packet.legs;
-    let left = packet.left;
-    let first = legs[0];
-    let last = legs[1];
-    let first_mode = first.mode;
-    let last_mode = last.mode;
-    if left == 0 {
-        return at;
-    }
-    if left == 1 {
-        return put_leg(out, at, last.target, last_mode);
-    }
-    put_two(out, at, first.target, first_mode, last.target, last_mode)
+fn put_next(out: &mut [u8], at: usize, first: bool, leg: Leg) -> usize {
+    let start = put_comma(out, at, first);
+    let mode = leg.mode;
+    put_leg(out, start, leg.target, mode)
 }
 
-// Writes a packet of at most two legs.
+// Where the legs left begin; at the front where they are more than a packet can hold.
+fn first_left(left: usize) -> usize {
+    if left < MOST_LEGS {
+        MOST_LEGS - left
+    } else {
+        0
+    }
+}
+
+// Writes the legs left of a packet, as many as it can hold.
+pub fn put_legs(out: &mut [u8], at: usize, packet: Packet) -> usize {
+    let legs = packet.legs;
+    let first = first_left(packet.left as usize);
+    let mut next = at;
+    let mut i = first;
+    while i < MOST_LEGS {
+        next = put_next(out, next, i == first, legs[i]);
+        i += 1;
+    }
+    next
+}
+
+// Writes a packet.
 pub fn put_packet(out: &mut [u8], at: usize, packet: Packet) -> usize {
     let node = decimal::put(out, at, packet.node as u64);
     let next = put::byte(out, node, b';');
@@ -185,7 +203,7 @@ pub fn put_packet(out: &mut [u8], at: usize, packet: Packet) -> usize {
 
 // Writes a packet. One with more legs than a packet can hold is written as it was given, in `text`.
 fn put_any(out: &mut [u8], at: usize, packet: Packet, text: &[u8]) -> usize {
-    if 2 < packet.left {
+    if MOST_LEGS < packet.left as usize {
         return put::bytes(out, at, text);
     }
     put_packet(out, at, packet)
