@@ -18,14 +18,7 @@ pub fn put_leg(out: &mut [u8], at: usize, target: u16, mode: Mode) -> usize {
 }
 
 // Writes two legs.
-pub fn put_two(
-    out: &mut [u8],
-    at: usize,
-    via: u16,
-    first: Mode,
-    target: u16,
-    second: Mode,
-) -> usize {
+fn put_two(out: &mut [u8], at: usize, via: u16, first: Mode, target: u16, second: Mode) -> usize {
     let leg = put_leg(out, at, via, first);
     let comma = put::byte(out, leg, b',');
     put_leg(out, comma, target, second)
