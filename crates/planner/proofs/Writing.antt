@@ -39,11 +39,11 @@ use Rattle.routes.specs.Writing.{sheetBytes, routeEntries, sheetOf, writeError}
 use Rattle.routes.proofs.Saying.{heard-told}
 use Rattle.planner.specs.declared.outcome.Outcome.{Outcome}
 use Rattle.planner.specs.Outcome.{told, routeFrom}
-use Rattle.planner.specs.Dest.{outcomeTo}
+use Rattle.planner.specs.OneDestination.{outcomeTo}
 use Rattle.planner.specs.Sheet.{sourceError, saidOf, lists, entriesFrom, plannedSheet}
 use Rattle.planner.specs.Steps.{isListed, pickEntry, counted, lastAt}
 use Rattle.planner.proofs.Planned.{nodes-most}
-use Rattle.planner.proofs.Dests.{Ready, dest-planned}
+use Rattle.planner.proofs.OneDestination.{Ready, dest-planned}
 use Rattle.planner.proofs.Planning.{Source, source-of, self-unlisted, sheet-accepted}
 
 -- ---- the checks
