@@ -7,6 +7,7 @@ use mathlib.Core.List.{List, [], _∷_}
 use lib.ListN.{length}
 use lib.Dec.{ltb, leb}
 use borrow.Author.Tests.{le-ltb, lt-leb, ltb-false, leb-false}
+use Rattle.numbers.specs.Numbers.{wrongPacket}
 use Rattle.theory.specs.Checks.{declined, _then_}
 use Rattle.theory.specs.Machine.{Inside, dropped}
 use Rattle.theory.specs.Packet.{PacketLaws}
@@ -20,7 +21,7 @@ use Rattle.machine.specs.Number.{nodeCount}
 use Rattle.machine.specs.Hop.{neighbour}
 use Rattle.machine.specs.Torus.{torus}
 use Rattle.packet.specs.declared.packet.Packet.{Packet}
-use Rattle.packet.specs.Packet.{mostLegs, lastOf, legsLeft, anyOutside, badPacket, packetError, hopped, stored, WellStored}
+use Rattle.packet.specs.Packet.{mostLegs, lastOf, legsLeft, outside, badPacket, packetError, hopped, stored, WellStored}
 use Rattle.packet.specs.Steps.{Fine}
 
 -- ---- the last of an array
@@ -46,13 +47,13 @@ pub last-dropped : (a : List Leg) (n p : ℕ) (ls : List Leg) → Last a n ls �
 last-dropped a n p ls h = dropped-keeps (λ l. l .target) p (Last a n) (λ l ls _. last-next a n l ls) ls h
 
 -- ---- 14
-inside-none : (s : Shape) (ls : List Leg) → Inside (torus s) ls → anyOutside s ls ≡ false
-unfolding anyOutside
+inside-none : (s : Shape) (ls : List Leg) → Inside (torus s) ls → outside (nodeCount s) ls ≡ false
+unfolding outside
 inside-none s [] i = refl
 inside-none s (l ∷ ls) i = rw (lt-leb (nodeCount s) (l .target) (i .0)) (inside-none s ls (i .1))
 
-none-inside : (s : Shape) (ls : List Leg) → anyOutside s ls ≡ false → Inside (torus s) ls
-unfolding anyOutside
+none-inside : (s : Shape) (ls : List Leg) → outside (nodeCount s) ls ≡ false → Inside (torus s) ls
+unfolding outside
 none-inside s [] e = tt
 none-inside s (l ∷ ls) e =
     let both = or-false (leb (nodeCount s) (l .target)) _ e in
@@ -67,7 +68,7 @@ pub fine-of : (s : Shape) (q : Packet) → packetError s q ≡ 0 → Fine s q
 unfolding packetError badPacket
 fine-of s q e =
     let six = then-zero (shapeError s) _ e in
-    let bad = declined-zero (badPacket s q) 13 (then-zero (declined (badPacket s q) 14) 0 (six .1) .0) in
+    let bad = declined-zero (badPacket s q) _ (then-zero (declined (badPacket s q) wrongPacket) 0 (six .1) .0) in
     let a = or-false (ltb mostLegs (q .left)) _ bad in
     let b = or-false (leb (nodeCount s) (q .node)) _ (a .1) in
     record { sound = six .0; few = ltb-false _ _ (a .0); node = leb-false _ _ (b .0); legs = none-inside s (legsLeft q) (b .1) }

@@ -1,5 +1,6 @@
 pub mod Packet
 pub mod New
 pub mod Answers
+-- The code's own steps; no other crate cites them.
 pub mod Steps
 pub mod Course

@@ -14,12 +14,12 @@ legsTo D (Route.Direct m) = leg D m ∷ []
 legsTo D (Route.Via v m n) = leg v m ∷ leg D n ∷ []
 
 -- An array that ends in these legs; before them it holds the first of them.
-abbrev pub frontOr : List Leg → Leg
-frontOr [] = noLeg
-frontOr (l ∷ ls) = l
+abbrev pub firstOr : List Leg → Leg
+firstOr [] = noLeg
+firstOr (l ∷ ls) = l
 
 abbrev pub arrayWith : List Leg → List Leg
-arrayWith ls = replicate (mostLegs - length ls) (frontOr ls) ++ ls
+arrayWith ls = replicate (mostLegs - length ls) (firstOr ls) ++ ls
 
 -- A new packet is at the source S of its route with all the route's legs left.
 unfoldable pub newPacket : ℕ → List Leg → Packet

@@ -4,6 +4,7 @@ use mathlib.Core.Bool.{Bool, false, _||_}
 use mathlib.Core.List.{List, [], _∷_}
 use lib.ListN.{length, getD}
 use lib.Dec.{ltb, leb}
+use Rattle.numbers.specs.Numbers.{wrongPacket}
 use Rattle.theory.specs.Checks.{declined, _then_}
 use Rattle.theory.specs.Machine.{dropped}
 use Rattle.theory.specs.Packet.{Packets}
@@ -19,7 +20,7 @@ use Rattle.packet.specs.declared.packet.Packet.{Packet}
 abbrev pub mostLegs : ℕ
 mostLegs = 2
 
--- The last n of an array of two, as the code reads them: past an array's end stands a leg of zeros.
+-- The last n of an array of that many, as the code reads them: past an array's end stands a leg of zeros.
 abbrev pub noLeg : Leg
 noLeg = record { target = 0; mode = Adaptive }
 
@@ -31,17 +32,21 @@ lastOf a (suc n) = getD a (mostLegs - suc n) noLeg ∷ lastOf a n
 abbrev pub legsLeft : Packet → List Leg
 legsLeft q = lastOf (q .legs) (q .left)
 
--- Packet naming a node outside the shape, or with over two legs.
-unfoldable pub anyOutside : Shape → List Leg → Bool
-anyOutside s [] = false
-anyOutside s (l ∷ ls) = leb (nodeCount s) (l .target) || anyOutside s ls
+-- A packet by its fields.
+unfoldable pub packetWith : ℕ → List Leg → ℕ → Packet
+packetWith n a k = record { node = n; legs = a; left = k }
+
+-- Packet naming a node outside the shape, or with over two legs. `count`: how many nodes there are.
+unfoldable pub outside : ℕ → List Leg → Bool
+outside count [] = false
+outside count (l ∷ ls) = leb count (l .target) || outside count ls
 
 unfoldable pub badPacket : Shape → Packet → Bool
-badPacket s q = ltb mostLegs (q .left) || (leb (nodeCount s) (q .node) || anyOutside s (legsLeft q))
+badPacket s q = ltb mostLegs (q .left) || (leb (nodeCount s) (q .node) || outside (nodeCount s) (legsLeft q))
 
 -- Step and walk check 5, 6, 14.
 unfoldable pub packetError : Shape → Packet → ℕ
-packetError s q = shapeError s then declined (badPacket s q) 14 then 0
+packetError s q = shapeError s then declined (badPacket s q) wrongPacket then 0
 
 -- Only a hop stores the drops, before it and again after it.
 unfoldable pub hopped : Shape → Packet → ℕ → Packet

@@ -21,16 +21,13 @@ legAt q i = getD (q .legs) i noLeg
 abbrev pub frontOf : Packet → Leg
 frontOf q = legAt q (mostLegs - q .left)
 
-unfoldable pub dropOne : Packet → Packet
-dropOne q = cond (ltb 0 (q .left) && eqb (frontOf q .target) (q .node)) (record { node = q .node; legs = q .legs; left = q .left - 1 }) q
+-- A leg is left, and the front leg's target is the present node.
+unfoldable pub endsHere : Packet → Bool
+endsHere q = ltb 0 (q .left) && eqb (frontOf q .target) (q .node)
 
 -- The packet with the drops stored.
 unfoldable pub settled : Packet → Packet
 settled q = record { node = q .node; legs = q .legs; left = length (dropped (λ l. l .target) (q .node) (legsLeft q)) }
-
--- Leg i is left and names no node below count.
-abbrev pub legOutside : ℕ → Packet → ℕ → Bool
-legOutside count q i = cond (ltb i (mostLegs - q .left)) false (leb count (legAt q i .target))
 
 -- A packet that neither 5, 6 nor 14 declines.
 pub record Fine (s : Shape) (q : Packet) : Type 0 where

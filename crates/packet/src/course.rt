@@ -1,5 +1,6 @@
 // A packet on its way, as a walk carries it: the drops stored, its front leg at hand, and the coordinates of its node and of that leg's target beside
 // them, so that they are not worked out at each hop.
+use crate::packet::Legs;
 use crate::packet::Packet;
 use machine::hop::allowed_at;
 use machine::hop::moved_at;
@@ -73,7 +74,7 @@ impl Course {
         }
     }
 
-    pub fn packet(self, legs: [Leg; 2]) -> Packet
+    pub fn packet(self, legs: Legs) -> Packet
         ensures { λ r. ⌜ r ≡ packetOf legs self ⌝ }
     {
         Packet {
@@ -84,7 +85,7 @@ impl Course {
     }
 
     // With no leg left no direction is allowed.
-    pub fn allows(self, shape: Shape, legs: [Leg; 2], dir: u8) -> bool
+    pub fn allows(self, shape: Shape, legs: Legs, dir: u8) -> bool
         requires { ⌜ On shape legs self ⌝ }
         ensures { λ r. ⌜ r ≡ allows (torus shape) (self .node) (legsLeft (packetOf legs self)) dir ⌝ }
     {
@@ -99,7 +100,7 @@ impl Course {
     }
 
     // One hop, with the drops after it stored.
-    pub fn hop(self, shape: Shape, legs: [Leg; 2], dir: u8) -> Course
+    pub fn hop(self, shape: Shape, legs: Legs, dir: u8) -> Course
         requires { ⌜ On shape legs self ⌝ }
         requires { ⌜ 0 < self .left ⌝ }
         ensures { λ r. ⌜ r ≡ courseOf shape (settled (moved shape (packetOf legs self) dir)) ⌝ }

@@ -1,9 +1,11 @@
 // The packet and its stepper: with `machine`, what a board links.
 mod course;
-pub mod packet;
-pub mod route;
-pub mod stepper;
+mod packet;
+mod route;
+mod stepper;
 
+pub use packet::Legs;
+pub use packet::MOST_LEGS;
 pub use packet::Packet;
 pub use route::Route;
 pub use stepper::Answer;

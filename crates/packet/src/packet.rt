@@ -3,21 +3,38 @@ use logic::either;
 use logic::pick;
 use machine::leg::Leg;
 use machine::node::count;
+use numbers::WRONG_PACKET;
 use shape::Shape;
 use shape::shape::shape_error;
 ghost use mathlib.Core.Path.{_≡_};
 ghost use Prim.Native.Nat.{_-_, _≤_, _<_};
-ghost use Rattle.packet.specs.Packet.{mostLegs, packetError};
-ghost use Rattle.packet.specs.Steps.{legAt, frontOf, dropOne, settled, legOutside};
+ghost use Rattle.packet.specs.Packet.{mostLegs, legsLeft, outside, packetError, packetWith};
+ghost use Rattle.packet.specs.Steps.{legAt, frontOf, endsHere, settled};
+
+// The legs left, at most two.
+pub const MOST_LEGS: usize = 2;
+
+pub type Legs = [Leg; MOST_LEGS];
 
 // The legs left are the last `left` of `legs`; the front leg is the first of those.
 pub struct Packet {
     pub node: u16,
-    pub legs: [Leg; 2],
+    pub legs: Legs,
     pub left: u8,
 }
 
 impl Packet {
+    // Any packet, by its fields.
+    pub fn with(node: u16, legs: Legs, left: u8) -> Packet
+        ensures { λ r. ⌜ r ≡ packetWith node legs left ⌝ }
+    {
+        Packet {
+            node: node,
+            legs: legs,
+            left: left,
+        }
+    }
+
     fn leg(self, i: usize) -> Leg
         requires { ⌜ i < mostLegs ⌝ }
         ensures { λ r. ⌜ r ≡ legAt self i ⌝ }
@@ -31,48 +48,47 @@ impl Packet {
         ensures { λ r. ⌜ r ≡ frontOf self ⌝ }
     {
         let left = self.left as usize;
-        self.leg(2 - left)
+        self.leg(MOST_LEGS - left)
     }
 
-    // The front leg is dropped if its target is the present node.
-    fn drop_one(self) -> Packet
+    // A leg is left, and the front leg's target is the present node.
+    fn ends_here(self) -> bool
         requires { ⌜ self .left ≤ mostLegs ⌝ }
-        ensures { λ r. ⌜ r ≡ dropOne self ⌝ }
-        ensures { λ r. ⌜ r .left ≤ mostLegs ⌝ }
+        ensures { λ r. ⌜ r ≡ endsHere self ⌝ }
     {
         if self.left == 0 {
-            return self;
+            return false;
         }
         let leg = self.front();
-        if leg.target == self.node {
-            let mut next = self;
-            next.left = self.left - 1;
-            next
-        } else {
-            self
-        }
+        leg.target == self.node
     }
 
-    // The packet with the drops stored: at most two.
+    // The packet with the drops stored.
     pub(crate) fn drop_all(self) -> Packet
         requires { ⌜ self .left ≤ mostLegs ⌝ }
         ensures { λ r. ⌜ r ≡ settled self ⌝ }
     {
-        self.drop_one().drop_one()
+        let mut next = self;
+        while next.ends_here() {
+            next.left = next.left - 1;
+        }
+        next
     }
 
-    // Leg i is left and names a node outside the shape.
-    fn leg_outside(self, count: u16, i: usize) -> bool
-        requires { ⌜ (self .left ≤ mostLegs) × (i < mostLegs) ⌝ }
-        ensures { λ r. ⌜ r ≡ legOutside count self i ⌝ }
+    // A leg that is left names a node outside the shape.
+    fn leg_outside(self, count: u16) -> bool
+        requires { ⌜ self .left ≤ mostLegs ⌝ }
+        ensures { λ r. ⌜ r ≡ outside count (legsLeft self) ⌝ }
     {
         let left = self.left as usize;
-        let leg = self.leg(i);
-        if i < 2 - left {
-            false
-        } else {
-            count <= leg.target
+        let mut bad = false;
+        let mut judged: usize = 0;
+        while judged < left {
+            judged = judged + 1;
+            let leg = self.leg(MOST_LEGS - judged);
+            bad = either(count <= leg.target, bad);
         }
+        bad
     }
 
     // Check 5, 6, then 14; 0 where none declines.
@@ -83,11 +99,14 @@ impl Packet {
         if error != 0 {
             return error;
         }
-        if 2 < self.left {
-            return 14;
+        if MOST_LEGS < self.left as usize {
+            return WRONG_PACKET;
         }
         let nodes = count(shape);
-        let legs = either(self.leg_outside(nodes, 0), self.leg_outside(nodes, 1));
-        pick(either(nodes <= self.node, legs), 14, 0)
+        pick(
+            either(nodes <= self.node, self.leg_outside(nodes)),
+            WRONG_PACKET,
+            0,
+        )
     }
 }

@@ -1,4 +1,5 @@
 // A route, and the new packet of it.
+use crate::packet::MOST_LEGS;
 use crate::packet::Packet;
 use machine::leg::Leg;
 use machine::leg::Mode;
@@ -24,7 +25,7 @@ impl Packet {
                 };
                 Packet {
                     node: source,
-                    legs: [leg, leg],
+                    legs: [leg; MOST_LEGS],
                     left: 1,
                 }
             }
@@ -37,9 +38,11 @@ impl Packet {
                     target: dest,
                     mode: second,
                 };
+                let mut legs = [front; MOST_LEGS];
+                legs[MOST_LEGS - 1] = last;
                 Packet {
                     node: source,
-                    legs: [front, last],
+                    legs: legs,
                     left: 2,
                 }
             }

@@ -1,6 +1,7 @@
 // The step and the walk.
 use crate::course::Course;
 use crate::packet::Packet;
+use numbers::NOT_ALLOWED;
 use shape::Shape;
 ghost use mathlib.Core.Path.{_≡_};
 ghost use Prim.Native.Nat.{_≤_};
@@ -48,7 +49,7 @@ impl Ending {
     {
         match self {
             Ending::Arrived => 0,
-            Ending::NotAllowed => 15,
+            Ending::NotAllowed => NOT_ALLOWED,
             Ending::UsedUp => 0,
             Ending::Refused(number) => number,
         }
@@ -131,7 +132,7 @@ impl Packet {
         if !way.allows(shape, legs, dir) {
             return Stepped {
                 packet: self,
-                answer: Answer::Refused(15),
+                answer: Answer::Refused(NOT_ALLOWED),
             };
         }
         let next = way.hop(shape, legs, dir);

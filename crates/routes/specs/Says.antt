@@ -5,6 +5,7 @@ use mathlib.Core.List.{List, [], _∷_}
 use lib.Dec.{eqb}
 use Rattle.machine.specs.declared.leg.Mode.the-variants.{Adaptive}
 use Rattle.choice.specs.Choice.{Direct}
+use Rattle.plan.specs.Checks.{Limits}
 use Rattle.routes.specs.declared.layout.Entry.{Entry}
 use Rattle.routes.specs.Layout.{entriesOf}
 use Rattle.routes.specs.Said.{Said, Says, Refused, saidBy}
@@ -20,5 +21,5 @@ unfoldable pub answered : ℕ → Said → Said
 answered zero a = a
 answered (suc e) a = Refused (suc e)
 
-unfoldable pub says : List ℕ → List ℕ → ℕ → Said
-says p s d = answered (lookupError p s d) (saysOf (entriesOf s) d)
+unfoldable pub says : Limits → List ℕ → List ℕ → ℕ → Said
+says L p s d = answered (lookupError L p s d) (saysOf (entriesOf s) d)

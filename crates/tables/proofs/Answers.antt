@@ -15,7 +15,7 @@ use Rattle.shape.specs.declared.shape.Coords.{Coords}
 use Rattle.shape.specs.declared.shape.Dim.{Dim}
 use Rattle.shape.specs.Shape.{shapeError}
 use Rattle.machine.specs.Number.{nodeCount, coordsOf, Inside}
-use Rattle.machine.specs.Hop.{neighbour, useful}
+use Rattle.machine.specs.Hop.{dirOf, neighbour, useful}
 use Rattle.machine.specs.Node.{isNode, arePair, countAnswer, coordsAnswer}
 use Rattle.machine.proofs.Numbers.{inside}
 use Rattle.machine.proofs.ByCoords.{neighbour-below}
@@ -29,7 +29,7 @@ use Rattle.tables.specs.Places.{Limits, within}
 use Rattle.tables.specs.Around.{aroundIn}
 use Rattle.tables.specs.Judge.{judged}
 use Rattle.tables.proofs.Visits.{In, inside-ranked, visit-before, in-before}
-use Rattle.tables.proofs.Neighbours.{dirOf, byteOf, number-here, byte-of}
+use Rattle.tables.proofs.Neighbours.{byteOf, number-here, byte-of}
 use Rattle.tables.proofs.Filling.{Visiting, Filling, ended}
 use Rattle.tables.proofs.Judging.{judged-entry}
 use Rattle.tables.proofs.LastJudging.{judged-last}

@@ -16,11 +16,11 @@ use Rattle.shape.specs.declared.shape.Dim.the-variants.{X, Y, Z}
 use Rattle.shape.specs.Shape.{shapeError, badExtents, badWraps, extentOf, coordOf}
 use Rattle.shape.proofs.Shapes.{sound}
 use Rattle.machine.specs.Number.{nodeCount, coordsOf, Inside}
-use Rattle.machine.specs.Hop.{distance, link, neighbour, useful, firstDirection}
+use Rattle.machine.specs.Hop.{distance, neighbour, useful, rule, firstDirection}
 use Rattle.machine.specs.Node.{isNode, arePair}
 use Rattle.machine.proofs.Numbers.{inside}
 use Rattle.machine.proofs.ByCoords.{inside-at, neighbour-below}
-use Rattle.machine.proofs.Laws.{useful-link, useful-lowers, distance-zero, distance-self, distance-step, first-useful, triangle}
+use Rattle.machine.proofs.Laws.{useful-of, useful-link, useful-lowers, distance-zero, distance-self, distance-step, first-useful, triangle}
 use Rattle.machine.proofs.Nodes.{Node, from-of, to-of}
 use Rattle.tables.specs.Entry.{entry, towardAnswer}
 use Rattle.tables.specs.declared.fill.Legs.the-variants.{Toward}
@@ -45,10 +45,6 @@ pub limits-is :
     _≡_ {A = Shape} (record { x = x + 1; y = y + 1; z = z + 1; wrap = 0 }) (limitsOf s t S)
 unfolding limitsOf
 limits-is s t S ct cS x y z et eS ex ey ez = rw (ex, ey, ez, et, eS)
-
-useful-by : (s : Shape) (n t dir : ℕ) → link s n dir ≡ true → distance s (neighbour s n dir) t + 1 ≡ distance s n t → useful s n t dir ≡ true
-unfolding useful
-useful-by s n t dir l e = rw (l, eq-eqb (distance s (neighbour s n dir) t + 1) (distance s n t) e)
 
 module _ (s : Shape) (t S : ℕ) (p : arePair s S t ≡ true) where
   source : Node s S
@@ -85,14 +81,14 @@ module _ (s : Shape) (t S : ℕ) (p : arePair s S t ≡ true) where
   way-in (suc k) m n i hn e q =
       let h = source .sound in
       let ne : m ≡ n → ⊥ = λ z. omega (arith, ap (λ j. distance s j n) z, distance-self s n) in
-      let dir = firstDirection s m n in
-      let u = first-useful s h m n (i .below) hn ne in
+      let dir = firstDirection rule s m n in
+      let u = first-useful s h m n (i .below) hn rule ne in
       let l = useful-link s m n dir u in
       let less = useful-lowers s m n dir u in
       let hm = neighbour-below s h m (i .below) dir in
       let step = distance-step s h m dir (i .below) l t (target .below) in
       let round = triangle s h k (neighbour s m dir) n t hm hn (target .below) (omega arith) in
-      let useful-too : useful s m t dir ≡ true = useful-by s m t dir l (omega arith) in
+      let useful-too : useful s m t dir ≡ true = useful-of s m t dir l (omega arith) in
       way-in k (neighbour s m dir) n (in-before s h t (target .below) (limitsOf s t S) near-limits m i dir useful-too) hn (omega arith) (omega arith)
 
   within-of : (n : ℕ) → In s (limitsOf s t S) t n → within s (limitsOf s t S) t n ≡ true

@@ -6,7 +6,7 @@ use mathlib.Core.Path.{_≡_, refl, sym, ap, _∙_}
 use native.Mathlib.Omega.{arith}
 use lib.ListN.{getD}
 use lib.Dec.{leb, eqb}
-use borrow.Author.Tests.{eq-eqb, eqb-false}
+use borrow.Author.Tests.{eqb-false}
 use Rattle.theory.specs.Clear.{every}
 use Rattle.theory.proofs.Bools.{eqb-same}
 use Rattle.theory.proofs.Cases.{test}
@@ -15,12 +15,12 @@ use Rattle.shape.specs.declared.shape.Shape.{Shape}
 use Rattle.shape.specs.declared.shape.Coords.{Coords}
 use Rattle.shape.specs.declared.shape.Dim.{Dim}
 use Rattle.shape.specs.declared.shape.Dim.the-variants.{X, Y, Z}
-use Rattle.shape.specs.Shape.{shapeError, extentOf, wrappedIn, coordOf, put}
+use Rattle.shape.specs.Shape.{shapeError, extentOf, wrappedIn}
 use Rattle.shape.proofs.AxisLaws.{axis-zero, axis-self}
 use Rattle.machine.specs.declared.leg.Mode.the-variants.{Adaptive, Deterministic}
 use Rattle.machine.specs.Number.{nodeCount, coordsOf}
-use Rattle.machine.specs.Hop.{dirPlus, plusDir, minusDir, along, same, part, distance, neighbour, useful, firstDirection}
-use Rattle.machine.specs.ByCoords.{usefulAlong, towardAt, firstAt}
+use Rattle.machine.specs.Hop.{plusDir, minusDir, dirOf, along, same, part, distance, neighbour, useful, rule, firstDirection}
+use Rattle.machine.specs.ByCoords.{goesAlong, towardAt, firstAt}
 use Rattle.machine.specs.Torus.{leg, torus, allowedBy}
 use Rattle.machine.proofs.Numbers.{inside}
 use Rattle.machine.proofs.ByCoords.{inside-at, plus-of, minus-of, first-at}
@@ -30,10 +30,10 @@ use Rattle.tables.specs.declared.place.Place.{Place}
 use Rattle.tables.specs.declared.around.Around.{Around}
 use Rattle.tables.specs.Entry.{soundBit, soundBy, clearFrom, entry}
 use Rattle.tables.specs.Flags.{adaptiveIn, deterministicIn}
-use Rattle.tables.specs.Places.{goesPlus, placeOf}
+use Rattle.tables.specs.Places.{placeOf}
 use Rattle.tables.specs.Judge.{adaptiveAlong, deterministicAlong, judgedAdaptive, judgedDeterministic, judged}
 use Rattle.tables.proofs.Entries.{entry-adaptive, entry-deterministic}
-use Rattle.tables.proofs.Neighbours.{dirOf, byteOf}
+use Rattle.tables.proofs.Neighbours.{byteOf}
 
 -- ---- on tests
 and-right : (b : Bool) → (b && true) ≡ b
@@ -99,41 +99,19 @@ minus-bit mask Z = ap (λ k. eqb (k % 2) 0) (more mask)
 
 -- ---- the direction of a deterministic leg, of two coordinates that differ
 module _ (s : Shape) (c t : Coords) where
-  -- It is one of the dimension's two directions.
-  way-of : (d : Dim) (a b : Bool) (w : ℕ) → w ≡ cond (a && b) (plusDir d) (cond a (plusDir d) (minusDir d)) → w ≡ dirOf d (dirPlus w)
-  way-of X true true w e = rw e
-  way-of X true false w e = rw e
-  way-of X false b w e = rw e
-  way-of Y true true w e = rw e
-  way-of Y true false w e = rw e
-  way-of Y false b w e = rw e
-  way-of Z true true w e = rw e
-  way-of Z true false w e = rw e
-  way-of Z false b w e = rw e
-
-  -- Only that dimension counts.
-  first-alone : (d : Dim) → eqb (coordOf c d) (coordOf t d) ≡ false → firstAt s (put t d (coordOf c d)) t ≡ towardAt s c t d
-  unfolding firstAt
-  first-alone X e = rw e
-  first-alone Y e = rw (eq-eqb (t .x) (t .x) refl, e)
-  first-alone Z e = rw (eq-eqb (t .x) (t .x) refl, eq-eqb (t .y) (t .y) refl, e)
-
-  toward-is : (d : Dim) → eqb (coordOf c d) (coordOf t d) ≡ false → towardAt s c t d ≡ dirOf d (goesPlus s (put t d (coordOf c d)) t)
-  toward-is d e = way-of d (usefulAlong s c t d true) (usefulAlong s c t d false) (towardAt s c t d) refl ∙ rw (first-alone d e)
-
-  first-x : eqb (c .x) (t .x) ≡ false → firstAt s c t ≡ towardAt s c t X
+  first-x : eqb (c .x) (t .x) ≡ false → firstAt rule s c t ≡ towardAt rule s c t X
   unfolding firstAt
   first-x e = rw e
 
-  first-y : eqb (c .x) (t .x) ≡ true → eqb (c .y) (t .y) ≡ false → firstAt s c t ≡ towardAt s c t Y
+  first-y : eqb (c .x) (t .x) ≡ true → eqb (c .y) (t .y) ≡ false → firstAt rule s c t ≡ towardAt rule s c t Y
   unfolding firstAt
   first-y e f = rw (e, f)
 
-  first-z : eqb (c .x) (t .x) ≡ true → eqb (c .y) (t .y) ≡ true → eqb (c .z) (t .z) ≡ false → firstAt s c t ≡ towardAt s c t Z
+  first-z : eqb (c .x) (t .x) ≡ true → eqb (c .y) (t .y) ≡ true → eqb (c .z) (t .z) ≡ false → firstAt rule s c t ≡ towardAt rule s c t Z
   unfolding firstAt
   first-z e f g = rw (e, f, g)
 
-  first-none : eqb (c .x) (t .x) ≡ true → eqb (c .y) (t .y) ≡ true → eqb (c .z) (t .z) ≡ true → firstAt s c t ≡ 6
+  first-none : eqb (c .x) (t .x) ≡ true → eqb (c .y) (t .y) ≡ true → eqb (c .z) (t .z) ≡ true → firstAt rule s c t ≡ 6
   unfolding firstAt
   first-none e f g = rw (e, f, g)
 
@@ -178,15 +156,15 @@ module _ (s : Shape) (h : shapeError s ≡ 0) (masks : List ℕ) (t : ℕ) (ht :
   unfolding allowedBy
   adaptive-ahead = clear-ahead (torus s) (torus-laws s h) snd (leg t Adaptive) ht n hn
 
-  deterministic-ahead : clearFrom s snd Deterministic n t ≡ every 6 (λ d. cond (leb d 5 && eqb d (firstDirection s n t)) (Sole d) true)
+  deterministic-ahead : clearFrom s snd Deterministic n t ≡ every 6 (λ d. cond (leb d 5 && eqb d (firstDirection rule s n t)) (Sole d) true)
   unfolding allowedBy
   deterministic-ahead = clear-ahead (torus s) (torus-laws s h) snd (leg t Deterministic) ht n hn
 
-  deterministic-none : firstDirection s n t ≡ 6 → clearFrom s snd Deterministic n t ≡ true
+  deterministic-none : firstDirection rule s n t ≡ 6 → clearFrom s snd Deterministic n t ≡ true
   deterministic-none e = deterministic-ahead ∙ rw e (every-none Sole)
 
-  deterministic-one : firstDirection s n t < 6 → clearFrom s snd Deterministic n t ≡ Sole (firstDirection s n t)
-  deterministic-one l = deterministic-ahead ∙ every-one (firstDirection s n t) Sole l
+  deterministic-one : firstDirection rule s n t < 6 → clearFrom s snd Deterministic n t ≡ Sole (firstDirection rule s n t)
+  deterministic-one l = deterministic-ahead ∙ every-one (firstDirection rule s n t) Sole l
 
   -- ---- the bytes around n are the entries where a hop is useful
   module _ (e : Around) (ahead : (d : Dim) (plus : Bool) → useful s n t (dirOf d plus) ≡ true → byteOf e d plus ≡ entry s snd (neighbour s n (dirOf d plus)) t) where
@@ -214,21 +192,18 @@ module _ (s : Shape) (h : shapeError s ≡ 0) (masks : List ℕ) (t : ℕ) (ht :
         (shuffle (Free 5) (Free 4) (Free 3) (Free 2) (Free 1) (Free 0) ∙ sym (every-six Free) ∙ sym adaptive-ahead)
 
     -- Along the dimension of the deterministic direction.
-    deterministic-along : (d : Dim) → same s n t d ≡ false → firstDirection s n t ≡ towardAt s (coordsOf s n) (coordsOf s t) d → deterministicAlong (seen d) (linksOf mask d) (byteOf e d true) (byteOf e d false) ≡ clearFrom s snd Deterministic n t
+    deterministic-along : (d : Dim) → same s n t d ≡ false → firstDirection rule s n t ≡ towardAt rule s (coordsOf s n) (coordsOf s t) d → deterministicAlong (seen d) (linksOf mask d) (byteOf e d true) (byteOf e d false) ≡ clearFrom s snd Deterministic n t
     unfolding deterministicAlong placeOf
     deterministic-along d differ q =
         rw (plus-bit mask d, minus-bit mask d)
-        (test (goesPlus s (put (coordsOf s t) d (along s n d)) (coordsOf s t))
-        (λ b. rw b (one true (f-is ∙ rw b)))
-        (λ b. rw b (one false (f-is ∙ rw b))))
+        (test (goesAlong rule s (coordsOf s n) (coordsOf s t) d)
+        (λ b. rw b (one true (q ∙ rw b)))
+        (λ b. rw b (one false (q ∙ rw b))))
       where
-        f-is : firstDirection s n t ≡ dirOf d (goesPlus s (put (coordsOf s t) d (along s n d)) (coordsOf s t))
-        f-is = q ∙ toward-is s (coordsOf s n) (coordsOf s t) d differ
+        u : useful s n t (firstDirection rule s n t) ≡ true
+        u = first-useful s h n t hn ht rule (λ z. eqb-false _ _ differ (ap (λ k. along s k d) z))
 
-        u : useful s n t (firstDirection s n t) ≡ true
-        u = first-useful s h n t hn ht (λ z. eqb-false _ _ differ (ap (λ k. along s k d) z))
-
-        one : (plus : Bool) → firstDirection s n t ≡ dirOf d plus → (snd n (dirOf d plus) && deterministicIn (byteOf e d plus)) ≡ clearFrom s snd Deterministic n t
+        one : (plus : Bool) → firstDirection rule s n t ≡ dirOf d plus → (snd n (dirOf d plus) && deterministicIn (byteOf e d plus)) ≡ clearFrom s snd Deterministic n t
         one plus r = ap (λ g. snd n (dirOf d plus) && g) (deterministic-byte d plus (rw r at u)) ∙ sym (deterministic-one (useful-named s h n t hn ht _ u) ∙ rw r)
 
     deterministic-is : judgedDeterministic (seen X) (seen Y) (seen Z) mask e ≡ clearFrom s snd Deterministic n t
@@ -236,7 +211,7 @@ module _ (s : Shape) (h : shapeError s ≡ 0) (masks : List ℕ) (t : ℕ) (ht :
     deterministic-is =
         let c = coordsOf s n in
         let g = coordsOf s t in
-        let first = first-at s h n hn t in
+        let first = first-at s h n hn t rule in
         rw (none-is X, none-is Y, none-is Z)
         (test (same s n t X)
         (λ x. test (same s n t Y)

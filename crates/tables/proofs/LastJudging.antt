@@ -5,59 +5,35 @@ use mathlib.Core.List.{List}
 use mathlib.Core.Path.{_≡_, refl, sym, ap, _∙_}
 use lib.ListN.{getD}
 use lib.Dec.{eqb}
-use borrow.Author.Tests.{eq-eqb, ne-eqb, eqb-true, eqb-false}
+use borrow.Author.Tests.{eqb-true, eqb-false}
 use Rattle.theory.proofs.Cases.{test}
 use Rattle.shape.specs.declared.shape.Shape.{Shape}
-use Rattle.shape.specs.declared.shape.Coords.{Coords}
 use Rattle.shape.specs.declared.shape.Dim.{Dim}
 use Rattle.shape.specs.declared.shape.Dim.the-variants.{X, Y, Z}
-use Rattle.shape.specs.Shape.{shapeError, coordOf, put}
+use Rattle.shape.specs.Shape.{shapeError, coordOf}
 use Rattle.machine.specs.declared.leg.Mode.the-variants.{Adaptive, Deterministic}
 use Rattle.machine.specs.Number.{nodeCount, coordsOf}
-use Rattle.machine.specs.Hop.{dirPlus, plusDir, minusDir, opposite, along, same, neighbour, useful}
-use Rattle.machine.specs.ByCoords.{usefulAlong, towardAt, firstAt}
+use Rattle.machine.specs.Hop.{plusDir, minusDir, dirOf, opposite, along, same, neighbour, useful, rule}
+use Rattle.machine.specs.ByCoords.{goesAlong}
+use Rattle.machine.proofs.Directions.{direction}
 use Rattle.machine.proofs.Laws.{distance-symmetric, same-node}
 use Rattle.tables.specs.declared.place.Place.{Place}
 use Rattle.tables.specs.declared.around.Around.{Around}
 use Rattle.tables.specs.Entry.{soundBy, clearFrom, entry}
 use Rattle.tables.specs.Flags.{adaptiveIn, deterministicIn}
-use Rattle.tables.specs.Places.{goesPlus, placeOf}
+use Rattle.tables.specs.Places.{placeOf}
 use Rattle.tables.specs.Last.{adaptiveFrom, deterministicFrom, lastAdaptive, lastDeterministic, judgedLast}
 use Rattle.tables.proofs.Entries.{entry-adaptive, entry-deterministic}
-use Rattle.tables.proofs.Neighbours.{dirOf, byteOf}
+use Rattle.tables.proofs.Neighbours.{byteOf}
 use Rattle.tables.proofs.Judging.{shuffle, under, every-six, linksOf, plus-bit, minus-bit, seen, plus-is, minus-is, hops-are, none-is}
 use Rattle.tables.proofs.LastHop.{self-clear, lastTest, adaptive-last}
-use Rattle.tables.proofs.LastRun.{Later, toward-dir, way, way-useful, back-useful, det-last}
-
--- The deterministic leg from t to the place of c in a dimension goes the way of the leg to c.
-alone : (s : Shape) (t c : Coords) (d : Dim) → eqb (coordOf t d) (coordOf c d) ≡ false → firstAt s t (put t d (coordOf c d)) ≡ towardAt s t c d
-unfolding firstAt
-alone s t c X e = rw e
-alone s t c Y e = rw (eq-eqb (t .x) (t .x) refl, e)
-alone s t c Z e = rw (eq-eqb (t .x) (t .x) refl, eq-eqb (t .y) (t .y) refl, e)
-
-dir-plus : (d : Dim) (plus : Bool) → dirPlus (dirOf d plus) ≡ plus
-dir-plus X true = refl
-dir-plus X false = refl
-dir-plus Y true = refl
-dir-plus Y false = refl
-dir-plus Z true = refl
-dir-plus Z false = refl
-
-from-way : (s : Shape) (t c : Coords) (d : Dim) → eqb (coordOf t d) (coordOf c d) ≡ false → goesPlus s t (put t d (coordOf c d)) ≡ usefulAlong s t c d true
-from-way s t c d e = ap dirPlus (alone s t c d e ∙ toward-dir s t c d) ∙ dir-plus d (usefulAlong s t c d true)
+use Rattle.tables.proofs.LastRun.{Later, way, way-useful, back-useful, det-last}
 
 back-plus : (d : Dim) → opposite (plusDir d) ≡ minusDir d
-unfolding opposite
-back-plus X = refl
-back-plus Y = refl
-back-plus Z = refl
+back-plus d = direction d true .back
 
 back-minus : (d : Dim) → opposite (minusDir d) ≡ plusDir d
-unfolding opposite
-back-minus X = refl
-back-minus Y = refl
-back-minus Z = refl
+back-minus d = direction d false .back
 
 both : (w x y z : Bool) → w ≡ x → y ≡ z → (w && y) ≡ (x && z)
 both w x y z p q = cc
@@ -109,16 +85,16 @@ module _ (s : Shape) (h : shapeError s ≡ 0) (masks : List ℕ) (t : ℕ) (ht :
         (d : Dim) → same s n t d ≡ false → Later d (coordsOf s t) (coordsOf s n) →
         deterministicFrom (place d) (linksOf (byteOf m d true) d) (linksOf (byteOf m d false) d) (byteOf e d true) (byteOf e d false) ≡ clearFrom s snd Deterministic t n
     unfolding deterministicFrom placeOf
-    deterministic-from d differ l = rw (from-way s (coordsOf s t) (coordsOf s n) d (ne-eqb _ _ ne)) (one (usefulAlong s (coordsOf s t) (coordsOf s n) d true) refl)
+    deterministic-from d differ l = one (goesAlong rule s (coordsOf s t) (coordsOf s n) d) refl
       where
         ne : coordOf (coordsOf s t) d ≡ coordOf (coordsOf s n) d → ⊥
         ne q = eqb-false (along s n d) (along s t d) differ (sym q)
 
-        back : (b : Bool) → usefulAlong s (coordsOf s t) (coordsOf s n) d true ≡ b → useful s n t (dirOf d (not b)) ≡ true
+        back : (b : Bool) → goesAlong rule s (coordsOf s t) (coordsOf s n) d ≡ b → useful s n t (dirOf d (not b)) ≡ true
         back b q = back-useful s h snd t n ht hn d ne b (way-useful s h snd t n ht hn d ne b q)
 
         one :
-            (b : Bool) → usefulAlong s (coordsOf s t) (coordsOf s n) d true ≡ b →
+            (b : Bool) → goesAlong rule s (coordsOf s t) (coordsOf s n) d ≡ b →
             cond b (eqb (linksOf (byteOf m d false) d % 2) 0 && deterministicIn (byteOf e d false)) (eqb (linksOf (byteOf m d true) d / 2 % 2) 0 && deterministicIn (byteOf e d true)) ≡ clearFrom s snd Deterministic t n
         one true q = rw (below-is d, deterministic-byte d false (back true q), back-minus d) (sym (rw q at (det-last s h snd t n ht hn d ne l)))
         one false q = rw (above-is d, deterministic-byte d true (back false q), back-plus d) (sym (rw q at (det-last s h snd t n ht hn d ne l)))

@@ -13,7 +13,7 @@ use Rattle.shape.specs.Shape.{shapeError, extentOf}
 use Rattle.shape.proofs.Shapes.{sound, count-most}
 use Rattle.shape.proofs.AxisLaws.{place-below}
 use Rattle.machine.specs.Number.{nodeCount, numberOf, coordsOf, Inside}
-use Rattle.machine.specs.Hop.{dirDim, plusDir, minusDir, along, neighbour}
+use Rattle.machine.specs.Hop.{dirDim, dirOf, along, neighbour}
 use Rattle.machine.proofs.Numbers.{number-coords, number-fits, inside}
 use Rattle.machine.proofs.ByCoords.{along-small, neighbour-below}
 use Rattle.tables.specs.declared.place.Place.{Place}
@@ -21,10 +21,7 @@ use Rattle.tables.specs.declared.around.Around.{Around}
 use Rattle.tables.specs.Places.{added, placeOf}
 use Rattle.tables.specs.Around.{Near, aroundIn}
 
--- The direction of a dimension, plus or minus, and the neighbour's byte in it.
-abbrev pub dirOf : Dim → Bool → ℕ
-dirOf d plus = cond plus (plusDir d) (minusDir d)
-
+-- The neighbour's byte in a direction.
 abbrev pub byteOf : Around → Dim → Bool → ℕ
 byteOf e X plus = cond plus (e .xup) (e .xdown)
 byteOf e Y plus = cond plus (e .yup) (e .ydown)

@@ -8,7 +8,8 @@ use lib.Dec.{eqb}
 use borrow.Author.Tests.{lt-ltb, le-ltb, le-leb, lt-leb, ne-eqb, eqb-false, ltb-true, leb-true, not-true}
 use Rattle.theory.proofs.Bools.{and-true}
 use Rattle.theory.proofs.Cases.{by-le}
-use Rattle.shape.specs.Axis.{place, axisUseful, ahead}
+use Rattle.shape.specs.Axis.{place, axisUseful}
+use Rattle.shape.specs.Steps.{ahead}
 use Rattle.shape.proofs.AxisLaws.{place-below, useful-is}
 use Rattle.tables.specs.Order.{plusSide, turned, placeAt, rank}
 

@@ -4,7 +4,7 @@ use mathlib.Core.Bool.{Bool, cond}
 use lib.Dec.{ltb}
 use Rattle.shape.specs.declared.shape.Shape.{Shape}
 use Rattle.shape.specs.declared.shape.Coords.{Coords}
-use Rattle.shape.specs.Axis.{ahead}
+use Rattle.shape.specs.Steps.{ahead}
 
 -- How many places come going plus, the centre q included: in a ring those less than half of it away.
 unfoldable pub plusSide : ℕ → Bool → ℕ → ℕ

@@ -9,9 +9,9 @@ use Rattle.shape.specs.declared.shape.Dim.{Dim}
 use Rattle.shape.specs.declared.shape.Dim.the-variants.{X, Y, Z}
 use Rattle.shape.specs.Shape.{shapeError, extentOf, wrappedIn, coordOf, put}
 use Rattle.shape.specs.Axis.{place, axisUseful, axisDistance}
+use Rattle.shape.specs.Steps.{goes}
 use Rattle.machine.specs.Number.{numberOf, coordsOf}
-use Rattle.machine.specs.Hop.{dirPlus}
-use Rattle.machine.specs.ByCoords.{firstAt}
+use Rattle.machine.specs.Hop.{rule}
 use Rattle.tables.specs.declared.place.Place.{Place}
 use Rattle.tables.specs.Order.{plusSide, placeAt, rank}
 
@@ -22,10 +22,6 @@ origin = record { x = 0; y = 0; z = 0 }
 abbrev pub added : Shape → Dim → ℕ → ℕ
 added s d p = numberOf s (put origin d p)
 
--- The deterministic leg goes plus.
-abbrev pub goesPlus : Shape → Coords → Coords → Bool
-goesPlus s c t = dirPlus (firstAt s c t)
-
 abbrev pub noPlace : Place
 noPlace = record { here = 0; up = 0; down = 0; plus = false; minus = false; hops = 0; toplus = false; fromplus = false }
 
@@ -35,7 +31,6 @@ placeOf s t d p =
     let len = extentOf s d in
     let ring = wrappedIn s d in
     let q = coordOf t d in
-    let c = put t d p in
     record {
       here = added s d p % 65536;
       up = added s d (place len p true) % 65536;
@@ -43,8 +38,8 @@ placeOf s t d p =
       plus = axisUseful len ring p q true;
       minus = axisUseful len ring p q false;
       hops = axisDistance len ring p q;
-      toplus = goesPlus s c t;
-      fromplus = goesPlus s t c;
+      toplus = goes rule len ring p q;
+      fromplus = goes rule len ring q p;
     }
 
 -- The place with rank i, and what it is as seen from the centre.

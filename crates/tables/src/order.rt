@@ -5,7 +5,7 @@ use shape::Shape;
 ghost use mathlib.Core.Path.{_≡_};
 ghost use Prim.Native.Nat.{_≤_, _<_};
 ghost use Rattle.shape.specs.Shape.{shapeError};
-ghost use Rattle.shape.specs.Axis.{ahead};
+ghost use Rattle.shape.specs.Steps.{ahead};
 ghost use Rattle.machine.specs.Number.{Inside};
 ghost use Rattle.tables.specs.Order.{plusSide, turned, placeAt, rank, further};
 

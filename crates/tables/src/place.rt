@@ -1,7 +1,7 @@
 // The places of a dimension as seen from a centre, in the order of visit.
 use crate::order::place_at;
 use crate::order::plus_side;
-use machine::hop::first_at;
+use machine::hop::goes_plus;
 use machine::hop::number_at;
 use shape::Coords;
 use shape::Dim;
@@ -18,7 +18,7 @@ ghost use Prim.Native.Nat.{ℕ, _%_, _<_};
 ghost use lib.ListN.{getD};
 ghost use Rattle.shape.specs.Shape.{shapeError, extentOf};
 ghost use Rattle.machine.specs.Number.{Inside};
-ghost use Rattle.tables.specs.Places.{added, goesPlus, noPlace, placeOf, placeIn};
+ghost use Rattle.tables.specs.Places.{added, noPlace, placeOf, placeIn};
 
 // `here`, `up`, `down`: what the place, the one after it and the one before it add to a node number. `plus`, `minus`: whether that hop is useful
 // toward the centre. `hops`: the distance to the centre. `toplus`, `fromplus`: whether the deterministic leg to the centre, and from it, goes plus.
@@ -39,19 +39,12 @@ fn added(shape: Shape, d: Dim, p: u8) -> u16
     number_at(shape, with_coord(Coords { x: 0, y: 0, z: 0 }, d, p))
 }
 
-fn goes_plus(shape: Shape, at: Coords, to: Coords) -> bool
-    ensures { λ r. ⌜ r ≡ goesPlus shape at to ⌝ }
-{
-    first_at(shape, at, to) % 2 == 0
-}
-
 fn place_of(shape: Shape, centre: Coords, d: Dim, p: u8) -> Place
     ensures { λ r. ⌜ r ≡ placeOf shape centre d p ⌝ }
 {
     let len = extent(shape, d);
     let ring = wrapped(shape, d);
     let q = coord(centre, d);
-    let at = with_coord(centre, d, p);
     Place {
         here: added(shape, d, p),
         up: added(shape, d, next_place(len, p, true)),
@@ -59,8 +52,8 @@ fn place_of(shape: Shape, centre: Coords, d: Dim, p: u8) -> Place
         plus: useful(len, ring, p, q, true),
         minus: useful(len, ring, p, q, false),
         hops: distance(len, ring, p, q),
-        toplus: goes_plus(shape, at, centre),
-        fromplus: goes_plus(shape, centre, at),
+        toplus: goes_plus(len, ring, p, q),
+        fromplus: goes_plus(len, ring, q, p),
     }
 }
 

@@ -1,4 +1,4 @@
-use Rattle.shape.specs.Axis.{ahead}
+use Rattle.shape.specs.Steps.{ahead}
 use borrow.Author.Tests.{le-leb, lt-leb}
 use native.Mathlib.Omega.{arith}
 use borrow.Author.Needs.{needs}

@@ -12,9 +12,6 @@ wrapped-requires c κs = search needs
 coord-requires : tie.Need-coord-requires
 coord-requires c κs = search needs
 
-with-coord-requires : tie.Need-with-coord-requires
-with-coord-requires c κs = search needs
-
 added-requires : tie.Need-added-requires
 added-requires c κs = search needs
 
@@ -47,7 +44,7 @@ goes-plus-requires-2 c κs = search needs
 
 returns : tie.Need-returns
 unfolding placeOf
-returns c = rw (c .goes-plus2 .ensures, c .before .goes-plus .ensures, c .before .before .distance .ensures, c .before .before .before .useful2 .ensures, c .before .before .before .before .useful .ensures, c .before .before .before .before .before .added3 .ensures, c .before .before .before .before .before .before .next-place2 .ensures, c .before .before .before .before .before .before .before .added2 .ensures, c .before .before .before .before .before .before .before .before .next-place .ensures, c .before .before .before .before .before .before .before .before .before .added .ensures, c .before .before .before .before .before .before .before .before .before .before .with-coord .ensures, c .before .before .before .before .before .before .before .before .before .before .before .coord .ensures, c .before .before .before .before .before .before .before .before .before .before .before .before .wrapped .ensures, c .before .before .before .before .before .before .before .before .before .before .before .before .before .extent .ensures)
+returns c = rw (c .goes-plus2 .ensures, c .before .goes-plus .ensures, c .before .before .distance .ensures, c .before .before .before .useful2 .ensures, c .before .before .before .before .useful .ensures, c .before .before .before .before .before .added3 .ensures, c .before .before .before .before .before .before .next-place2 .ensures, c .before .before .before .before .before .before .before .added2 .ensures, c .before .before .before .before .before .before .before .before .next-place .ensures, c .before .before .before .before .before .before .before .before .before .added .ensures, c .before .before .before .before .before .before .before .before .before .before .coord .ensures, c .before .before .before .before .before .before .before .before .before .before .before .wrapped .ensures, c .before .before .before .before .before .before .before .before .before .before .before .before .extent .ensures)
 
 pub place-of-spec : {M : Type 1} → statement M
 place-of-spec =
@@ -56,7 +53,6 @@ place-of-spec =
     extent-requires
     wrapped-requires
     coord-requires
-    with-coord-requires
     added-requires
     next-place-requires
     added-requires-2

@@ -1,9 +1,9 @@
-use Rattle.packet.proofs.Drops.{error-rest}
 use native.Mathlib.Omega.{arith}
 use mathlib.Core.Path.{sym}
 use borrow.Author.Tests.{lt-ltb}
 use Rattle.theory.proofs.Checks.{declines}
 use Rattle.packet.specs.Packet.{packetError, badPacket}
+use Rattle.packet.proofs.Drops.{error-rest}
 use borrow.Author.Needs.{needs}
 use Rattle.packet.proofs.packet.Packet.check.Statement.{statement}
 use Rattle.packet.proofs.packet.Packet.check.Tie as tie
@@ -15,6 +15,9 @@ returns : tie.Need-returns
 unfolding packetError
 returns c = rw (← c .before .shape-error .ensures) (sym (declines _ _ (c .if1 .taken)))
 
+cast-if2 : tie.Need-cast-if2
+cast-if2 c = search needs
+
 returns-2 : tie.Need-returns-2
 unfolding packetError badPacket
 returns-2 c = rw (← c .before .before .before .shape-error .ensures, c .before .before .if1 .left, lt-ltb _ _ (c .if2 .taken))
@@ -25,20 +28,14 @@ count-requires c κs = search needs
 leg-outside-requires : tie.Need-leg-outside-requires
 leg-outside-requires c κs = search needs
 
-leg-outside-requires-2 : tie.Need-leg-outside-requires-2
-leg-outside-requires-2 c κs = search needs
-
 either-requires : tie.Need-either-requires
 either-requires c κs = search needs
-
-either-requires-2 : tie.Need-either-requires-2
-either-requires-2 c κs = search needs
 
 pick-requires : tie.Need-pick-requires
 pick-requires c κs = search needs
 
 returns-3 : tie.Need-returns-3
-returns-3 c = error-rest _ _ _ _ (omega arith) (omega arith) (c .before .before .before .before .before .before .count .ensures) (cc)
+returns-3 c = error-rest _ _ _ _ _ (omega arith) (omega arith) (c .before .before .before .before .count .ensures) (c .before .before .leg-outside .ensures) (cc)
 
 pub check-spec : {M : Type 1} → statement M
 check-spec =
@@ -46,11 +43,10 @@ check-spec =
     (tie.spec
     shape-error-requires
     returns
+    cast-if2
     returns-2
     count-requires
     leg-outside-requires
-    leg-outside-requires-2
     either-requires
-    either-requires-2
     pick-requires
     returns-3)

@@ -1,16 +1,34 @@
-use Rattle.packet.proofs.Drops.{drop-twice}
-use borrow.Author.Needs.{needs}
+use native.Mathlib.Omega.{arith}
+use mathlib.Core.Path.{sym, _∙_}
+use Rattle.packet.proofs.Drops.{Dropping, dropping, ends-left, dropping-on, dropping-all}
 use Rattle.packet.proofs.packet.Packet.drop_all.Statement.{statement}
 use Rattle.packet.proofs.packet.Packet.drop_all.Tie as tie
 
-drop-one-requires : tie.Need-drop-one-requires
-drop-one-requires c κs = search needs
+abbrev Inv-loop : tie.InvT-loop
+Inv-loop next₀ next = Dropping next₀ next
 
-drop-one-requires-2 : tie.Need-drop-one-requires-2
-drop-one-requires-2 c κs = search needs
+abbrev μ-loop : tie.MeasureT-loop
+μ-loop next₀ next = next .left
 
-returns : tie.Need-returns
-returns c = cc (drop-twice (c .before .before .args .self) (c .before .before .pre))
+loop-holds : tie.Need-loop-holds Inv-loop μ-loop
+loop-holds c = dropping _ (c .pre)
+
+ends-here-requires : tie.Need-ends-here-requires Inv-loop μ-loop
+ends-here-requires c κs = c .loop .inv .few
+
+sub-next : tie.Need-sub-next Inv-loop μ-loop
+sub-next c = ends-left _ (sym (c .before .before .ends-here .ensures) ∙ c .before .if1 .taken)
+
+loop-less : tie.Need-loop-less Inv-loop μ-loop
+loop-less c = omega (arith, ends-left _ (sym (c .before .before .ends-here .ensures) ∙ c .before .if1 .taken))
+
+loop-again : tie.Need-loop-again Inv-loop μ-loop
+loop-again c = dropping-on _ _ (c .before .before .before .loop .inv) (sym (c .before .before .ends-here .ensures) ∙ c .before .if1 .taken)
+
+returns : tie.Need-returns Inv-loop μ-loop
+returns c = dropping-all _ _ (c .before .before .loop .inv) (sym (c .before .ends-here .ensures) ∙ c .if1 .left)
 
 pub drop-all-spec : {M : Type 1} → statement M
-drop-all-spec = tie.close (tie.spec drop-one-requires drop-one-requires-2 returns)
+drop-all-spec =
+    tie.close
+    (tie.spec Inv-loop μ-loop loop-holds ends-here-requires sub-next loop-less loop-again returns)

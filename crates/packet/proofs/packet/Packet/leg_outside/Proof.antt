@@ -1,22 +1,54 @@
-use borrow.Author.Tests.{lt-ltb, le-ltb}
-use borrow.Author.Needs.{needs}
+use native.Mathlib.Omega.{arith}
+use Prim.Native.Nat.{_-_}
+use Rattle.packet.proofs.Drops.{Judging, judging, judging-on, judging-all}
 use Rattle.packet.proofs.packet.Packet.leg_outside.Statement.{statement}
 use Rattle.packet.proofs.packet.Packet.leg_outside.Tie as tie
 
-cast-left : tie.Need-cast-left
-cast-left c = search needs
+abbrev Inv-loop : tie.InvT-loop
+Inv-loop self count left bad₀ judged₀ bad judged = Judging count self bad judged
 
-leg-requires : tie.Need-leg-requires
-leg-requires c κs = search needs
+abbrev μ-loop : tie.MeasureT-loop
+μ-loop self count left bad₀ judged₀ bad judged = self .left - judged
 
-sub-if1 : tie.Need-sub-if1
-sub-if1 c = search needs
+cast-left : tie.Need-cast-left Inv-loop μ-loop
+cast-left c = omega arith
 
-returns : tie.Need-returns
-returns c = rw (lt-ltb _ _ (c .if1 .taken))
+loop-holds : tie.Need-loop-holds Inv-loop μ-loop
+loop-holds c = judging _ _
 
-returns-2 : tie.Need-returns-2
-returns-2 c = rw (le-ltb _ _ (c .before .if1 .left), c .before .before .leg .ensures)
+add-judged : tie.Need-add-judged Inv-loop μ-loop
+add-judged c = omega arith
+
+sub-leg : tie.Need-sub-leg Inv-loop μ-loop
+sub-leg c = omega arith
+
+leg-requires : tie.Need-leg-requires Inv-loop μ-loop
+leg-requires c κs = omega arith
+
+either-requires : tie.Need-either-requires Inv-loop μ-loop
+either-requires c κs = tt
+
+loop-less : tie.Need-loop-less Inv-loop μ-loop
+loop-less c = omega arith
+
+loop-again : tie.Need-loop-again Inv-loop μ-loop
+loop-again c = judging-on _ _ _ _ _ _ (c .before .before .before .before .loop .inv) (c .before .before .before .loop-test .taken) (c .before .before .leg .ensures) (c .either .ensures)
+
+returns : tie.Need-returns Inv-loop μ-loop
+returns c = judging-all _ _ _ _ (c .before .loop .inv) (c .loop-test .left)
 
 pub leg-outside-spec : {M : Type 1} → statement M
-leg-outside-spec = tie.close (tie.spec cast-left leg-requires sub-if1 returns returns-2)
+leg-outside-spec =
+    tie.close
+    (tie.spec
+    Inv-loop
+    μ-loop
+    cast-left
+    loop-holds
+    add-judged
+    sub-leg
+    leg-requires
+    either-requires
+    loop-less
+    loop-again
+    returns)

@@ -1,8 +1,8 @@
 use native.Mathlib.Omega.{arith}
-use Rattle.plan.specs.Layout.{bytesAfter}
+use Rattle.sheet.specs.Head.{bytesAfter}
 use borrow.Author.Needs.{needs}
-use Rattle.plan.proofs.layout.bytes_after.Statement.{statement}
-use Rattle.plan.proofs.layout.bytes_after.Tie as tie
+use Rattle.sheet.proofs.head.bytes_after.Statement.{statement}
+use Rattle.sheet.proofs.head.bytes_after.Tie as tie
 
 sub-result : tie.Need-sub-result
 sub-result c = search needs

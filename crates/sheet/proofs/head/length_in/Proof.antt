@@ -1,7 +1,7 @@
-use Rattle.plan.specs.Layout.{lengthField}
+use Rattle.sheet.specs.Head.{lengthField}
 use borrow.Author.Needs.{needs}
-use Rattle.plan.proofs.layout.length_in.Statement.{statement}
-use Rattle.plan.proofs.layout.length_in.Tie as tie
+use Rattle.sheet.proofs.head.length_in.Statement.{statement}
+use Rattle.sheet.proofs.head.length_in.Tie as tie
 
 word-at-requires : tie.Need-word-at-requires
 word-at-requires c κs = search needs

@@ -1,7 +1,7 @@
-use Rattle.plan.specs.Layout.{version}
+use Rattle.sheet.specs.Head.{version}
 use borrow.Author.Needs.{needs}
-use Rattle.plan.proofs.layout.version_in.Statement.{statement}
-use Rattle.plan.proofs.layout.version_in.Tie as tie
+use Rattle.sheet.proofs.head.version_in.Statement.{statement}
+use Rattle.sheet.proofs.head.version_in.Tie as tie
 
 byte-at-requires : tie.Need-byte-at-requires
 byte-at-requires c κs = search needs

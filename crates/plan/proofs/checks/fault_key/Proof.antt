@@ -1,9 +1,9 @@
 use native.Mathlib.Omega.{arith}
 use mathlib.Core.Path.{refl}
-use Rattle.plan.specs.Checks.{rank}
+use Rattle.plan.specs.Checks.{faultKey}
 use borrow.Author.Needs.{needs}
-use Rattle.plan.proofs.checks.rank_of.Statement.{statement}
-use Rattle.plan.proofs.checks.rank_of.Tie as tie
+use Rattle.plan.proofs.checks.fault_key.Statement.{statement}
+use Rattle.plan.proofs.checks.fault_key.Tie as tie
 
 cast-result : tie.Need-cast-result
 cast-result c = search needs
@@ -18,8 +18,8 @@ add-result : tie.Need-add-result
 add-result c = search needs
 
 returns : tie.Need-returns
-unfolding rank
+unfolding faultKey
 returns c = (refl, omega arith)
 
-pub rank-of-spec : {M : Type 1} → statement M
-rank-of-spec = tie.close (tie.spec cast-result mul-result cast-result-2 add-result returns)
+pub fault-key-spec : {M : Type 1} → statement M
+fault-key-spec = tie.close (tie.spec cast-result mul-result cast-result-2 add-result returns)
