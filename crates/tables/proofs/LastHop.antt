@@ -19,7 +19,7 @@ use Rattle.machine.proofs.ByCoords.{neighbour-below}
 use Rattle.machine.proofs.Directions.{opposite-twice}
 use Rattle.machine.proofs.Laws.{useful-of, useful-link, useful-lowers, distance-symmetric, distance-self, first-useful, low, link-back, neighbour-back, distance-step}
 use Rattle.machine.proofs.Torus.{torus-laws, useful-named}
-use Rattle.tables.specs.Entry.{clearFrom}
+use Rattle.tables.specs.Table.{clearFrom}
 
 module _ (s : Shape) (h : shapeError s ≡ 0) where
   -- The hop back from the target of a hop is useful.

@@ -25,7 +25,7 @@ use Rattle.machine.proofs.Numbers.{inside}
 use Rattle.machine.proofs.ByCoords.{inside-at, neighbour-below, neighbour-coords, plus-of, minus-of, first-at}
 use Rattle.machine.proofs.Laws.{useful-lowers, useful-link, distance-self, distance-zero, same-node, first-useful, low, neighbour-back}
 use Rattle.machine.proofs.Torus.{first-allowed}
-use Rattle.tables.specs.Entry.{clearFrom}
+use Rattle.tables.specs.Table.{clearFrom}
 use Rattle.tables.proofs.LastHop.{clear-hop, clear-from, self-clear}
 
 opposite-way : (d : Dim) (plus : Bool) → opposite (dirOf d (not plus)) ≡ dirOf d plus
