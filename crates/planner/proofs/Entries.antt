@@ -10,7 +10,7 @@ use Rattle.machine.specs.declared.leg.Leg.{Leg}
 use Rattle.machine.specs.declared.leg.Mode.the-variants.{Adaptive, Deterministic}
 use Rattle.machine.specs.Hop.{distance}
 use Rattle.machine.specs.Torus.{leg, torus}
-use Rattle.tables.specs.Entry.{clearFrom, entry}
+use Rattle.tables.specs.Table.{clearFrom, cell}
 use Rattle.choice.specs.Choice.{det}
 use Rattle.choice.specs.Further.{better}
 use Rattle.planner.specs.KeyNumber.{lengthPlace, detsPlace, unclear, hopsIn, modePart, legPart, firstPart}
@@ -49,8 +49,8 @@ adds-by k e t false true hops first second = (rw (hops, first, second) (omega ar
 adds-by k e t false false hops first second = rw (hops, first, second) (omega arith)
 
 -- The byte of the leg from u to t.
-pub entry-part : (s : Shape) (sound : ℕ → ℕ → Bool) (u t e : ℕ) → e ≡ entry s sound u t → Adds (distance s u t) e (better (clear (torus s) sound) u t)
-unfolding entry better
+pub entry-part : (s : Shape) (sound : ℕ → ℕ → Bool) (u t e : ℕ) → e ≡ cell s sound u t → Adds (distance s u t) e (better (clear (torus s) sound) u t)
+unfolding cell better
 entry-part s sound u t e is =
     let a = clearFrom s sound Adaptive u t in
     let b = clearFrom s sound Deterministic u t in

@@ -27,10 +27,10 @@ use Rattle.plan.specs.Layout.{shapeOf, faultsOf}
 use Rattle.plan.specs.Checks.{large, planError}
 use Rattle.plan.specs.Reading.{isPlan}
 use Rattle.dead.specs.Dead.{deadNode, bitOf, maskAnswer, nodeAnswer}
-use Rattle.tables.specs.Entry.{soundBy, clearFrom, entry, towardAnswer, outwardAnswer}
-use Rattle.tables.specs.Fill.{nearAnswer}
+use Rattle.tables.specs.Table.{soundBy, clearFrom, cell, towardAnswer, outwardAnswer}
+use Rattle.tables.specs.Near.{nearAnswer}
 use Rattle.tables.proofs.Between.{near-between, near-either}
-use Rattle.tables.proofs.Entries.{entry-adaptive, entry-hops}
+use Rattle.tables.proofs.Cells.{cell-adaptive, cell-hops}
 use Rattle.packet.specs.declared.route.Route.{Route}
 use Rattle.choice.specs.declared.outcome.Outcome.{Outcome}
 use Rattle.choice.specs.Answer.{Given, answered}
@@ -202,8 +202,8 @@ module _ (s : Shape) (sound : ℕ → ℕ → Bool) (S D : ℕ) (from toward par
       test (eqb (distance s S v + distance s v D) (distance s S D))
       (λ b. omega (arith, a .is, number-same from part toward v (between v l (eqb-true (distance s S v + distance s v D) (distance s S D) b)), least-each (numberAt from part) direct-number 0 (nodeCount s) v (omega arith) (a .below)))
       (λ b.
-      let f : hopsIn (getD from v 0) ≡ distance s S v = rw (T .out v l) (entry-hops s sound S v) in
-      let g : hopsIn (getD toward v 0) ≡ distance s v D = rw (T .back v l) (entry-hops s sound v D) in
+      let f : hopsIn (getD from v 0) ≡ distance s S v = rw (T .out v l) (cell-hops s sound S v) in
+      let g : hopsIn (getD toward v 0) ≡ distance s v D = rw (T .back v l) (cell-hops s sound v D) in
       let more : distance s S D + 1 ≤ hopsIn (getD from v 0) + hopsIn (getD toward v 0) = omega (arith, eqb-false (distance s S v + distance s v D) (distance s S D) b) in
       omega (arith, a .is, number-least from toward v)))
       (least-one (numberAt from toward) direct-number 0 (nodeCount s))
@@ -247,7 +247,7 @@ module _ (p : List ℕ) (S : ℕ) (s : Shape) (masks dead from : List ℕ) (r : 
   unfolding pair pairError answered
   pair-alive d = rw (r .plan, r .source, node, r .alive, d)
 
-  leg-is : getD from D 0 ≡ entry (shapeOf p) (soundBy masks) S D
+  leg-is : getD from D 0 ≡ cell (shapeOf p) (soundBy masks) S D
   unfolding outwardAnswer arePair
   leg-is = r .legs D ∙ rw (r .shape, r .source, node)
 
@@ -255,7 +255,7 @@ module _ (p : List ℕ) (S : ℕ) (s : Shape) (masks dead from : List ℕ) (r : 
   direct a =
       let from-node = node-of (shapeOf p) S (r .source) in
       let to-node = node-of (shapeOf p) D node in
-      let clear : clearFrom (shapeOf p) (soundBy masks) Adaptive S D ≡ true = sym (entry-adaptive (shapeOf p) (soundBy masks) S D) ∙ rw leg-is at a in
+      let clear : clearFrom (shapeOf p) (soundBy masks) Adaptive S D ≡ true = sym (cell-adaptive (shapeOf p) (soundBy masks) S D) ∙ rw leg-is at a in
       sym (route-is p masks S D A (r .links)) ∙ direct-first (shapeOf p) (from-node .sound) (soundBy masks) S D (from-node .below) (to-node .below) clear
 
   tables : Tables (shapeOf p) (soundBy masks) S D from (listFrom (towardAnswer (shapeOf p) masks D) 0 4096)
@@ -276,7 +276,7 @@ module _ (p : List ℕ) (S : ℕ) (s : Shape) (masks dead from : List ℕ) (r : 
       (λ n l q. near-list (shapeOf p) masks D S n ∙ near-between (shapeOf p) D S pair-is masks n l q ∙ sym (toward-list (shapeOf p) masks D n))
 
   hops-are : hopsIn (getD from D 0) ≡ distance (shapeOf p) S D
-  hops-are = rw leg-is (entry-hops (shapeOf p) (soundBy masks) S D)
+  hops-are = rw leg-is (cell-hops (shapeOf p) (soundBy masks) S D)
 
   scanned : scannedTo (shapeOf p) masks from S D ≡ told (shapeOf p) S (chosen (routeIn p S D))
   unfolding scannedTo

@@ -22,7 +22,7 @@ use Rattle.plan.specs.Checks.{large, planError}
 use Rattle.plan.specs.Reading.{isPlan}
 use Rattle.dead.specs.Dead.{deadNode, deadLink, sound, maskOf, maskAnswer, nodeAnswer}
 use Rattle.dead.proofs.Table.{mask-bit, is-node}
-use Rattle.tables.specs.Entry.{soundBit, soundBy, towardAnswer, outwardAnswer}
+use Rattle.tables.specs.Table.{soundBit, soundBy, towardAnswer, outwardAnswer}
 use Rattle.choice.specs.declared.outcome.Outcome.{Outcome}
 use Rattle.choice.specs.Answer.{answered}
 use Rattle.choice.specs.Outcome.{told}

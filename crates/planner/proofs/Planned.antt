@@ -23,7 +23,7 @@ use Rattle.machine.specs.Torus.{torus}
 use Rattle.machine.proofs.Laws.{distance-most}
 use Rattle.machine.specs.Node.{isNode, arePair}
 use Rattle.machine.proofs.Nodes.{Node, node-of}
-use Rattle.tables.specs.Entry.{soundBy, entry, towardAnswer, outwardAnswer}
+use Rattle.tables.specs.Table.{soundBy, cell, towardAnswer, outwardAnswer}
 use Rattle.choice.specs.Choice.{Choice, over, viasOf, det, detsOf, legLength, lengthOf, beforeIn}
 use Rattle.choice.specs.OneVia.{OneVia, viaOf, firstDet}
 use Rattle.choice.specs.Further.{firstBy, better, directly, alone, followed, furthered}
@@ -46,8 +46,8 @@ pub record Tables (s : Shape) (sound : ℕ → ℕ → Bool) (S D : ℕ) (from t
   pub ok : shapeError s ≡ 0
   pub source : S < nodeCount s
   pub target : D < nodeCount s
-  pub out : (n : ℕ) → n < nodeCount s → getD from n 0 ≡ entry s sound S n
-  pub back : (n : ℕ) → n < nodeCount s → getD toward n 0 ≡ entry s sound n D
+  pub out : (n : ℕ) → n < nodeCount s → getD from n 0 ≡ cell s sound S n
+  pub back : (n : ℕ) → n < nodeCount s → getD toward n 0 ≡ cell s sound n D
 
 is-node : (s : Shape) (n : ℕ) → shapeError s ≡ 0 → n < nodeCount s → isNode s n ≡ true
 unfolding isNode

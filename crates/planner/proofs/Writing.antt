@@ -25,7 +25,7 @@ use Rattle.plan.specs.Checks.{large, planError}
 use Rattle.plan.specs.Reading.{isPlan}
 use Rattle.dead.specs.Dead.{deadNode, bitOf, maskAnswer, nodeAnswer}
 use Rattle.dead.proofs.Table.{is-node}
-use Rattle.tables.specs.Entry.{outwardAnswer}
+use Rattle.tables.specs.Table.{outwardAnswer}
 use Rattle.choice.specs.Choice.{Direct, Via, routeOf}
 use Rattle.choice.specs.Pair as Pair
 use Rattle.choice.specs.Pair.{Answer, pair}

@@ -9,8 +9,8 @@ use Rattle.sheet.specs.Bytes.{listFrom}
 use Rattle.shape.specs.declared.shape.Shape.{Shape}
 use Rattle.machine.specs.declared.leg.Mode.the-variants.{Adaptive}
 use Rattle.machine.specs.Node.{isNode, countAnswer}
-use Rattle.tables.specs.Entry.{towardAnswer}
-use Rattle.tables.specs.Fill.{nearAnswer}
+use Rattle.tables.specs.Table.{towardAnswer}
+use Rattle.tables.specs.Near.{nearAnswer}
 use Rattle.packet.specs.declared.route.Route.{Route}
 use Rattle.choice.specs.declared.outcome.Outcome.{Outcome}
 use Rattle.planner.specs.KeyNumber.{adaptiveIn, hopsIn, pickOutcome, outcomeIn}
