@@ -6,6 +6,7 @@ use mathlib.Core.List.{List, [], _∷_}
 use lib.ListN.{take, drop}
 use lib.Dec.{ltb, eqb}
 use denote.Ref.{RefT, ptr, now}
+use Rattle.numbers.specs.Numbers.{nodeOutside}
 use Rattle.theory.specs.Checks.{declined, _then_}
 use Rattle.machine.specs.Node.{isNode}
 use Rattle.plan.specs.Layout.{shapeOf}
@@ -15,7 +16,7 @@ use Rattle.routes.specs.Checks.{sheetError}
 
 -- A lookup checks 1 to 8, 13, then 9.
 unfoldable pub lookupError : List ℕ → List ℕ → ℕ → ℕ
-lookupError p s d = sheetError p s then declined (not (isNode (shapeOf p) d)) 9
+lookupError p s d = sheetError p s then declined (not (isNode (shapeOf p) d)) nodeOutside
 
 -- The number of the first entry for the destination d, or how many entries there are where none is.
 unfoldable pub find : List Entry → ℕ → ℕ
