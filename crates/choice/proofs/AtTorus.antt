@@ -20,7 +20,7 @@ use Rattle.machine.specs.Torus.{leg, torus}
 use Rattle.machine.proofs.Laws.{distance-self, triangle, useful-link}
 use Rattle.machine.proofs.Torus.{torus-laws, allowed-useful}
 use Rattle.choice.specs.Choice.{Choice, mostVias, targetsOf, Below, AdmitsIn, choices, before, beforeIn, legLength}
-use Rattle.choice.specs.Further.{firstBy, furthered}
+use Rattle.choice.specs.Further.{firstBy, better, directly, furthered}
 use Rattle.choice.specs.Pair.{routeBy}
 use Rattle.choice.proofs.Lists.{below-targets}
 use Rattle.choice.proofs.Listed.{lists-admits}
@@ -61,3 +61,11 @@ module _ (s : Shape) (h : shapeError s ≡ 0) (sound : ℕ → ℕ → Bool) (S 
       (λ c m. clearLegs-same (torus s) (torus-laws s h) sound other
       (λ l p d at end a. same p d at (useful-link s p (l .target) d (allowed-useful s h p (l .target) at end (l .mode) d a)))
       S c hS (admits-inside s S D hD c (lists-admits mostVias (nodeCount s) S D c m)))
+
+  -- The route: the first of the better direct leg and, over all nodes w, of the better leg to w with the better leg from w to D behind it.
+  pub route-first : routeBy s sound S D ≡ best (beforeIn s S) (λ _. true) (furthered (legLength s) (clear (torus s) sound) 0 (nodeCount s) S D)
+  unfolding routeBy planned firstBy
+  route-first = further-first 0
+
+  pub no-via-first : (t : ℕ) → firstBy (legLength s) (clear (torus s) sound) 0 (nodeCount s) S t ≡ directly (better (clear (torus s) sound) S t)
+  no-via-first t = Further.no-via-first (legLength s) (clear (torus s) sound) (nodeCount s) S (distance-self s S) empty-adaptive t

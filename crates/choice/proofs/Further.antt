@@ -10,7 +10,8 @@ use lib.ListN.{length}
 use lib.Dec.{eqb}
 use borrow.Author.Tests.{eqb-true, eqb-false}
 use Rattle.theory.specs.Machine.{endBy}
-use Rattle.theory.specs.Choice.{Order, First, Best, best}
+use Rattle.theory.specs.Clear.{clearBy}
+use Rattle.theory.specs.Choice.{Order, First, Best, earlier, best}
 use Rattle.theory.proofs.Bools.{and-true}
 use Rattle.theory.proofs.Cases.{test, by-le}
 use Rattle.theory.proofs.Choice.{best-is, best-none, best-first, before-trans, first-not-later, first-before}
@@ -18,8 +19,8 @@ use Rattle.machine.specs.declared.leg.Leg.{Leg}
 use Rattle.machine.specs.declared.leg.Mode.{Mode}
 use Rattle.machine.specs.declared.leg.Mode.the-variants.{Adaptive, Deterministic}
 use Rattle.machine.specs.Torus.{leg}
-use Rattle.choice.specs.Choice.{Choice, targetsOf, viasOf, endFrom, before, Below, Misses, Different, Admits, over, choicesBy}
-use Rattle.choice.specs.Further.{clearChoice, firstBy, better, alone, followed, furthered}
+use Rattle.choice.specs.Choice.{Choice, targetsOf, viasOf, endFrom, before, Below, Misses, Different, Admits, over, direct, legsBy, misses, different, kept, choicesBy}
+use Rattle.choice.specs.Further.{clearChoice, firstBy, better, directly, alone, followed, furthered}
 use Rattle.choice.proofs.Lists.{vias-legs, legs-count, targets-behind, end-behind, clear-behind, Split, split, below-vias, below-targets}
 use Rattle.choice.proofs.Keys.{leg-inj, before-order, adaptive-before, append-before}
 use Rattle.choice.proofs.Listed.{over-has, has-over, admits-lists, lists-admits}
@@ -62,36 +63,36 @@ split-of (l ∷ ls) h = split l ls
 none-some : {C X : Type 0} (c : C) → none ≡ some c → X
 none-some c e = let z : _≡_ {A = ℕ} 0 1 = cc in absurd (omega arith)
 
-alone-has : (o : Option Choice) (e : Choice) → List·Memᴰ e (alone o) → o ≡ some e
+pub alone-has : (o : Option Choice) (e : Choice) → List·Memᴰ e (alone o) → o ≡ some e
 unfolding alone
 alone-has none e m = absurd (List·Memᴰ·not-nil m)
 alone-has (some c) e m = ⊎-elim (λ q. rw q refl) (λ m. absurd (List·Memᴰ·not-nil m)) (List·Memᴰ·cases-cons m)
 
-has-alone : (o : Option Choice) (e : Choice) → o ≡ some e → List·Memᴰ e (alone o)
+pub has-alone : (o : Option Choice) (e : Choice) → o ≡ some e → List·Memᴰ e (alone o)
 unfolding alone
 has-alone o e q = rw q (List·Memᴰ·head refl)
 
-record Followed (o : Option Choice) (l : Option Leg) (e : Choice) : Type 0 where
-  front : Choice
-  last : Leg
-  one : o ≡ some front
-  two : l ≡ some last
-  same : e ≡ front ++ (last ∷ [])
+pub record Followed (o : Option Choice) (l : Option Leg) (e : Choice) : Type 0 where
+  pub front : Choice
+  pub last : Leg
+  pub one : o ≡ some front
+  pub two : l ≡ some last
+  pub same : e ≡ front ++ (last ∷ [])
 
-followed-has : (o : Option Choice) (l : Option Leg) (e : Choice) → List·Memᴰ e (followed o l) → Followed o l e
+pub followed-has : (o : Option Choice) (l : Option Leg) (e : Choice) → List·Memᴰ e (followed o l) → Followed o l e
 unfolding followed
 followed-has none l e m = absurd (List·Memᴰ·not-nil m)
 followed-has (some c) none e m = absurd (List·Memᴰ·not-nil m)
 followed-has (some c) (some x) e m =
     ⊎-elim (λ q. record { front = c; last = x; one = refl; two = refl; same = q }) (λ m. absurd (List·Memᴰ·not-nil m)) (List·Memᴰ·cases-cons m)
 
-has-followed : (o : Option Choice) (l : Option Leg) (c : Choice) (x : Leg) → o ≡ some c → l ≡ some x → List·Memᴰ (c ++ (x ∷ [])) (followed o l)
+pub has-followed : (o : Option Choice) (l : Option Leg) (c : Choice) (x : Leg) → o ≡ some c → l ≡ some x → List·Memᴰ (c ++ (x ∷ [])) (followed o l)
 unfolding followed
 has-followed o l c x e f = rw (e, f) (List·Memᴰ·head refl)
 
 module _ (far : ℕ → ℕ → ℕ) (clear : Leg → ℕ → Bool) (n : ℕ) where
   -- The better clear leg ends at D and is clear.
-  better-is : (w D : ℕ) (x : Leg) → better clear w D ≡ some x → (x .target ≡ D) × (clear x w ≡ true)
+  pub better-is : (w D : ℕ) (x : Leg) → better clear w D ≡ some x → (x .target ≡ D) × (clear x w ≡ true)
   unfolding better
   better-is w D x e = test (clear (leg D Adaptive) w)
       (λ t. let q : leg D Adaptive ≡ x = cc (rw t at e) in rw (← q) (refl, t))
@@ -151,6 +152,25 @@ module _ (far : ℕ → ℕ → ℕ) (clear : Leg → ℕ → Bool) (n : ℕ) wh
         go : (o : Option Choice) → firstBy far clear k n S D ≡ o → (b : Choice) × (firstBy far clear k n S D ≡ some b)
         go none e = absurd (true≢false (sym h ∙ firsts k D .refused .0 e a (admits-lists k n S D a adm)))
         go (some b) e = (b, e)
+
+    -- With no via: the better direct leg.
+    direct-better : (D : ℕ) → (S ≡ D → ⊥) → best (before far S) (clearChoice clear S) ((leg D Adaptive ∷ []) ∷ (leg D Deterministic ∷ []) ∷ []) ≡ directly (better clear S D)
+    unfolding best earlier clearBy better
+    direct-better D ne = test (clear (leg D Adaptive) S)
+        (λ t. test (clear (leg D Deterministic) S)
+        (λ f. rw (t, f, O .asym (leg D Adaptive ∷ []) (leg D Deterministic ∷ []) (adaptive-before far S [] D)))
+        (λ f. rw (t, f)))
+        (λ t. test (clear (leg D Deterministic) S) (λ f. rw (t, f)) (λ f. rw (t, f)))
+
+    self-better : (D : ℕ) → S ≡ D → best (before far S) (clearChoice clear S) ((leg D Adaptive ∷ []) ∷ []) ≡ directly (better clear S D)
+    unfolding best earlier clearBy better
+    self-better D e = let h : clear (leg D Adaptive) S ≡ true = rw (← e) empty in rw h
+
+    pub no-via-first : (D : ℕ) → firstBy far clear 0 n S D ≡ directly (better clear S D)
+    unfolding firstBy choicesBy legsBy direct kept different misses targetsOf
+    no-via-first D = test (eqb S D)
+        (λ t. rw t (self-better D (eqb-true S D t)))
+        (λ t. rw t (direct-better D (eqb-false S D t)))
 
     module _ (k D : ℕ) (target : D < n) where
       furthered-loose : (e : Choice) → List·Memᴰ e (furthered far clear k n S D) → Loose far clear n (suc k) S D e

@@ -22,6 +22,11 @@ firstBy far clear k n S D = best (before far S) (clearChoice clear S) (choicesBy
 unfoldable pub better : (Leg → ℕ → Bool) → ℕ → ℕ → Option Leg
 better clear w D = cond (clear (leg D Adaptive) w) (some (leg D Adaptive)) (cond (clear (leg D Deterministic) w) (some (leg D Deterministic)) none)
 
+-- A leg as the choice of this leg alone.
+abbrev pub directly : Option Leg → Option Choice
+directly none = none
+directly (some l) = some (l ∷ [])
+
 unfoldable pub alone : Option Choice → List Choice
 alone none = []
 alone (some c) = c ∷ []

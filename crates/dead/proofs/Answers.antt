@@ -13,7 +13,7 @@ use Rattle.machine.proofs.Nodes.{node-of}
 use Rattle.plan.specs.declared.layout.Fault.{Fault}
 use Rattle.plan.specs.Layout.{shapeOf, faultsOf}
 use Rattle.plan.specs.Kinds.{nodeKind, kindDir}
-use Rattle.plan.specs.Checks.{large, planError, faultExists}
+use Rattle.plan.specs.Checks.{Limits, planError, faultExists}
 use Rattle.plan.specs.Reading.{isPlan}
 use Rattle.plan.proofs.Readings.{is-plan, is-no-plan}
 use Rattle.dead.specs.Dead.{deadLink, linkAnswer}
@@ -61,9 +61,9 @@ module _ (s : Shape) (f : Fault) (t w : List ℕ) where
       e ∙ rw (one, h, ed)
 
 -- ---- single questions
-module _ (s : List ℕ) (n d : ℕ) where
-  pub declined-link : (e : ℕ) → e ≡ planError large s → (e ≡ 0 → ⊥) → false ≡ linkAnswer s n d
-  declined-link e h k = rw (is-no-plan s e h k)
+module _ (L : Limits) (s : List ℕ) (n d : ℕ) where
+  pub declined-link : (e : ℕ) → e ≡ planError L s → (e ≡ 0 → ⊥) → false ≡ linkAnswer L s n d
+  declined-link e h k = rw (is-no-plan L s e h k)
 
   no-link-test : (p a l x : Bool) → (a && l) ≡ false → false ≡ (p && (a && (l && x)))
   no-link-test false a l x h = refl
@@ -71,15 +71,15 @@ module _ (s : List ℕ) (n d : ℕ) where
   no-link-test true true l x h = rw h
 
   module _ (m : Shape) (em : m ≡ shapeOf s) (r : Bool) (er : r ≡ N.linkAnswer m n d) where
-    pub no-link : r ≡ false → false ≡ linkAnswer s n d
+    pub no-link : r ≡ false → false ≡ linkAnswer L s n d
     unfolding deadLink
-    no-link h = no-link-test (isPlan s) (isNode (shapeOf s) n) (link (shapeOf s) n d) _ (rw (← em) (sym er ∙ h))
+    no-link h = no-link-test (isPlan L s) (isNode (shapeOf s) n) (link (shapeOf s) n d) _ (rw (← em) (sym er ∙ h))
 
-    pub link-answer : (e : ℕ) → e ≡ planError large s → e ≡ 0 → r ≡ true → (q : ℕ) → q ≡ N.neighbourAnswer m n d → (b : Bool) → b ≡ anyNames (faultsOf s) n d q → b ≡ linkAnswer s n d
+    pub link-answer : (e : ℕ) → e ≡ planError L s → e ≡ 0 → r ≡ true → (q : ℕ) → q ≡ N.neighbourAnswer m n d → (b : Bool) → b ≡ anyNames (faultsOf s) n d q → b ≡ linkAnswer L s n d
     unfolding deadLink anyNames
     link-answer e ee z h q eq b eb =
         let both = and-true (isNode m n) (link m n d) (sym er ∙ h) in
         let to : q ≡ neighbour (shapeOf s) n d = eq ∙ rw (both .0, em) in
         let node : isNode (shapeOf s) n ≡ true = rw (← em) (both .0) in
         let there : link (shapeOf s) n d ≡ true = rw (← em) (both .1) in
-        eb ∙ rw (is-plan s e ee z, node, there, to)
+        eb ∙ rw (is-plan L s e ee z, node, there, to)

@@ -16,7 +16,7 @@ use Rattle.sheet.proofs.Fill.{getD-same}
 use Rattle.plan.specs.declared.layout.Fault.{Fault}
 use Rattle.plan.specs.Kinds.{nodeKind}
 use Rattle.plan.specs.Layout.{shapeOf, faultCount, faultAt, faultsOf}
-use Rattle.plan.specs.Checks.{large, planError}
+use Rattle.plan.specs.Checks.{Limits, torusPlans, planError}
 use Rattle.plan.specs.Reading.{isPlan}
 use Rattle.plan.proofs.Listed.{fault-exists}
 use Rattle.plan.proofs.Readings.{is-no-plan}
@@ -46,32 +46,32 @@ one-more f fs t h x =
     marked n (no q) = rw (getD-set-other t (f .node) n 1 0 q, ne-eqb (f .node) n (λ e. q (sym e))) (x .is n)
 
 -- ---- the loop, from the last fault to the first
-pub record Marking (s : List ℕ) (t : List ℕ) (i : ℕ) : Type 0 where
-  pub plan : planError large s ≡ 0
+pub record Marking (L : Limits) (s : List ℕ) (t : List ℕ) (i : ℕ) : Type 0 where
+  pub plan : planError L s ≡ 0
   pub within : i ≤ faultCount s
   pub nodes : Nodes (listFrom (faultAt s) i (faultCount s - i)) t
 
-module _ (s : List ℕ) where
-  pub begin : planError large s ≡ 0 → (i : ℕ) → i ≡ faultCount s → Marking s (replicate 4096 0) i
+module _ (L : Limits) (s : List ℕ) where
+  pub begin : planError L s ≡ 0 → (i : ℕ) → i ≡ faultCount s → Marking L s (replicate 4096 0) i
   begin h i c = record { plan = h; within = omega arith; nodes = rw (from-none (faultAt s) i (faultCount s) (omega arith)) no-nodes }
 
-  module _ (t : List ℕ) (i : ℕ) (g : Marking s t i) where
+  module _ (t : List ℕ) (i : ℕ) (g : Marking L s t i) where
     pub below : (f : Fault) → f ≡ faultAt s (i - 1) → 0 < i → f .node < 4096
     below f e h =
-        let z = exists-of (shapeOf s) (faultAt s (i - 1)) (fault-exists large s (g .plan) (i - 1) (omega (arith, g .within))) in
+        let z = exists-of (shapeOf s) (faultAt s (i - 1)) (fault-exists torusPlans L s (g .plan) (i - 1) (omega (arith, g .within))) in
         rw e (node-below (shapeOf s) (faultAt s (i - 1) .node) (z .node))
 
-    pub onward : (f : Fault) (next : List ℕ) → f ≡ faultAt s (i - 1) → next ≡ markNode t f → 0 < i → Marking s next (i - 1)
+    pub onward : (f : Fault) (next : List ℕ) → f ≡ faultAt s (i - 1) → next ≡ markNode t f → 0 < i → Marking L s next (i - 1)
     onward f next e q h =
         let b : i - 1 + 1 ≡ i = omega arith in
         let more : listFrom (faultAt s) (i - 1) (faultCount s - (i - 1)) ≡ f ∷ listFrom (faultAt s) i (faultCount s - i) = from-cons (faultAt s) (i - 1) (faultCount s) (omega (arith, g .within)) ∙ rw (b, e) in
         record { plan = g .plan; within = omega (arith, g .within); nodes = rw (more, q) (one-more f _ t (below f e h) (g .nodes)) }
 
-    pub ended : i ≡ 0 → (n : ℕ) → getD t n 0 ≡ bitOf (nodeAnswer s n)
+    pub ended : i ≡ 0 → (n : ℕ) → getD t n 0 ≡ bitOf (nodeAnswer L s n)
     unfolding faultsOf isPlan
     ended z n =
         let e : faultCount s - i ≡ faultCount s = omega arith in
-        g .nodes .is n ∙ rw (e, z, eq-eqb (planError large s) 0 (g .plan))
+        g .nodes .is n ∙ rw (e, z, eq-eqb (planError L s) 0 (g .plan))
 
-pub declined-nodes : (s : List ℕ) (e : ℕ) → e ≡ planError large s → (e ≡ 0 → ⊥) → (n : ℕ) → getD (replicate 4096 0) n 0 ≡ bitOf (nodeAnswer s n)
-declined-nodes s e h k n = getD-same {A = ℕ} 0 4096 n ∙ rw (is-no-plan s e h k)
+pub declined-nodes : (L : Limits) (s : List ℕ) (e : ℕ) → e ≡ planError L s → (e ≡ 0 → ⊥) → (n : ℕ) → getD (replicate 4096 0) n 0 ≡ bitOf (nodeAnswer L s n)
+declined-nodes L s e h k n = getD-same {A = ℕ} 0 4096 n ∙ rw (is-no-plan L s e h k)

@@ -24,7 +24,7 @@ use Rattle.machine.proofs.ByCoords.{neighbour-below}
 use Rattle.plan.specs.declared.layout.Fault.{Fault}
 use Rattle.plan.specs.Kinds.{linkKind, nodeKind, kindDir}
 use Rattle.plan.specs.Layout.{shapeOf, faultCount, faultAt, faultsOf}
-use Rattle.plan.specs.Checks.{large, faultExists, planError}
+use Rattle.plan.specs.Checks.{Limits, torusPlans, faultExists, planError}
 use Rattle.plan.specs.Reading.{isPlan}
 use Rattle.plan.proofs.Listed.{fault-exists}
 use Rattle.plan.proofs.Readings.{is-no-plan}
@@ -152,14 +152,14 @@ and-off : (a : Bool) → (a && false) ≡ false
 and-off true = refl
 and-off false = refl
 
-pub record Marking (s : List ℕ) (m : Shape) (t : List ℕ) (i : ℕ) : Type 0 where
-  pub plan : planError large s ≡ 0
+pub record Marking (L : Limits) (s : List ℕ) (m : Shape) (t : List ℕ) (i : ℕ) : Type 0 where
+  pub plan : planError L s ≡ 0
   pub shape : m ≡ shapeOf s
   pub within : i ≤ faultCount s
   pub table : Table m (deadLink m (listFrom (faultAt s) i (faultCount s - i))) t
 
-module _ (s : List ℕ) (m : Shape) where
-  pub begin : planError large s ≡ 0 → m ≡ shapeOf s → (i : ℕ) → i ≡ faultCount s → Marking s m (replicate 4096 0) i
+module _ (L : Limits) (s : List ℕ) (m : Shape) where
+  pub begin : planError L s ≡ 0 → m ≡ shapeOf s → (i : ℕ) → i ≡ faultCount s → Marking L s m (replicate 4096 0) i
   unfolding deadLink some
   begin h e i c = record {
     plan = h;
@@ -168,11 +168,11 @@ module _ (s : List ℕ) (m : Shape) where
     table = rw (from-none (faultAt s) i (faultCount s) (omega arith)) (same m (λ n d. false) (deadLink m []) (replicate 4096 0) (λ n d hn b. sym (and-off (link m n d))) (none m));
   }
 
-  module _ (t : List ℕ) (i : ℕ) (g : Marking s m t i) where
+  module _ (t : List ℕ) (i : ℕ) (g : Marking L s m t i) where
     pub exists : (f : Fault) → f ≡ faultAt s (i - 1) → 0 < i → faultExists m f ≡ true
-    exists f e h = rw (e, g .shape) (fault-exists large s (g .plan) (i - 1) (omega (arith, g .within)))
+    exists f e h = rw (e, g .shape) (fault-exists torusPlans L s (g .plan) (i - 1) (omega (arith, g .within)))
 
-    pub onward : (f : Fault) (next : List ℕ) → f ≡ faultAt s (i - 1) → next ≡ markFault m t f → 0 < i → Marking s m next (i - 1)
+    pub onward : (f : Fault) (next : List ℕ) → f ≡ faultAt s (i - 1) → next ≡ markFault m t f → 0 < i → Marking L s m next (i - 1)
     unfolding deadLink some kills
     onward f next e q h =
         let rest = listFrom (faultAt s) i (faultCount s - i) in
@@ -188,14 +188,14 @@ module _ (s : List ℕ) (m : Shape) where
               (fault-table m f (exists f e h) (deadLink m rest) t (g .table)));
         }
 
-    pub ended : i ≡ 0 → (n : ℕ) → getD t n 0 ≡ maskAnswer s n
+    pub ended : i ≡ 0 → (n : ℕ) → getD t n 0 ≡ maskAnswer L s n
     unfolding faultsOf maskOf isPlan
     ended z n =
         let e : faultCount s - i ≡ faultCount s = omega arith in
-        g .table .is n ∙ rw (e, z, g .shape, eq-eqb (planError large s) 0 (g .plan))
+        g .table .is n ∙ rw (e, z, g .shape, eq-eqb (planError L s) 0 (g .plan))
 
-pub declined-masks : (s : List ℕ) (e : ℕ) → e ≡ planError large s → (e ≡ 0 → ⊥) → (n : ℕ) → getD (replicate 4096 0) n 0 ≡ maskAnswer s n
-declined-masks s e h k n = getD-same {A = ℕ} 0 4096 n ∙ rw (is-no-plan s e h k)
+pub declined-masks : (L : Limits) (s : List ℕ) (e : ℕ) → e ≡ planError L s → (e ≡ 0 → ⊥) → (n : ℕ) → getD (replicate 4096 0) n 0 ≡ maskAnswer L s n
+declined-masks L s e h k n = getD-same {A = ℕ} 0 4096 n ∙ rw (is-no-plan L s e h k)
 
 -- Bit d of a node's mask says whether the link leaving it in direction d is dead.
 pub mask-bit : (s : Shape) (fs : List Fault) (n d : ℕ) → d ≤ 5 → odd (maskOf s fs n / 2 ^ d) ≡ deadLink s fs n d

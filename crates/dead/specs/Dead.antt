@@ -10,6 +10,7 @@ use Rattle.machine.specs.Node.{isNode}
 use Rattle.plan.specs.declared.layout.Fault.{Fault}
 use Rattle.plan.specs.Layout.{shapeOf, faultsOf}
 use Rattle.plan.specs.Kinds.{linkKind, nodeKind, kindDir}
+use Rattle.plan.specs.Checks.{Limits}
 use Rattle.plan.specs.Reading.{isPlan}
 
 -- Some fault of the list is such.
@@ -42,11 +43,11 @@ unfoldable pub sound : Shape → List Fault → ℕ → ℕ → Bool
 sound s fs n d = link s n d && not (deadLink s fs n d)
 
 -- ---- what is answered of a plan sheet: no where a check declines the sheet or there is no such node
-abbrev pub nodeAnswer : List ℕ → ℕ → Bool
-nodeAnswer s n = isPlan s && deadNode (faultsOf s) n
+abbrev pub nodeAnswer : Limits → List ℕ → ℕ → Bool
+nodeAnswer L s n = isPlan L s && deadNode (faultsOf s) n
 
-abbrev pub linkAnswer : List ℕ → ℕ → ℕ → Bool
-linkAnswer s n d = isPlan s && (isNode (shapeOf s) n && deadLink (shapeOf s) (faultsOf s) n d)
+abbrev pub linkAnswer : Limits → List ℕ → ℕ → ℕ → Bool
+linkAnswer L s n d = isPlan L s && (isNode (shapeOf s) n && deadLink (shapeOf s) (faultsOf s) n d)
 
 -- ---- a byte for each node
 abbrev pub bitOf : Bool → ℕ
@@ -65,5 +66,5 @@ bits f = valueOf (f 0 ∷ f 1 ∷ f 2 ∷ f 3 ∷ f 4 ∷ f 5 ∷ [])
 unfoldable pub maskOf : Shape → List Fault → ℕ → ℕ
 maskOf s fs n = bits (deadLink s fs n)
 
-abbrev pub maskAnswer : List ℕ → ℕ → ℕ
-maskAnswer s n = cond (isPlan s && isNode (shapeOf s) n) (maskOf (shapeOf s) (faultsOf s) n) 0
+abbrev pub maskAnswer : Limits → List ℕ → ℕ → ℕ
+maskAnswer L s n = cond (isPlan L s && isNode (shapeOf s) n) (maskOf (shapeOf s) (faultsOf s) n) 0

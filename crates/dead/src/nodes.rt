@@ -7,6 +7,7 @@ use plan::layout::fault_in;
 ghost use mathlib.Core.Path.{_≡_};
 ghost use Prim.Native.Nat.{ℕ, _<_};
 ghost use lib.ListN.{getD};
+ghost use Rattle.plan.specs.Checks.{large};
 ghost use Rattle.dead.specs.Dead.{bitOf, nodeAnswer};
 ghost use Rattle.dead.specs.Steps.{markNode};
 
@@ -22,7 +23,7 @@ fn mark_node(nodes: &mut [u8; 4096], f: Fault)
 
 // Of an accepted plan; all 0 where a check declines the sheet.
 pub fn dead_nodes(sheet: &[u8]) -> [u8; 4096]
-    ensures { λ r. ⌜ ((n : ℕ) → getD r n 0 ≡ bitOf (nodeAnswer (now (sheet .entry)) n)) ⌝ }
+    ensures { λ r. ⌜ ((n : ℕ) → getD r n 0 ≡ bitOf (nodeAnswer large (now (sheet .entry)) n)) ⌝ }
 {
     let mut nodes = [0u8; 4096];
     if check(sheet) != 0 {

@@ -9,6 +9,7 @@ use plan::layout::fault_in;
 use plan::layout::shape_in;
 ghost use mathlib.Core.Path.{_≡_};
 ghost use Rattle.plan.specs.Layout.{faultsOf};
+ghost use Rattle.plan.specs.Checks.{large};
 ghost use Rattle.dead.specs.Dead.{deadNode, nodeAnswer, linkAnswer};
 ghost use Rattle.dead.specs.Steps.{anyNames};
 
@@ -41,7 +42,7 @@ fn link_in(sheet: &[u8], node: u16, dir: u8, to: u16) -> bool
 }
 
 pub fn is_dead_node(sheet: &[u8], node: u16) -> bool
-    ensures { λ r. ⌜ r ≡ nodeAnswer (now (sheet .entry)) node ⌝ }
+    ensures { λ r. ⌜ r ≡ nodeAnswer large (now (sheet .entry)) node ⌝ }
 {
     if check(sheet) == 0 {
         node_in(sheet, node)
@@ -51,7 +52,7 @@ pub fn is_dead_node(sheet: &[u8], node: u16) -> bool
 }
 
 pub fn is_dead_link(sheet: &[u8], node: u16, dir: u8) -> bool
-    ensures { λ r. ⌜ r ≡ linkAnswer (now (sheet .entry)) node dir ⌝ }
+    ensures { λ r. ⌜ r ≡ linkAnswer large (now (sheet .entry)) node dir ⌝ }
 {
     if check(sheet) != 0 {
         return false;

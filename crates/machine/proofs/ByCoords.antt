@@ -1,6 +1,6 @@
 -- Hops by coordinates are the hops of the nodes with these coordinates.
 use Prim.Native.Nat.{ℕ, _+_, _/_, _%_, _≤_, _<_}
-use mathlib.Core.Bool.{true, false, _&&_, and-assoc}
+use mathlib.Core.Bool.{Bool, true, false, _&&_, and-assoc}
 use mathlib.Core.Path.{_≡_, refl, sym, ap, _∙_}
 use native.Mathlib.Omega.{arith}
 use lib.Dec.{leb, eqb}
@@ -16,6 +16,7 @@ use Rattle.machine.specs.declared.leg.Mode.the-variants.{Adaptive, Deter
 use Rattle.shape.specs.Shape.{shapeError, extentOf, coordOf, wrappedIn, put}
 use Rattle.machine.specs.Number.{nodeCount, numberOf, coordsOf, Inside}
 use Rattle.shape.specs.Axis.{axisDistance, place, axisUseful}
+use Rattle.shape.specs.Steps.{goes}
 use Rattle.machine.specs.Hop.{dirDim, dirPlus, plusDir, minusDir, distance, link, neighbour, useful, toward, firstDirection}
 use Rattle.machine.specs.Torus.{allowedBy}
 use Rattle.machine.specs.ByCoords.{inDim, distanceAlong, linkAlong, usefulAlong, distanceAt, linkAt, movedAt, usefulAt, towardAt, firstAt, allowedAt}
@@ -151,15 +152,16 @@ module _ (s : Shape) (h : shapeError s ≡ 0) where
       minus-of Y = useful-at 3
       minus-of Z = useful-at 5
 
-      toward-at : (d : Dim) → toward s n t d ≡ towardAt s (coordsOf s n) (coordsOf s t) d
-      unfolding toward
-      toward-at d = rw (plus-of d, minus-of d)
+      module _ (ties : ℕ → Bool) where
+        toward-at : (d : Dim) → toward ties s n t d ≡ towardAt ties s (coordsOf s n) (coordsOf s t) d
+        unfolding toward goes
+        toward-at d = rw (plus-of d, minus-of d)
 
-      pub first-at : firstDirection s n t ≡ firstAt s (coordsOf s n) (coordsOf s t)
-      unfolding firstDirection firstAt
-      first-at = rw (toward-at X, toward-at Y, toward-at Z)
+        pub first-at : firstDirection ties s n t ≡ firstAt ties s (coordsOf s n) (coordsOf s t)
+        unfolding firstDirection firstAt
+        first-at = rw (toward-at X, toward-at Y, toward-at Z)
 
-      pub allowed-at : (m : Mode) (dir : ℕ) → allowedBy m s n t dir ≡ allowedAt m s (coordsOf s n) (coordsOf s t) dir
-      unfolding allowedBy allowedAt
-      allowed-at Adaptive dir = useful-at dir
-      allowed-at Deterministic dir = rw first-at
+        pub allowed-at : (m : Mode) (dir : ℕ) → allowedBy ties m s n t dir ≡ allowedAt ties m s (coordsOf s n) (coordsOf s t) dir
+        unfolding allowedBy allowedAt
+        allowed-at Adaptive dir = useful-at dir
+        allowed-at Deterministic dir = rw first-at

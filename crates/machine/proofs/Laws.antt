@@ -1,11 +1,11 @@
 -- What document 01 says of distance and hops, as theorems about the definitions.
 use Prim.Native.Nat.{ℕ, zero, suc, _+_, _≤_, _<_}
-use mathlib.Core.Bool.{Bool, true, false, false≢true, cond, not, _&&_}
+use mathlib.Core.Bool.{Bool, true, false, cond, not, _&&_}
 use mathlib.Core.Path.{_≡_, refl, sym, ap, _∙_}
-use mathlib.Core.Logic.{_⊎_, ⊎-elim}
+use mathlib.Core.Logic.{_⊎_}
 use native.Mathlib.Omega.{arith}
-use lib.Dec.{leb, lit≤}
-use borrow.Author.Tests.{eqb-true, eqb-false, le-leb, leb-true}
+use lib.Dec.{leb}
+use borrow.Author.Tests.{eqb-true, eqb-false, eq-eqb, le-leb, leb-true}
 use Rattle.theory.proofs.Bools.{and-true}
 use Rattle.shape.specs.declared.shape.Shape.{Shape}
 use Rattle.shape.specs.declared.shape.Coords.{Coords}
@@ -14,10 +14,12 @@ use Rattle.shape.specs.declared.shape.Dim.the-variants.{X, Y, Z}
 use Rattle.shape.specs.Shape.{shapeError, extentOf, coordOf, wrappedIn, put}
 use Rattle.shape.specs.Axis.{place}
 use Rattle.machine.specs.Number.{nodeCount, numberOf, coordsOf}
-use Rattle.machine.specs.Hop.{dirDim, dirPlus, plusDir, minusDir, halfRingDir, opposite, part, distance, link, neighbour, useful, toward, same, firstDirection}
+use Rattle.machine.specs.Hop.{dirDim, dirPlus, plusDir, minusDir, dirOf, opposite, along, part, distance, link, neighbour, useful, rule, toward, same, firstDirection}
 use Rattle.machine.specs.ByCoords.{linkAlong, movedAlong, movedAt}
+use Rattle.machine.proofs.Directions.{opposite-is}
 use Rattle.machine.proofs.Numbers.{number-coords, inside}
 use Rattle.shape.proofs.AxisLaws.{axis-symmetric, axis-zero, axis-self, axis-some, axis-step, back-place, back-link}
+use Rattle.shape.proofs.Runs.{one-taken}
 use Rattle.machine.proofs.ByCoords.{inside-at, along-small, distance-at, distance-put, neighbour-coords, neighbour-below, plus-of, minus-of}
 
 pub useful-link : (s : Shape) (n t dir : ℕ) → useful s n t dir ≡ true → link s n dir ≡ true
@@ -28,6 +30,10 @@ useful-link s n t dir e = and-true (link s n dir) _ e .0
 pub useful-lowers : (s : Shape) (n t dir : ℕ) → useful s n t dir ≡ true → distance s (neighbour s n dir) t + 1 ≡ distance s n t
 unfolding useful
 useful-lowers s n t dir e = eqb-true _ _ (and-true (link s n dir) _ e .1)
+
+pub useful-of : (s : Shape) (n t dir : ℕ) → link s n dir ≡ true → distance s (neighbour s n dir) t + 1 ≡ distance s n t → useful s n t dir ≡ true
+unfolding useful
+useful-of s n t dir l e = rw (l, eq-eqb (distance s (neighbour s n dir) t + 1) (distance s n t) e)
 
 pub distance-symmetric : (s : Shape) (n t : ℕ) → distance s n t ≡ distance s t n
 unfolding distance
@@ -75,25 +81,27 @@ module _ (s : Shape) (h : shapeError s ≡ 0) (n t : ℕ) (hn : n < nodeCount s)
       rw (plus-of s h n hn t d, minus-of s h n hn t d)
       (axis-some (extentOf s d) (wrappedIn s d) _ _ (inside-at s _ (inside s h n hn) d) (inside-at s _ (inside s h t ht) d) (eqb-false _ _ e))
 
-  -- In the useful direction of that dimension; where both are useful, at half a ring, in either.
-  way-useful : (d : Dim) (p m : Bool) → useful s n t (plusDir d) ≡ p → useful s n t (minusDir d) ≡ m → (p ≡ true) ⊎ (m ≡ true) → useful s n t (cond (p && m) (halfRingDir d) (cond p (plusDir d) (minusDir d))) ≡ true
-  way-useful d true true ep em some = ep
-  way-useful d true false ep em some = ep
-  way-useful d false m ep em some = ⊎-elim (λ u. absurd (false≢true u)) (λ u. em ∙ u) some
+  way-useful : (d : Dim) (plus : Bool) → useful s n t (dirOf d plus) ≡ cond plus (useful s n t (plusDir d)) (useful s n t (minusDir d))
+  way-useful d true = refl
+  way-useful d false = refl
 
-  toward-useful : (d : Dim) → same s n t d ≡ false → useful s n t (toward s n t d) ≡ true
+  -- toward another node the deterministic direction is useful by any rule for half a ring, so some direction is
+  toward-useful : (ties : ℕ → Bool) (d : Dim) → same s n t d ≡ false → useful s n t (toward ties s n t d) ≡ true
   unfolding toward
-  toward-useful d e = way-useful d (useful s n t (plusDir d)) (useful s n t (minusDir d)) refl refl (some-useful d e)
+  toward-useful ties d e =
+      let plus = useful s n t (plusDir d) in
+      let minus = useful s n t (minusDir d) in
+      let way = cond (plus && minus) (ties (along s n d)) plus in
+      way-useful d way ∙ one-taken plus minus (ties (along s n d)) way (some-useful d e) refl
 
-  -- toward another node the deterministic direction is useful, so some direction is
-  pub first-useful : (n ≡ t → ⊥) → useful s n t (firstDirection s n t) ≡ true
+  pub first-useful : (ties : ℕ → Bool) → (n ≡ t → ⊥) → useful s n t (firstDirection ties s n t) ≡ true
   unfolding firstDirection
-  first-useful ne = go (same s n t X) (same s n t Y) (same s n t Z) refl refl refl
+  first-useful ties ne = go (same s n t X) (same s n t Y) (same s n t Z) refl refl refl
     where
-      go : (a b c : Bool) → same s n t X ≡ a → same s n t Y ≡ b → same s n t Z ≡ c → useful s n t (cond (not a) (toward s n t X) (cond (not b) (toward s n t Y) (cond (not c) (toward s n t Z) 6))) ≡ true
-      go false b c ea eb ec = toward-useful X ea
-      go true false c ea eb ec = toward-useful Y eb
-      go true true false ea eb ec = toward-useful Z ec
+      go : (a b c : Bool) → same s n t X ≡ a → same s n t Y ≡ b → same s n t Z ≡ c → useful s n t (cond (not a) (toward ties s n t X) (cond (not b) (toward ties s n t Y) (cond (not c) (toward ties s n t Z) 6))) ≡ true
+      go false b c ea eb ec = toward-useful ties X ea
+      go true false c ea eb ec = toward-useful ties Y eb
+      go true true false ea eb ec = toward-useful ties Z ec
       go true true true ea eb ec = absurd (ne (same-node all))
         where
           all : (d : Dim) → coordOf (coordsOf s n) d ≡ coordOf (coordsOf s t) d
@@ -102,16 +110,6 @@ module _ (s : Shape) (h : shapeError s ≡ 0) (n t : ℕ) (hn : n < nodeCount s)
           all Z = eqb-true _ _ ec
 
 -- ---- back over the same link
-pub opposite-is : (dir : ℕ) → dir ≤ 5 → (opposite dir ≤ 5) × (dirDim (opposite dir) ≡ dirDim dir) × (dirPlus (opposite dir) ≡ not (dirPlus dir))
-unfolding opposite dirDim
-opposite-is zero h = (lit≤ tt, refl, refl)
-opposite-is (suc zero) h = (lit≤ tt, refl, refl)
-opposite-is (suc (suc zero)) h = (lit≤ tt, refl, refl)
-opposite-is (suc (suc (suc zero))) h = (lit≤ tt, refl, refl)
-opposite-is (suc (suc (suc (suc zero)))) h = (lit≤ tt, refl, refl)
-opposite-is (suc (suc (suc (suc (suc zero))))) h = (lit≤ tt, refl, refl)
-opposite-is (suc (suc (suc (suc (suc (suc n)))))) h = absurd (omega arith)
-
 pub put-at : (c : Coords) (d : Dim) (v : ℕ) → coordOf (put c d v) d ≡ v
 put-at c X v = refl
 put-at c Y v = refl
@@ -140,7 +138,7 @@ module _ (s : Shape) (h : shapeError s ≡ 0) (n dir : ℕ) (hn : n < nodeCount 
   link-back =
       let o = opposite-is dir low in
       let d = dirDim dir in
-      rw (neighbour-coords s h n hn dir, o .1, o .2, le-leb (opposite dir) 5 (o .0), put-at (coordsOf s n) d _)
+      rw (neighbour-coords s h n hn dir, o .dim, o .way, le-leb (opposite dir) 5 (o .low), put-at (coordsOf s n) d _)
       (back-link (extentOf s d) (wrappedIn s d) _ (dirPlus dir) (inside-at s _ (inside s h n hn) d) held)
 
   back-coords : movedAlong s (movedAlong s (coordsOf s n) (dirDim dir) (dirPlus dir)) (dirDim dir) (not (dirPlus dir)) ≡ coordsOf s n
@@ -153,7 +151,7 @@ module _ (s : Shape) (h : shapeError s ≡ 0) (n dir : ℕ) (hn : n < nodeCount 
   unfolding movedAt
   neighbour-back =
       let o = opposite-is dir low in
-      neighbour-from s (neighbour s n dir) (opposite dir) ∙ rw (neighbour-coords s h n hn dir, o .1, o .2, back-coords) (number-coords s h n)
+      neighbour-from s (neighbour s n dir) (opposite dir) ∙ rw (neighbour-coords s h n hn dir, o .dim, o .way, back-coords) (number-coords s h n)
 
   -- a hop changes the distance to any node by one at most
   pub distance-step : (t : ℕ) → t < nodeCount s → distance s n t ≤ distance s (neighbour s n dir) t + 1
@@ -171,8 +169,8 @@ pub triangle : (s : Shape) (h : shapeError s ≡ 0) (k n v t : ℕ) → n < node
 triangle s h zero n v t hn hv ht e = rw (distance-zero s h n v hn hv e) (omega arith)
 triangle s h (suc k) n v t hn hv ht e =
     let ne : n ≡ v → ⊥ = λ q. omega (arith, ap (λ m. distance s m v) q, distance-self s v) in
-    let dir = firstDirection s n v in
-    let u = first-useful s h n v hn hv ne in
+    let dir = firstDirection rule s n v in
+    let u = first-useful s h n v hn hv rule ne in
     let l = useful-link s n v dir u in
     let z = useful-lowers s n v dir u in
     let one = distance-step s h n dir hn l t ht in

@@ -1,6 +1,6 @@
--- Hops by coordinates, as the code computes them: of any coordinates, also outside the shape.
+-- The code's own steps: hops by coordinates, of any coordinates, also outside the shape.
 use Prim.Native.Nat.{ℕ, _+_, _/_}
-use mathlib.Core.Bool.{Bool, true, false, cond, not, _&&_}
+use mathlib.Core.Bool.{Bool, cond, not, _&&_}
 use lib.Dec.{leb, eqb}
 use Rattle.shape.specs.declared.shape.Shape.{Shape}
 use Rattle.shape.specs.declared.shape.Coords.{Coords}
@@ -10,7 +10,8 @@ use Rattle.machine.specs.declared.leg.Mode.{Mode}
 use Rattle.machine.specs.declared.leg.Mode.the-variants.{Adaptive, Deterministic}
 use Rattle.shape.specs.Shape.{extentOf, wrappedIn, coordOf, put}
 use Rattle.shape.specs.Axis.{axisDistance, hasLink, place, axisUseful}
-use Rattle.machine.specs.Hop.{dirDim, dirPlus, plusDir, minusDir, halfRingDir}
+use Rattle.shape.specs.Steps.{goes}
+use Rattle.machine.specs.Hop.{dirDim, dirPlus, dirOf}
 
 -- One of three values, by the dimension of a direction.
 abbrev pub inDim : ℕ → ℕ → ℕ → ℕ → ℕ
@@ -40,16 +41,19 @@ movedAt s c dir = movedAlong s c (dirDim dir) (dirPlus dir)
 unfoldable pub usefulAt : Shape → Coords → Coords → ℕ → Bool
 usefulAt s c t dir = leb dir 5 && usefulAlong s c t (dirDim dir) (dirPlus dir)
 
-abbrev pub towardAt : Shape → Coords → Coords → Dim → ℕ
-towardAt s c t d =
-    cond (usefulAlong s c t d true && usefulAlong s c t d false) (halfRingDir d) (cond (usefulAlong s c t d true) (plusDir d) (minusDir d))
+-- With any rule for half a ring: a deterministic leg goes plus along a dimension, its direction there, and its direction.
+abbrev pub goesAlong : (ℕ → Bool) → Shape → Coords → Coords → Dim → Bool
+goesAlong ties s c t d = goes ties (extentOf s d) (wrappedIn s d) (coordOf c d) (coordOf t d)
 
-unfoldable pub firstAt : Shape → Coords → Coords → ℕ
-firstAt s c t =
-    cond (not (eqb (c .x) (t .x))) (towardAt s c t X)
-    (cond (not (eqb (c .y) (t .y))) (towardAt s c t Y)
-    (cond (not (eqb (c .z) (t .z))) (towardAt s c t Z) 6))
+abbrev pub towardAt : (ℕ → Bool) → Shape → Coords → Coords → Dim → ℕ
+towardAt ties s c t d = dirOf d (goesAlong ties s c t d)
 
-unfoldable pub allowedAt : Mode → Shape → Coords → Coords → ℕ → Bool
-allowedAt Adaptive s c t dir = usefulAt s c t dir
-allowedAt Deterministic s c t dir = leb dir 5 && eqb dir (firstAt s c t)
+unfoldable pub firstAt : (ℕ → Bool) → Shape → Coords → Coords → ℕ
+firstAt ties s c t =
+    cond (not (eqb (c .x) (t .x))) (towardAt ties s c t X)
+    (cond (not (eqb (c .y) (t .y))) (towardAt ties s c t Y)
+    (cond (not (eqb (c .z) (t .z))) (towardAt ties s c t Z) 6))
+
+unfoldable pub allowedAt : (ℕ → Bool) → Mode → Shape → Coords → Coords → ℕ → Bool
+allowedAt ties Adaptive s c t dir = usefulAt s c t dir
+allowedAt ties Deterministic s c t dir = leb dir 5 && eqb dir (firstAt ties s c t)

@@ -20,6 +20,9 @@ minusDir X = 1
 minusDir Y = 3
 minusDir Z = 5
 
+abbrev pub dirOf : Dim → Bool → ℕ
+dirOf d plus = cond plus (plusDir d) (minusDir d)
+
 abbrev pub pickDim : Bool → Dim → Dim → Dim
 pickDim true a b = a
 pickDim false a b = b
@@ -61,20 +64,23 @@ distance s n t = part s n t X + part s n t Y + part s n t Z
 unfoldable pub useful : Shape → ℕ → ℕ → ℕ → Bool
 useful s n t dir = link s n dir && eqb (distance s (neighbour s n dir) t + 1) (distance s n t)
 
--- At half a ring a deterministic leg goes plus.
-abbrev pub halfRingDir : Dim → ℕ
-halfRingDir d = plusDir d
+-- The rule for half a ring that is in force: a deterministic leg goes plus there, from whatever coordinate. What follows takes any rule, `ties`: whether
+-- half a ring goes plus from the coordinate, in that dimension, of the node where the hop begins.
+unfoldable pub rule : ℕ → Bool
+rule p = true
 
--- In the useful direction of a dimension; at exactly half of a wrapped ring both directions are useful.
-unfoldable pub toward : Shape → ℕ → ℕ → Dim → ℕ
-toward s n t d =
+-- In the useful direction of a dimension; at exactly half of a wrapped ring both directions are useful, and the rule decides.
+unfoldable pub toward : (ℕ → Bool) → Shape → ℕ → ℕ → Dim → ℕ
+toward ties s n t d =
     let plus = useful s n t (plusDir d) in
-    cond (plus && useful s n t (minusDir d)) (halfRingDir d) (cond plus (plusDir d) (minusDir d))
+    dirOf d (cond (plus && useful s n t (minusDir d)) (ties (along s n d)) plus)
 
 abbrev pub same : Shape → ℕ → ℕ → Dim → Bool
 same s n t d = eqb (along s n d) (along s t d)
 
 -- A deterministic leg takes the first dimension of X, Y, Z where the coordinates differ; 6, no direction, where none does.
-unfoldable pub firstDirection : Shape → ℕ → ℕ → ℕ
-firstDirection s n t =
-    cond (not (same s n t X)) (toward s n t X) (cond (not (same s n t Y)) (toward s n t Y) (cond (not (same s n t Z)) (toward s n t Z) 6))
+unfoldable pub firstDirection : (ℕ → Bool) → Shape → ℕ → ℕ → ℕ
+firstDirection ties s n t =
+    cond (not (same s n t X)) (toward ties s n t X)
+    (cond (not (same s n t Y)) (toward ties s n t Y)
+    (cond (not (same s n t Z)) (toward ties s n t Z) 6))

@@ -1,5 +1,6 @@
 pub mod Number
 pub mod Hop
 pub mod Torus
-pub mod ByCoords
 pub mod Node
+-- The code's own steps.
+pub mod ByCoords

@@ -8,23 +8,27 @@ use Rattle.machine.specs.declared.leg.Mode.{Mode}
 use Rattle.machine.specs.declared.leg.Mode.the-variants.{Adaptive, Deterministic}
 use Rattle.machine.specs.declared.leg.Leg.{Leg}
 use Rattle.machine.specs.Number.{nodeCount}
-use Rattle.machine.specs.Hop.{distance, neighbour, useful, firstDirection}
+use Rattle.machine.specs.Hop.{distance, neighbour, useful, rule, firstDirection}
 
 -- An adaptive leg may take any useful hop at each node, a deterministic leg its one direction.
-unfoldable pub allowedBy : Mode → Shape → ℕ → ℕ → ℕ → Bool
-allowedBy Adaptive s n t dir = useful s n t dir
-allowedBy Deterministic s n t dir = leb dir 5 && eqb dir (firstDirection s n t)
+unfoldable pub allowedBy : (ℕ → Bool) → Mode → Shape → ℕ → ℕ → ℕ → Bool
+allowedBy ties Adaptive s n t dir = useful s n t dir
+allowedBy ties Deterministic s n t dir = leb dir 5 && eqb dir (firstDirection ties s n t)
 
 -- The leg to t in mode m.
 abbrev pub leg : ℕ → Mode → Leg
 leg t m = record { target = t; mode = m }
 
-abbrev pub torus : Shape → Machine Leg
-torus s = record {
+-- The machine with any rule for half a ring, and with the rule in force.
+abbrev pub torusBy : (ℕ → Bool) → Shape → Machine Leg
+torusBy ties s = record {
   size = nodeCount s;
   ways = 6;
   next = neighbour s;
   hops = distance s;
   target = λ l. l .target;
-  allowed = λ l n dir. allowedBy (l .mode) s n (l .target) dir;
+  allowed = λ l n dir. allowedBy ties (l .mode) s n (l .target) dir;
 }
+
+abbrev pub torus : Shape → Machine Leg
+torus s = torusBy rule s

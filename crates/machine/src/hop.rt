@@ -2,6 +2,7 @@
 use crate::leg::Mode;
 use logic::both;
 use logic::pick;
+use logic::pick_bool;
 use shape::Coords;
 use shape::Dim;
 use shape::Shape;
@@ -13,8 +14,9 @@ ghost use mathlib.Core.Path.{_≡_};
 ghost use Prim.Native.Nat.{_+_, _*_, _%_, _≤_, _<_};
 ghost use Rattle.shape.specs.Shape.{wrappedIn};
 ghost use Rattle.machine.specs.Number.{numberOf};
-ghost use Rattle.machine.specs.Hop.{dirDim, dirPlus, plusDir, minusDir, halfRingDir};
-ghost use Rattle.machine.specs.ByCoords.{inDim, distanceAlong, usefulAlong, distanceAt, linkAt, movedAt, usefulAt, towardAt, firstAt, allowedAt};
+ghost use Rattle.machine.specs.Hop.{dirDim, dirPlus, plusDir, minusDir, rule};
+ghost use Rattle.shape.specs.Steps.{goes};
+ghost use Rattle.machine.specs.ByCoords.{inDim, distanceAlong, distanceAt, linkAt, movedAt, usefulAt, towardAt, firstAt, allowedAt};
 
 fn dim_of(dir: u8) -> Dim
     ensures { λ r. ⌜ r ≡ dirDim dir ⌝ }
@@ -62,11 +64,20 @@ fn minus_dir(d: Dim) -> u8
     }
 }
 
-// The way that a deterministic leg goes at half a ring.
-fn half_ring_dir(d: Dim) -> u8
-    ensures { λ r. ⌜ r ≡ halfRingDir d ⌝ }
+// Whether a deterministic leg goes plus at half a ring, from the place p of its dimension.
+fn half_ring_plus(p: u8) -> bool
+    ensures { λ r. ⌜ r ≡ rule p ⌝ }
 {
-    plus_dir(d)
+    true
+}
+
+// Whether a deterministic leg goes plus from the place p of a dimension toward the place q.
+pub fn goes_plus(len: u8, ring: bool, p: u8, q: u8) -> bool
+    ensures { λ r. ⌜ r ≡ goes rule len ring p q ⌝ }
+{
+    let plus = axis::useful(len, ring, p, q, true);
+    let minus = axis::useful(len, ring, p, q, false);
+    pick_bool(both(plus, minus), half_ring_plus(p), plus)
 }
 
 // The node number of coordinates, of any size: modulo 65,536.
@@ -131,18 +142,6 @@ pub fn moved_at(shape: Shape, at: Coords, dir: u8) -> Coords
     }
 }
 
-fn useful_along(shape: Shape, at: Coords, to: Coords, d: Dim, plus: bool) -> bool
-    ensures { λ r. ⌜ r ≡ usefulAlong shape at to d plus ⌝ }
-{
-    axis::useful(
-        extent(shape, d),
-        wrapped(shape, d),
-        coord(at, d),
-        coord(to, d),
-        plus,
-    )
-}
-
 // The wrap of a direction's dimension.
 fn wrapped_in(shape: Shape, dir: u8) -> bool
     ensures { λ r. ⌜ r ≡ wrappedIn shape (dirDim dir) ⌝ }
@@ -165,20 +164,20 @@ pub fn useful_at(shape: Shape, at: Coords, to: Coords, dir: u8) -> bool
 }
 
 fn toward_at(shape: Shape, at: Coords, to: Coords, d: Dim) -> u8
-    ensures { λ r. ⌜ r ≡ towardAt shape at to d ⌝ }
+    ensures { λ r. ⌜ r ≡ towardAt rule shape at to d ⌝ }
 {
-    let plus = useful_along(shape, at, to, d, true);
-    let minus = useful_along(shape, at, to, d, false);
-    pick(
-        both(plus, minus),
-        half_ring_dir(d),
-        pick(plus, plus_dir(d), minus_dir(d)),
-    )
+    let plus = goes_plus(
+        extent(shape, d),
+        wrapped(shape, d),
+        coord(at, d),
+        coord(to, d),
+    );
+    pick(plus, plus_dir(d), minus_dir(d))
 }
 
 // The direction of a deterministic leg; 6, no direction, where the coordinates are the same.
 pub fn first_at(shape: Shape, at: Coords, to: Coords) -> u8
-    ensures { λ r. ⌜ r ≡ firstAt shape at to ⌝ }
+    ensures { λ r. ⌜ r ≡ firstAt rule shape at to ⌝ }
 {
     if at.x != to.x {
         return toward_at(shape, at, to, Dim::X);
@@ -194,7 +193,7 @@ pub fn first_at(shape: Shape, at: Coords, to: Coords) -> u8
 
 // Whether a leg's mode allows the direction.
 pub fn allowed_at(mode: Mode, shape: Shape, at: Coords, to: Coords, dir: u8) -> bool
-    ensures { λ r. ⌜ r ≡ allowedAt mode shape at to dir ⌝ }
+    ensures { λ r. ⌜ r ≡ allowedAt rule mode shape at to dir ⌝ }
 {
     match mode {
         Mode::Adaptive => useful_at(shape, at, to, dir),

@@ -13,7 +13,7 @@ use Rattle.shape.specs.declared.shape.Coords.{Coords}
 use Rattle.shape.specs.Shape.{shapeError}
 use Rattle.machine.specs.declared.leg.Leg.{Leg}
 use Rattle.machine.specs.Number.{nodeCount, coordsOf, numberOf}
-use Rattle.machine.specs.Hop.{neighbour}
+use Rattle.machine.specs.Hop.{neighbour, rule}
 use Rattle.machine.specs.Torus.{torus}
 use Rattle.machine.specs.ByCoords.{movedAt, allowedAt}
 use Rattle.machine.specs.Node.{isNode, coordsAnswer}
@@ -88,10 +88,10 @@ module _ (s : Shape) (legs : List Leg) (c : Course) (on : On s legs c) where
   to-is = rw front-is (ap (λ c. c .to) (on .is))
 
   -- ---- the directions allowed
-  pub on-allows : (d : ℕ) → (c .left ≡ 0 → ⊥) → allowedAt (c .front .mode) s (c .at) (c .to) d ≡ allows (torus s) (c .node) (legsLeft q) d
+  pub on-allows : (d : ℕ) → (c .left ≡ 0 → ⊥) → allowedAt rule (c .front .mode) s (c .at) (c .to) d ≡ allows (torus s) (c .node) (legsLeft q) d
   on-allows d ne =
       rw (at-is, to-is, front-is, front-or q ne)
-      (sym (allows-front s q d (omega arith) ∙ allowed-at s (on .fine .sound) (c .node) (on .fine .node) (frontOf q .target) (frontOf q .mode) d))
+      (sym (allows-front s q d (omega arith) ∙ allowed-at s (on .fine .sound) (c .node) (on .fine .node) (frontOf q .target) rule (frontOf q .mode) d))
 
   -- One is allowed only of a leg.
   pub allows-leg : (d : ℕ) → allows (torus s) (c .node) (legsLeft q) d ≡ true → 0 < c .left

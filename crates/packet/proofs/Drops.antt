@@ -17,7 +17,7 @@ use Rattle.shape.specs.declared.shape.Shape.{Shape}
 use Rattle.machine.specs.declared.leg.Leg.{Leg}
 use Rattle.shape.specs.Shape.{shapeError}
 use Rattle.machine.specs.Number.{nodeCount}
-use Rattle.machine.specs.Hop.{neighbour}
+use Rattle.machine.specs.Hop.{neighbour, rule}
 use Rattle.machine.specs.Node.{countAnswer}
 use Rattle.machine.specs.Torus.{allowedBy, torus}
 use Rattle.machine.proofs.ByCoords.{neighbour-below}
@@ -127,7 +127,7 @@ pub fine-front : (s : Shape) (q : Packet) → Fine s q → 0 < q .left → front
 fine-front s q f h = let i : Inside (torus s) (frontOf q ∷ lastOf (q .legs) (q .left - 1)) = rw (last-front (q .legs) (q .left) h) at (f .legs) in i .0
 
 -- What its mode allows; with no leg left, nothing.
-pub allows-front : (s : Shape) (q : Packet) (d : ℕ) → 0 < q .left → allows (torus s) (q .node) (legsLeft q) d ≡ allowedBy (frontOf q .mode) s (q .node) (frontOf q .target) d
+pub allows-front : (s : Shape) (q : Packet) (d : ℕ) → 0 < q .left → allows (torus s) (q .node) (legsLeft q) d ≡ allowedBy rule (frontOf q .mode) s (q .node) (frontOf q .target) d
 unfolding allows
 allows-front s q d h = rw (last-front (q .legs) (q .left) h)
 

@@ -1,8 +1,9 @@
 pub mod Faults
 pub mod Plans
+pub mod Most
 pub mod Listed
 pub mod Readings
-pub mod Encoding
+pub mod Forms
 pub mod Writings
 pub mod Rewriting
 pub mod RoundTrips

@@ -6,21 +6,20 @@ use mathlib.Core.List.{List}
 use borrow.Author.Tests.{eq-eqb, ne-eqb}
 use Rattle.plan.specs.declared.reading.Reading.{Reading}
 use Rattle.plan.specs.declared.reading.Answer.the-variants.{Refused}
-use Rattle.plan.specs.Checks.{large, planError}
+use Rattle.plan.specs.Checks.{Limits, planError}
 use Rattle.plan.specs.Reading.{noPlan, isPlan, reading}
 
-module _ (s : List ℕ) (e : ℕ) (h : e ≡ planError large s) where
-  pub is-plan : e ≡ 0 → isPlan s ≡ true
+module _ (L : Limits) (s : List ℕ) (e : ℕ) (h : e ≡ planError L s) where
+  pub is-plan : e ≡ 0 → isPlan L s ≡ true
   unfolding isPlan
-  is-plan z = eq-eqb (planError large s) 0 (sym h ∙ z)
+  is-plan z = eq-eqb (planError L s) 0 (sym h ∙ z)
 
-  pub is-no-plan : (e ≡ 0 → ⊥) → isPlan s ≡ false
+  pub is-no-plan : (e ≡ 0 → ⊥) → isPlan L s ≡ false
   unfolding isPlan
-  is-no-plan n = ne-eqb (planError large s) 0 (λ z. n (h ∙ z))
+  is-no-plan n = ne-eqb (planError L s) 0 (λ z. n (h ∙ z))
 
--- What is read.
-module _ (s : List ℕ) (e : ℕ) (h : e ≡ planError large s) where
-  pub refused : (e ≡ 0 → ⊥) → _≡_ {A = Reading} (record { answer = Refused e; plan = noPlan }) (reading (planError large s) s)
+  -- What is read.
+  pub refused : (e ≡ 0 → ⊥) → _≡_ {A = Reading} (record { answer = Refused e; plan = noPlan }) (reading (planError L s) s)
   unfolding reading
   refused n = rw (sym h) (go e n)
     where
@@ -28,5 +27,5 @@ module _ (s : List ℕ) (e : ℕ) (h : e ≡ planError large s) where
       go zero n = absurd (n refl)
       go (suc k) n = refl
 
-  pub read-as : e ≡ 0 → (r : Reading) → r ≡ reading 0 s → r ≡ reading (planError large s) s
+  pub read-as : e ≡ 0 → (r : Reading) → r ≡ reading 0 s → r ≡ reading (planError L s) s
   read-as z r q = q ∙ rw (sym h ∙ z)

@@ -1,43 +1,54 @@
--- 'Plan sheet, version 1': where its parts stand.
+-- 'Plan sheet': where its parts stand, by the version. Byte 0 is the version and bytes 1-2 the length of what follows, as in every sheet.
 use Prim.Native.Nat.{ℕ, _+_, _*_, _-_}
-use mathlib.Core.List.{List}
-use lib.ListN.{length}
-use Rattle.sheet.specs.Bytes.{byte, word, listFrom}
+use mathlib.Core.Bool.{Bool}
+use mathlib.Core.List.{List, [], _∷_}
+use lib.Dec.{eqb}
+use Rattle.sheet.specs.Bytes.{byte, word, upperByte, lowerByte, listFrom}
+use Rattle.sheet.specs.Head.{version}
+use Rattle.sheet.specs.Records.{Form, recordAt, recordsAfter}
 use Rattle.shape.specs.declared.shape.Shape.{Shape}
 use Rattle.plan.specs.declared.layout.Fault.{Fault}
 
--- Byte 0: version, 1.
+-- What a version byte says: whether there is such a version, the bytes before the faults, which are the least length, and the highest kind of a fault.
+pub record Layout : Type 0 where
+  pub known : Bool
+  pub headSize : ℕ
+  pub lastKind : ℕ
+
+-- Version 1. Every other byte reads as it, and is not known.
+unfoldable pub layoutOf : ℕ → Layout
+layoutOf v = record { known = eqb v 1; headSize = 9; lastKind = 3 }
+
+abbrev pub layoutIn : List ℕ → Layout
+layoutIn s = layoutOf (version s)
+
+-- The version that is written.
 abbrev pub planVersion : ℕ
 planVersion = 1
 
-unfoldable pub version : List ℕ → ℕ
-version s = byte s 0
-
--- Bytes 1-2: length of all that follows.
-unfoldable pub lengthField : List ℕ → ℕ
-lengthField s = word s 1
-
-unfoldable pub bytesAfter : List ℕ → ℕ
-bytesAfter s = length s - 3
-
--- Then the three extents, one byte each; the wrap byte.
+-- After the length field the three extents, one byte each; the wrap byte.
 unfoldable pub shapeOf : List ℕ → Shape
 shapeOf s = record { x = byte s 3; y = byte s 4; z = byte s 5; wrap = byte s 6 }
 
--- A two-byte fault count.
+-- A two-byte fault count, the last of the head.
 unfoldable pub faultCount : List ℕ → ℕ
-faultCount s = word s 7
+faultCount s = word s (layoutIn s .headSize - 2)
 
--- Then three bytes a fault: node (two) and kind (one). The faults stand at byte 9; fault number i, from 0.
-abbrev pub faultsAt : ℕ
-faultsAt = 9
+-- Then three bytes a fault: node (two) and kind (one).
+abbrev pub faultForm : Form Fault
+faultForm = record {
+  size = 3;
+  read = λ s at. record { node = word s at; kind = byte s (at + 2) };
+  bytes = λ f. upperByte (f .node) ∷ lowerByte (f .node) ∷ f .kind ∷ [];
+}
 
+-- Fault number i, from 0.
 unfoldable pub faultAt : List ℕ → ℕ → Fault
-faultAt s i = record { node = word s (faultsAt + 3 * i); kind = byte s (faultsAt + 3 * i + 2) }
+faultAt s i = recordAt faultForm (layoutIn s .headSize) s i
 
 unfoldable pub faultsOf : List ℕ → List Fault
 faultsOf s = listFrom (faultAt s) 0 (faultCount s)
 
--- The length of what follows, with this many faults: 6 + 3 × count.
-abbrev pub sizeAfter : ℕ → ℕ
-sizeAfter count = 6 + 3 * count
+-- The length of what follows, with this many faults: 6 + 3 × count in version 1.
+abbrev pub sizeAfter : Layout → ℕ → ℕ
+sizeAfter l count = recordsAfter faultForm (l .headSize) count

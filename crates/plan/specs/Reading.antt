@@ -11,7 +11,7 @@ use Rattle.plan.specs.declared.reading.Plan.{Plan}
 use Rattle.plan.specs.declared.reading.Answer.the-variants.{Accepted, Refused}
 use Rattle.plan.specs.declared.reading.Reading.{Reading}
 use Rattle.plan.specs.Layout.{shapeOf, faultCount, faultAt, faultsOf}
-use Rattle.plan.specs.Checks.{large, planError}
+use Rattle.plan.specs.Checks.{Limits, mostFaults, planError}
 
 abbrev pub noShape : Shape
 noShape = record { x = 0; y = 0; z = 0; wrap = 0 }
@@ -20,25 +20,25 @@ abbrev pub noFault : Fault
 noFault = record { node = 0; kind = 0 }
 
 abbrev pub noPlan : Plan
-noPlan = record { shape = noShape; count = 0; faults = replicate 256 noFault }
+noPlan = record { shape = noShape; count = 0; faults = replicate mostFaults noFault }
 
 -- An accepted plan is a sheet that none of a plan's checks declines.
-unfoldable pub isPlan : List ℕ → Bool
-isPlan s = eqb (planError large s) 0
+unfoldable pub isPlan : Limits → List ℕ → Bool
+isPlan L s = eqb (planError L s) 0
 
 -- Single questions: zeros where a check declines the sheet, and past the faults.
-abbrev pub shapeAnswer : List ℕ → Shape
-shapeAnswer s = cond (isPlan s) (shapeOf s) noShape
+abbrev pub shapeAnswer : Limits → List ℕ → Shape
+shapeAnswer L s = cond (isPlan L s) (shapeOf s) noShape
 
-abbrev pub countAnswer : List ℕ → ℕ
-countAnswer s = cond (isPlan s) (faultCount s) 0
+abbrev pub countAnswer : Limits → List ℕ → ℕ
+countAnswer L s = cond (isPlan L s) (faultCount s) 0
 
-abbrev pub faultAnswer : List ℕ → ℕ → Fault
-faultAnswer s i = cond (ltb i (countAnswer s)) (faultAt s i) noFault
+abbrev pub faultAnswer : Limits → List ℕ → ℕ → Fault
+faultAnswer L s i = cond (ltb i (countAnswer L s)) (faultAt s i) noFault
 
 -- The faults as an array of 256, with zeros past them.
 unfoldable pub faultArray : List ℕ → List Fault
-faultArray s = arrayOf noFault 256 (faultsOf s)
+faultArray s = arrayOf noFault mostFaults (faultsOf s)
 
 unfoldable pub planOf : List ℕ → Plan
 planOf s = record { shape = shapeOf s; count = faultCount s; faults = faultArray s }

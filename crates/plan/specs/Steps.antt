@@ -1,28 +1,28 @@
 -- The code's own steps.
 use Prim.Native.Nat.{ℕ, _+_, _*_}
-use mathlib.Core.Bool.{Bool, not, _||_}
+use mathlib.Core.Bool.{not}
 use mathlib.Core.List.{List}
 use lib.ListN.{length, set}
-use lib.Dec.{ltb, eqb}
+use lib.Dec.{ltb}
+use Rattle.numbers.specs.Numbers.{planShort, planVersionUnknown, manyFaults, wrongLength}
 use Rattle.theory.specs.Checks.{declined, _then_}
 use Rattle.sheet.specs.Bytes.{upperByte, lowerByte}
+use Rattle.sheet.specs.Head.{lengthIs}
 use Rattle.plan.specs.declared.layout.Fault.{Fault}
-use Rattle.plan.specs.Layout.{planVersion, faultsAt, version, lengthField, bytesAfter, sizeAfter, faultCount}
-use Rattle.plan.specs.Checks.{Limits}
-
--- Check 4.
-unfoldable pub badLength : List ℕ → Bool
-badLength s = not (eqb (lengthField s) (bytesAfter s)) || not (eqb (lengthField s) (sizeAfter (faultCount s)))
+use Rattle.plan.specs.Layout.{layoutOf, layoutIn, planVersion, sizeAfter, faultCount}
+use Rattle.plan.specs.Checks.{mostFaults}
 
 -- Checks 1 to 4.
-unfoldable pub headError : Limits → List ℕ → ℕ
-headError L s =
-    declined (ltb (length s) faultsAt) 1
-    then declined (not (eqb (version s) planVersion)) 2
-    then declined (ltb (L .faults) (faultCount s)) 3
-    then declined (badLength s) 4
+unfoldable pub headError : List ℕ → ℕ
+headError s =
+    declined (ltb (length s) (layoutIn s .headSize)) planShort
+    then declined (not (layoutIn s .known)) planVersionUnknown
+    then declined (ltb mostFaults (faultCount s)) manyFaults
+    then declined (not (lengthIs s (sizeAfter (layoutIn s) (faultCount s)))) wrongLength
     then 0
 
 -- The bytes of a sheet with fault number i put in its place.
 abbrev pub putFault : List ℕ → ℕ → Fault → List ℕ
-putFault s i f = let at = faultsAt + 3 * i in set (set (set s at (upperByte (f .node))) (at + 1) (lowerByte (f .node))) (at + 2) (f .kind)
+putFault s i f =
+    let at = layoutOf planVersion .headSize + 3 * i in
+    set (set (set s at (upperByte (f .node))) (at + 1) (lowerByte (f .node))) (at + 2) (f .kind)

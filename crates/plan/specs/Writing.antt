@@ -1,12 +1,14 @@
 -- Writing a plan sheet.
 use Prim.Native.Nat.{ℕ}
-use mathlib.Core.List.{List, [], _∷_, _++_}
+use mathlib.Core.List.{List, _∷_, _++_}
 use lib.ListN.{getD}
-use Rattle.sheet.specs.Bytes.{upperByte, lowerByte, listFrom}
+use Rattle.sheet.specs.Bytes.{wordBytes, listFrom}
+use Rattle.sheet.specs.Head.{frontBytes}
+use Rattle.sheet.specs.Records.{recordsBytes}
 use Rattle.sheet.specs.Output.{roomError}
 use Rattle.plan.specs.declared.layout.Fault.{Fault}
 use Rattle.plan.specs.declared.reading.Plan.{Plan}
-use Rattle.plan.specs.Layout.{planVersion, sizeAfter}
+use Rattle.plan.specs.Layout.{layoutOf, planVersion, faultForm, sizeAfter}
 use Rattle.plan.specs.Checks.{Limits, planError}
 use Rattle.plan.specs.Reading.{noFault}
 
@@ -18,29 +20,12 @@ writeError L s o = roomError (planError L s) s o
 unfoldable pub planFaults : Plan → List Fault
 planFaults p = listFrom (λ i. getD (p .faults) i noFault) 0 (p .count)
 
--- Three bytes a fault: node (two) and kind (one).
-abbrev pub faultBytes : Fault → List ℕ
-faultBytes f = upperByte (f .node) ∷ lowerByte (f .node) ∷ f .kind ∷ []
-
-unfoldable pub faultsBytes : List Fault → List ℕ
-faultsBytes [] = []
-faultsBytes (f ∷ fs) = faultBytes f ++ faultsBytes fs
-
 -- Version, length of what follows, extents, wrap byte and fault count.
 unfoldable pub headBytes : Plan → List ℕ
 headBytes p =
-    let after = sizeAfter (p .count) in
-    planVersion
-    ∷ upperByte after
-    ∷ lowerByte after
-    ∷ p .shape .x
-    ∷ p .shape .y
-    ∷ p .shape .z
-    ∷ p .shape .wrap
-    ∷ upperByte (p .count)
-    ∷ lowerByte (p .count)
-    ∷ []
+    frontBytes planVersion (sizeAfter (layoutOf planVersion) (p .count))
+    ++ (p .shape .x ∷ p .shape .y ∷ p .shape .z ∷ p .shape .wrap ∷ wordBytes (p .count))
 
 -- The sheet of a plan.
 unfoldable pub sheetOf : Plan → List ℕ
-sheetOf p = headBytes p ++ faultsBytes (planFaults p)
+sheetOf p = headBytes p ++ recordsBytes faultForm (planFaults p)

@@ -1,46 +1,44 @@
 // Checks 1 to 8 of a plan, in order; 0 where none declines.
 use crate::kinds;
-use crate::layout::FAULTS_AT;
 use crate::layout::Fault;
+use crate::layout::HEAD_SIZE;
+use crate::layout::LAST_KIND;
+use crate::layout::MOST_FAULTS;
 use crate::layout::VERSION;
-use crate::layout::bytes_after;
 use crate::layout::count_in;
 use crate::layout::fault_in;
-use crate::layout::length_in;
 use crate::layout::shape_in;
 use crate::layout::size_after;
-use crate::layout::version_in;
 use logic::both;
 use logic::either;
 use logic::pick;
 use machine::node::has_link;
 use machine::node::is_node;
+use numbers::FAULT_NOT_ABOVE;
+use numbers::MANY_FAULTS;
+use numbers::NO_SUCH_FAULT;
+use numbers::PLAN_SHORT;
+use numbers::PLAN_VERSION_UNKNOWN;
+use numbers::WRONG_LENGTH;
 use shape::Shape;
 use shape::shape::shape_error;
+use sheet::head::length_is;
+use sheet::head::version_in;
 ghost use mathlib.Core.Path.{_≡_};
 ghost use Prim.Native.Nat.{_<_};
-ghost use Rattle.plan.specs.Layout.{faultsOf};
-ghost use Rattle.plan.specs.Checks.{large, faultExists, rank, faultsError, planError};
-ghost use Rattle.plan.specs.Steps.{badLength, headError};
-
-fn bad_length(sheet: &[u8]) -> bool
-    ensures { λ r. ⌜ r ≡ badLength (now (sheet .entry)) ⌝ }
-{
-    let field = length_in(sheet);
-    either(
-        field != bytes_after(sheet),
-        field != size_after(count_in(sheet)),
-    )
-}
+ghost use Rattle.plan.specs.Layout.{layoutIn, layoutOf, faultsOf};
+ghost use Rattle.plan.specs.Checks.{large, torusPlans, faultGood, faultExists, faultKey, faultsError, planError, planErrorBy};
+ghost use Rattle.plan.specs.Steps.{headError};
 
 // Checks 1 to 4.
 fn head_error(sheet: &[u8]) -> u8
-    ensures { λ r. ⌜ r ≡ headError large (now (sheet .entry)) ⌝ }
+    ensures { λ r. ⌜ r ≡ headError (now (sheet .entry)) ⌝ }
 {
-    let wrong = pick(bad_length(sheet), 4, 0);
-    let many = pick(256 < count_in(sheet), 3, wrong);
-    let version = pick(version_in(sheet) != VERSION, 2, many);
-    pick(sheet.len() < FAULTS_AT, 1, version)
+    let count = count_in(sheet);
+    let wrong = pick(length_is(sheet, size_after(count)), 0, WRONG_LENGTH);
+    let many = pick(MOST_FAULTS < count, MANY_FAULTS, wrong);
+    let version = pick(version_in(sheet) == VERSION, many, PLAN_VERSION_UNKNOWN);
+    pick(sheet.len() < HEAD_SIZE, PLAN_SHORT, version)
 }
 
 fn fault_exists(shape: Shape, f: Fault) -> bool
@@ -51,8 +49,14 @@ fn fault_exists(shape: Shape, f: Fault) -> bool
     both(is_node(shape, f.node), kind)
 }
 
-fn rank_of(f: Fault) -> u32
-    ensures { λ r. ⌜ r ≡ rank f ⌝ }
+fn fault_good(shape: Shape, f: Fault) -> bool
+    ensures { λ r. ⌜ r ≡ faultGood torusPlans 3 shape f ⌝ }
+{
+    both(f.kind <= LAST_KIND, fault_exists(shape, f))
+}
+
+fn fault_key(f: Fault) -> u32
+    ensures { λ r. ⌜ r ≡ faultKey f ⌝ }
     ensures { λ r. ⌜ r < 16777216 ⌝ }
 {
     (f.node as u32) * 256 + (f.kind as u32)
@@ -60,21 +64,21 @@ fn rank_of(f: Fault) -> u32
 
 // Checks 7 and 8.
 fn faults_error(sheet: &[u8], shape: Shape) -> u8
-    ensures { λ r. ⌜ r ≡ faultsError shape 0 (faultsOf (now (sheet .entry))) ⌝ }
+    ensures { λ r. ⌜ r ≡ faultsError torusPlans (layoutIn (now (sheet .entry)) .lastKind) shape 0 (faultsOf (now (sheet .entry))) ⌝ }
 {
     let count = count_in(sheet);
     let mut least: u32 = 0;
     let mut i: u16 = 0;
     while i < count {
         let f = fault_in(sheet, i);
-        if !fault_exists(shape, f) {
-            return 7;
+        if !fault_good(shape, f) {
+            return NO_SUCH_FAULT;
         }
-        let r = rank_of(f);
-        if r < least {
-            return 8;
+        let key = fault_key(f);
+        if key < least {
+            return FAULT_NOT_ABOVE;
         }
-        least = r + 1;
+        least = key + 1;
         i = i + 1;
     }
     0

@@ -1,6 +1,7 @@
 // The bytes of a plan's sheet, of at most 256 faults.
-use crate::layout::FAULTS_AT;
+use crate::layout::FAULT_SIZE;
 use crate::layout::Fault;
+use crate::layout::HEAD_SIZE;
 use crate::layout::VERSION;
 use crate::layout::size_after;
 use crate::reading::Plan;
@@ -9,12 +10,13 @@ use sheet::upper;
 ghost use mathlib.Core.Path.{_≡_};
 ghost use Prim.Native.Nat.{_+_, _*_, _<_, _≤_};
 ghost use lib.ListN.{take};
+ghost use Rattle.plan.specs.Layout.{layoutOf, planVersion};
 ghost use Rattle.plan.specs.Steps.{putFault};
 ghost use Rattle.plan.specs.Writing.{headBytes, sheetOf};
 
 fn head(plan: Plan) -> [u8; 777]
     requires { ⌜ plan .count ≤ 256 ⌝ }
-    ensures { λ r. ⌜ take 9 r ≡ headBytes plan ⌝ }
+    ensures { λ r. ⌜ take (layoutOf planVersion .headSize) r ≡ headBytes plan ⌝ }
 {
     let shape = plan.shape;
     let count = plan.count;
@@ -36,7 +38,7 @@ fn put_fault(bytes: &mut [u8; 777], i: usize, f: Fault)
     requires { ⌜ i < 256 ⌝ }
     ensures { λ _. ⌜ now (bytes .exit) ≡ putFault (now (bytes .entry)) i f ⌝ }
 {
-    let at = FAULTS_AT + 3 * i;
+    let at = HEAD_SIZE + FAULT_SIZE * i;
     bytes[at] = upper(f.node);
     bytes[at + 1] = lower(f.node);
     bytes[at + 2] = f.kind;
@@ -44,7 +46,7 @@ fn put_fault(bytes: &mut [u8; 777], i: usize, f: Fault)
 
 pub fn encoded(plan: Plan) -> [u8; 777]
     requires { ⌜ plan .count ≤ 256 ⌝ }
-    ensures { λ r. ⌜ take (9 + 3 * plan .count) r ≡ sheetOf plan ⌝ }
+    ensures { λ r. ⌜ take (layoutOf planVersion .headSize + 3 * plan .count) r ≡ sheetOf plan ⌝ }
 {
     let count = plan.count as usize;
     let faults = plan.faults;

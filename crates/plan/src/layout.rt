@@ -3,39 +3,25 @@ use shape::Shape;
 use sheet::byte_at;
 use sheet::word_at;
 ghost use mathlib.Core.Path.{_≡_};
-ghost use Prim.Native.Nat.{_+_, _*_, _-_, _<_};
-ghost use lib.ListN.{length};
-ghost use Rattle.plan.specs.Layout.{version, lengthField, bytesAfter, shapeOf, faultCount, sizeAfter, faultAt};
+ghost use Prim.Native.Nat.{_+_, _*_, _-_};
+ghost use Rattle.plan.specs.Layout.{layoutIn, layoutOf, planVersion, shapeOf, faultCount, sizeAfter, faultAt};
 
 pub struct Fault {
     pub node: u16,
     pub kind: u8,
 }
 
-// Version 1; the faults stand at byte 9.
+// Version 1: its head has 9 bytes, then the faults stand, of kinds up to 3.
 pub const VERSION: u8 = 1;
 
-pub const FAULTS_AT: usize = 9;
+pub const HEAD_SIZE: usize = 9;
 
-pub fn version_in(sheet: &[u8]) -> u8
-    ensures { λ r. ⌜ r ≡ version (now (sheet .entry)) ⌝ }
-{
-    byte_at(sheet, 0)
-}
+pub const LAST_KIND: u8 = 3;
 
-// The length field.
-pub fn length_in(sheet: &[u8]) -> usize
-    ensures { λ r. ⌜ r ≡ lengthField (now (sheet .entry)) ⌝ }
-{
-    word_at(sheet, 1)
-}
+// A fault's bytes, and how many faults a plan has at most.
+pub const FAULT_SIZE: usize = 3;
 
-// The bytes that follow the length field.
-pub fn bytes_after(sheet: &[u8]) -> usize
-    ensures { λ r. ⌜ r ≡ bytesAfter (now (sheet .entry)) ⌝ }
-{
-    if sheet.len() < 3 { 0 } else { sheet.len() - 3 }
-}
+pub const MOST_FAULTS: u16 = 256;
 
 pub fn shape_in(sheet: &[u8]) -> Shape
     ensures { λ r. ⌜ r ≡ shapeOf (now (sheet .entry)) ⌝ }
@@ -51,21 +37,21 @@ pub fn shape_in(sheet: &[u8]) -> Shape
 pub fn count_in(sheet: &[u8]) -> u16
     ensures { λ r. ⌜ r ≡ faultCount (now (sheet .entry)) ⌝ }
 {
-    word_at(sheet, 7) as u16
+    word_at(sheet, HEAD_SIZE - 2) as u16
 }
 
-// The length of what follows, with this many faults.
+// The length of what follows the length field, with this many faults.
 pub fn size_after(count: u16) -> usize
-    ensures { λ r. ⌜ r ≡ sizeAfter count ⌝ }
+    ensures { λ r. ⌜ r ≡ sizeAfter (layoutOf planVersion) count ⌝ }
 {
-    6 + 3 * (count as usize)
+    HEAD_SIZE - 3 + FAULT_SIZE * (count as usize)
 }
 
 // Fault number i, from 0.
 pub fn fault_in(sheet: &[u8], i: u16) -> Fault
     ensures { λ r. ⌜ r ≡ faultAt (now (sheet .entry)) i ⌝ }
 {
-    let at = FAULTS_AT + 3 * (i as usize);
+    let at = HEAD_SIZE + FAULT_SIZE * (i as usize);
     Fault {
         node: word_at(sheet, at) as u16,
         kind: byte_at(sheet, at + 2),

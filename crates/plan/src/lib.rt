@@ -1,10 +1,10 @@
 // The plan sheet: its layout, checks 1 to 8, reading and writing.
-pub mod checks;
+mod checks;
 mod encode;
 pub mod kinds;
 pub mod layout;
-pub mod reading;
-pub mod writing;
+mod reading;
+mod writing;
 
 pub use checks::check;
 pub use layout::Fault;

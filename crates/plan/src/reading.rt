@@ -27,7 +27,7 @@ pub struct Reading {
 }
 
 pub fn shape_of(sheet: &[u8]) -> Shape
-    ensures { λ r. ⌜ r ≡ shapeAnswer (now (sheet .entry)) ⌝ }
+    ensures { λ r. ⌜ r ≡ shapeAnswer large (now (sheet .entry)) ⌝ }
 {
     if check(sheet) == 0 {
         shape_in(sheet)
@@ -42,7 +42,7 @@ pub fn shape_of(sheet: &[u8]) -> Shape
 }
 
 pub fn fault_count(sheet: &[u8]) -> u16
-    ensures { λ r. ⌜ r ≡ countAnswer (now (sheet .entry)) ⌝ }
+    ensures { λ r. ⌜ r ≡ countAnswer large (now (sheet .entry)) ⌝ }
 {
     if check(sheet) == 0 {
         count_in(sheet)
@@ -53,7 +53,7 @@ pub fn fault_count(sheet: &[u8]) -> u16
 
 // Fault number i, from 0; zeros past the count.
 pub fn fault_at(sheet: &[u8], i: u16) -> Fault
-    ensures { λ r. ⌜ r ≡ faultAnswer (now (sheet .entry)) i ⌝ }
+    ensures { λ r. ⌜ r ≡ faultAnswer large (now (sheet .entry)) i ⌝ }
 {
     if i < fault_count(sheet) {
         fault_in(sheet, i)

@@ -1,8 +1,11 @@
 // Writing a plan sheet: back from its bytes, or from a plan's value.
 use crate::checks::check;
 use crate::encode::encoded;
-use crate::layout::FAULTS_AT;
+use crate::layout::FAULT_SIZE;
+use crate::layout::HEAD_SIZE;
+use crate::layout::MOST_FAULTS;
 use crate::reading::Plan;
+use numbers::MANY_FAULTS;
 use sheet::output::Written;
 use sheet::output::put_sheet;
 ghost use mathlib.Core.Path.{_≡_};
@@ -23,11 +26,11 @@ pub fn write(plan: Plan, out: &mut [u8]) -> Written
     ensures { λ r. ⌜ r ≡ written (writeError large (sheetOf plan) (now (out .entry))) (sheetOf plan) ⌝ }
     ensures { λ _. ⌜ now (out .exit) ≡ outAfter (writeError large (sheetOf plan) (now (out .entry))) (sheetOf plan) (now (out .entry)) ⌝ }
 {
-    let count = plan.count as usize;
-    if 256 < count {
-        return Written::Refused(3);
+    let count = plan.count;
+    if MOST_FAULTS < count {
+        return Written::Refused(MANY_FAULTS);
     }
     let bytes = encoded(plan);
-    let end = FAULTS_AT + 3 * count;
+    let end = HEAD_SIZE + FAULT_SIZE * (count as usize);
     write_back(&bytes[..end], out)
 }

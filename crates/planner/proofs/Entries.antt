@@ -1,15 +1,19 @@
--- What an entry of a table says, and the least number of a leg that it gives.
+-- What a table's byte says of a leg, and what the leg adds to a choice's number.
 use Prim.Native.Nat.{ℕ, _+_, _*_, _/_, _%_, _≤_, _<_}
 use native.Mathlib.Omega.{arith}
-use mathlib.Core.Path.{_≡_, refl, sym, _∙_}
-use mathlib.Core.Bool.{Bool, true, false, cond, false≢true}
+use mathlib.Core.Path.{_≡_}
+use mathlib.Core.Bool.{Bool, true, false, cond}
+use mathlib.Core.Option.{Option, none, some}
+use Rattle.theory.specs.Clear.{clear}
 use Rattle.shape.specs.declared.shape.Shape.{Shape}
-use Rattle.machine.specs.declared.leg.Mode.{Mode}
+use Rattle.machine.specs.declared.leg.Leg.{Leg}
 use Rattle.machine.specs.declared.leg.Mode.the-variants.{Adaptive, Deterministic}
 use Rattle.machine.specs.Hop.{distance}
-use Rattle.tables.specs.Entry.{clearFrom, entry}
+use Rattle.machine.specs.Torus.{leg, torus}
+use Rattle.tables.specs.Table.{clearFrom, cell}
 use Rattle.choice.specs.Choice.{det}
-use Rattle.planner.specs.Score.{lengthPlace, detsPlace, unclear, hopsIn, modeScore, legScore, firstScore}
+use Rattle.choice.specs.Further.{better}
+use Rattle.planner.specs.KeyNumber.{lengthPlace, detsPlace, unclear, hopsIn, modePart, legPart, firstPart}
 
 -- Two flags and a number in a byte.
 abbrev packed : Bool → Bool → ℕ → ℕ
@@ -33,70 +37,21 @@ packed-rest true false k = omega arith
 packed-rest false true k = omega arith
 packed-rest false false k = omega arith
 
--- The numbers of a leg with k hops, of which `ok m` says whether it is clear in mode m: those of a mode in which it is clear.
-pub record Found (k e : ℕ) (ok : Mode → Bool) : Type 0 where
-  pub mode : Mode
-  pub clear : ok mode ≡ true
-  pub leg-is : legScore e ≡ k * lengthPlace + det mode * detsPlace
-  pub first-is : firstScore e ≡ k * lengthPlace + (det mode * detsPlace + det mode)
+-- What a leg of k hops adds, by the better mode in which it is clear.
+abbrev pub Adds : ℕ → ℕ → Option Leg → Type 0
+Adds k e none = unclear ≤ legPart e
+Adds k e (some l) = (legPart e ≡ k * lengthPlace + det (l .mode) * detsPlace) × (firstPart e ≡ k * lengthPlace + (det (l .mode) * detsPlace + det (l .mode)))
 
--- None of them is above that of a mode in which it is clear.
-pub record LegScore (k e : ℕ) (ok : Mode → Bool) : Type 0 where
-  pub leg-most : (m : Mode) → ok m ≡ true → legScore e ≤ k * lengthPlace + det m * detsPlace
-  pub first-most : (m : Mode) → ok m ≡ true → firstScore e ≤ k * lengthPlace + (det m * detsPlace + det m)
-  pub found : legScore e < unclear → Found k e ok
+adds-by : (k e : ℕ) (t : ℕ) (a b : Bool) → hopsIn e ≡ k → e % 2 ≡ cond a 1 0 → e / 2 % 2 ≡ cond b 1 0 → Adds k e (cond a (some (leg t Adaptive)) (cond b (some (leg t Deterministic)) none))
+unfolding firstPart legPart modePart
+adds-by k e t true b hops first second = (rw (hops, first) (omega arith), rw (hops, first) (omega arith))
+adds-by k e t false true hops first second = (rw (hops, first, second) (omega arith), rw (hops, first, second) (omega arith))
+adds-by k e t false false hops first second = rw (hops, first, second) (omega arith)
 
-module _ (k e : ℕ) (ok : Mode → Bool) (hops : hopsIn e ≡ k) (first : e % 2 ≡ cond (ok Adaptive) 1 0) (second : e / 2 % 2 ≡ cond (ok Deterministic) 1 0) where
-  leg-value : (a b : Bool) → ok Adaptive ≡ a → ok Deterministic ≡ b → legScore e ≡ k * lengthPlace + cond a 0 (cond b detsPlace unclear)
-  unfolding legScore modeScore
-  leg-value true b ea eb = rw (hops, first, ea)
-  leg-value false true ea eb = rw (hops, first, second, ea, eb)
-  leg-value false false ea eb = rw (hops, first, second, ea, eb)
-
-  first-value : (a : Bool) → ok Adaptive ≡ a → firstScore e ≡ legScore e + cond a 0 1
-  unfolding firstScore
-  first-value true ea = rw (first, ea)
-  first-value false ea = rw (first, ea)
-
-  only : (m : Mode) → ok Adaptive ≡ false → ok m ≡ true → det m ≡ 1
-  only Adaptive ea h = absurd (false≢true (sym ea ∙ h))
-  only Deterministic ea h = refl
-
-  neither : (m : Mode) → ok Adaptive ≡ false → ok Deterministic ≡ false → ok m ≡ true → ⊥
-  neither Adaptive ea eb h = false≢true (sym ea ∙ h)
-  neither Deterministic ea eb h = false≢true (sym eb ∙ h)
-
-  by-flags : (a b : Bool) → ok Adaptive ≡ a → ok Deterministic ≡ b → LegScore k e ok
-  by-flags true b ea eb =
-      let v = leg-value true b ea eb in
-      let w = first-value true ea in
-      record {
-        leg-most = λ m h. omega arith;
-        first-most = λ m h. omega arith;
-        found = λ _. record { mode = Adaptive; clear = ea; leg-is = omega arith; first-is = omega arith };
-      }
-  by-flags false true ea eb =
-      let v = leg-value false true ea eb in
-      let w = first-value false ea in
-      record {
-        leg-most = λ m h. omega (arith, only m ea h);
-        first-most = λ m h. omega (arith, only m ea h);
-        found = λ _. record { mode = Deterministic; clear = eb; leg-is = omega arith; first-is = omega arith };
-      }
-  by-flags false false ea eb =
-      let v = leg-value false false ea eb in
-      record {
-        leg-most = λ m h. absurd (neither m ea eb h);
-        first-most = λ m h. absurd (neither m ea eb h);
-        found = λ h. absurd (omega arith);
-      }
-
--- The entry of the leg from u to t.
-pub entry-score : (s : Shape) (sound : ℕ → ℕ → Bool) (u t e : ℕ) → e ≡ entry s sound u t → LegScore (distance s u t) e (λ m. clearFrom s sound m u t)
-unfolding entry
-entry-score s sound u t e is =
+-- The byte of the leg from u to t.
+pub entry-part : (s : Shape) (sound : ℕ → ℕ → Bool) (u t e : ℕ) → e ≡ cell s sound u t → Adds (distance s u t) e (better (clear (torus s) sound) u t)
+unfolding cell better
+entry-part s sound u t e is =
     let a = clearFrom s sound Adaptive u t in
     let b = clearFrom s sound Deterministic u t in
-    by-flags (distance s u t) e (λ m. clearFrom s sound m u t)
-    (rw is (packed-rest a b (distance s u t))) (rw is (packed-first a b (distance s u t))) (rw is (packed-second a b (distance s u t)))
-    a b refl refl
+    adds-by (distance s u t) e t a b (rw is (packed-rest a b (distance s u t))) (rw is (packed-first a b (distance s u t))) (rw is (packed-second a b (distance s u t)))

@@ -1,11 +1,11 @@
 pub mod Leasts
-pub mod Scores
+pub mod KeyNumbers
 pub mod Order
-pub mod Ranks
+pub mod KeyBytes
 pub mod Entries
-pub mod Outcomes
+pub mod Decoded
 pub mod Planned
 pub mod Pairs
-pub mod Dests
+pub mod OneDestination
 pub mod Planning
 pub mod Writing

@@ -2,17 +2,19 @@
 use Prim.Native.Nat.{ℕ, _+_, _*_, _≤_, _<_}
 use native.Mathlib.Nat.{mul-le-mul-right, add-mul}
 use native.Mathlib.Omega.{arith}
-use mathlib.Core.Path.{_≡_, sym}
+use mathlib.Core.Path.{_≡_, sym, _∙_}
 use mathlib.Core.List.{List, [], _∷_}
+use lib.ListN.{length}
 use lib.Dec.{ltb}
 use borrow.Author.Tests.{lt-ltb, le-ltb}
 use Rattle.theory.specs.Choice.{lex}
 use Rattle.theory.proofs.Cases.{test, by-le, by-order}
-use Rattle.shape.specs.declared.shape.Shape.{Shape}
 use Rattle.machine.specs.declared.leg.Mode.{Mode}
 use Rattle.machine.specs.declared.leg.Mode.the-variants.{Adaptive, Deterministic}
-use Rattle.choice.specs.Choice.{Choice, Direct, Via, det, detLegs, viaCount, viaNode, firstMode, keyOf, beforeIn}
-use Rattle.planner.specs.Score.{lengthPlace, detsPlace, viasPlace, nodePlace, digits, scoreOf}
+use Rattle.choice.specs.Choice.{Choice, viasOf, det, detsOf, lengthFrom, before}
+use Rattle.choice.specs.OneVia.{OneVia, viaOf, firstDet, oneViaKey}
+use Rattle.choice.proofs.OneVia.{same-order}
+use Rattle.planner.specs.KeyNumber.{lengthPlace, detsPlace, viasPlace, nodePlace, digits, keyNumber}
 
 radix : (x y r q R : ℕ) → r < R → q < R → x < y → x * R + r < y * R + q
 radix x y r q R hr hq h = omega (arith, mul-le-mul-right R (next x y h), add-mul x 1 R)
@@ -60,21 +62,23 @@ lex-digits l d c v f l₁ d₁ c₁ v₁ f₁ h k =
     (omega arith) (omega arith))
     (omega arith) (omega arith)
 
-pub det-low : (m : Mode) → det m < 2
+det-low : (m : Mode) → det m < 2
 det-low Adaptive = omega arith
 det-low Deterministic = omega arith
 
--- A via's number is below 4096.
-abbrev pub Small : Choice → Type 0
-Small (Direct m) = Unit {0}
-Small (Via v m n) = v < 4096
-
-pub low-places : (c : Choice) → Small c → Low (detLegs c) (viaCount c) (viaNode c) (det (firstMode c))
-unfolding detLegs viaCount viaNode firstMode
-low-places (Direct m) h = record { dets-low = omega (arith, det-low m); vias-low = omega arith; node-low = omega arith; first-low = det-low m }
-low-places (Via v m n) h = record { dets-low = omega (arith, det-low m, det-low n); vias-low = omega arith; node-low = h; first-low = det-low m }
+-- One leg or two, and a via's number below 4096.
+pub low-places : (S D : ℕ) (c : Choice) → OneVia S D c → viaOf c < 4096 → Low (detsOf c) (length (viasOf c)) (viaOf c) (firstDet c)
+unfolding detsOf viasOf viaOf firstDet
+low-places S D [] o h = let some = o .some in absurd (omega arith)
+low-places S D (l ∷ []) o h = let d = det-low (l .mode) in record { dets-low = omega arith; vias-low = omega arith; node-low = h; first-low = d }
+low-places S D (l ∷ m ∷ []) o h = let d = det-low (l .mode) in let e = det-low (m .mode) in record { dets-low = omega arith; vias-low = omega arith; node-low = h; first-low = d }
+low-places S D (l ∷ m ∷ n ∷ ls) o h = let few = o .few in absurd (omega arith)
 
 -- The order of the choices is that of their numbers.
-pub before-score : (s : Shape) (S D : ℕ) (a b : Choice) → Small a → Small b → beforeIn s S D a b ≡ ltb (scoreOf s S D a) (scoreOf s S D b)
-unfolding keyOf scoreOf
-before-score s S D a b h k = lex-digits _ (detLegs a) (viaCount a) (viaNode a) (det (firstMode a)) _ (detLegs b) (viaCount b) (viaNode b) (det (firstMode b)) (low-places a h) (low-places b k)
+pub before-number :
+    (far : ℕ → ℕ → ℕ) (S D : ℕ) (a b : Choice) → OneVia S D a → OneVia S D b → viaOf a < 4096 → viaOf b < 4096 →
+    before far S a b ≡ ltb (keyNumber far S a) (keyNumber far S b)
+unfolding keyNumber oneViaKey
+before-number far S D a b oa ob h k =
+    same-order far S D a b oa ob
+    ∙ lex-digits (lengthFrom far S a) (detsOf a) (length (viasOf a)) (viaOf a) (firstDet a) (lengthFrom far S b) (detsOf b) (length (viasOf b)) (viaOf b) (firstDet b) (low-places S D a oa h) (low-places S D b ob k)

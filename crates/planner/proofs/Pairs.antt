@@ -7,15 +7,14 @@ use mathlib.Core.List.{List}
 use lib.ListN.{getD}
 use lib.Dec.{eqb}
 use borrow.Author.Tests.{eq-eqb, ne-eqb, eqb-true}
+use Rattle.numbers.specs.Numbers.{nodeOutside, deadEnd}
 use Rattle.theory.specs.Checks.{declined, _then_}
-use Rattle.theory.specs.Plan.{planned}
 use Rattle.theory.proofs.Cases.{test}
 use Rattle.shape.specs.declared.shape.Shape.{Shape}
 use Rattle.shape.specs.Shape.{shapeError}
 use Rattle.machine.specs.Number.{nodeCount}
 use Rattle.machine.specs.Hop.{link}
 use Rattle.machine.specs.Node.{isNode, countAnswer}
-use Rattle.machine.specs.Torus.{torus}
 use Rattle.machine.proofs.Nodes.{Node, node-of}
 use Rattle.machine.proofs.Laws.{low}
 use Rattle.plan.specs.Layout.{shapeOf, faultsOf}
@@ -23,13 +22,13 @@ use Rattle.plan.specs.Checks.{large, planError}
 use Rattle.plan.specs.Reading.{isPlan}
 use Rattle.dead.specs.Dead.{deadNode, deadLink, sound, maskOf, maskAnswer, nodeAnswer}
 use Rattle.dead.proofs.Table.{mask-bit, is-node}
-use Rattle.tables.specs.Entry.{soundBit, soundBy, towardAnswer, outwardAnswer}
-use Rattle.choice.specs.Choice.{legsTo, choices, beforeIn}
-use Rattle.choice.specs.Pair.{soundIn, routeIn, pairError, chosen, answered, pair}
-use Rattle.choice.proofs.First.{route-same}
-use Rattle.planner.specs.declared.outcome.Outcome.{Outcome}
-use Rattle.planner.specs.Outcome.{told}
-use Rattle.planner.specs.Score.{outcomeIn}
+use Rattle.tables.specs.Table.{soundBit, soundBy, towardAnswer, outwardAnswer}
+use Rattle.choice.specs.declared.outcome.Outcome.{Outcome}
+use Rattle.choice.specs.Answer.{answered}
+use Rattle.choice.specs.Outcome.{told}
+use Rattle.choice.specs.Pair.{soundIn, routeBy, routeIn, pairError, chosen, pair}
+use Rattle.choice.proofs.AtTorus.{route-same}
+use Rattle.planner.specs.KeyNumber.{outcomeIn}
 use Rattle.planner.proofs.Planned.{nodes-most, tables-of, outcome-planned}
 
 -- ---- the links by their masks
@@ -50,7 +49,7 @@ module _ (p masks : List ℕ) (ok : planError large p ≡ 0) (are : (n : ℕ) �
       even-odd (getD masks n 0 / 2 ^ d) ∙ rw (dead, l)
 
 -- ---- the checks of a pair
-checks : (a b c d : Bool) → cond (a && b) (cond (c || d) 10 0) 9 ≡ (declined (not a || not b) 9 then declined (c || d) 10 then 0)
+checks : (a b c d : Bool) → cond (a && b) (cond (c || d) deadEnd 0) nodeOutside ≡ (declined (not a || not b) nodeOutside then declined (c || d) deadEnd then 0)
 checks true true true d = refl
 checks true true false true = refl
 checks true true false false = refl
@@ -65,7 +64,7 @@ pub pair-error :
     b ≡ isNode s D →
     c ≡ nodeAnswer p S →
     d ≡ nodeAnswer p D →
-    cond (not (eqb e 0)) e (cond (a && b) (cond (c || d) 10 0) 9) ≡ pairError p S D
+    cond (not (eqb e 0)) e (cond (a && b) (cond (c || d) deadEnd 0) nodeOutside) ≡ pairError large p S D
 unfolding pairError isPlan
 pair-error p s S D zero a b c d es ee ea eb ec ed =
     let z : planError large p ≡ 0 = sym ee in
@@ -81,20 +80,20 @@ pub record Accepted (p : List ℕ) (S D : ℕ) : Type 0 where
   pub source : isNode (shapeOf p) S ≡ true
   pub target : isNode (shapeOf p) D ≡ true
 
-accepts : (p : List ℕ) (S D e : ℕ) (a b c : Bool) → (e then declined (not a || not b) 9 then declined c 10 then 0) ≡ 0 → (e ≡ 0) × (a ≡ true) × (b ≡ true)
+accepts : (p : List ℕ) (S D e : ℕ) (a b c : Bool) → (e then declined (not a || not b) nodeOutside then declined c deadEnd then 0) ≡ 0 → (e ≡ 0) × (a ≡ true) × (b ≡ true)
 accepts p S D zero true true c h = (refl, refl, refl)
 accepts p S D zero true false c h = absurd (omega arith)
 accepts p S D zero false b c h = absurd (omega arith)
 accepts p S D (suc e) a b c h = absurd (omega arith)
 
-pub accepted : (p : List ℕ) (S D : ℕ) → pairError p S D ≡ 0 → Accepted p S D
+pub accepted : (p : List ℕ) (S D : ℕ) → pairError large p S D ≡ 0 → Accepted p S D
 unfolding pairError
 accepted p S D h =
     let k = accepts p S D (planError large p) (isNode (shapeOf p) S) (isNode (shapeOf p) D) (deadNode (faultsOf p) S || deadNode (faultsOf p) D) h in
     record { plan = k .0; source = k .1; target = k .2 }
 
 -- ---- the answer
-pub refused-pair : (p : List ℕ) (S D e : ℕ) → e ≡ pairError p S D → (e ≡ 0 → ⊥) → Outcome.Refused e ≡ told (pair p S D)
+pub refused-pair : (p : List ℕ) (S D e : ℕ) → e ≡ pairError large p S D → (e ≡ 0 → ⊥) → Outcome.Refused e ≡ told (shapeOf p) S (pair large p S D)
 unfolding pair answered told
 refused-pair p S D zero q ne = absurd (ne refl)
 refused-pair p S D (suc e) q ne = rw (sym q)
@@ -106,10 +105,9 @@ module _ (p masks : List ℕ) (S D : ℕ) (A : Accepted p S D) (are : (n : ℕ) 
   to-node : Node (shapeOf p) D
   to-node = node-of (shapeOf p) D (A .target)
 
-  pub route-is : planned (torus (shapeOf p)) (soundBy masks) (legsTo D) (beforeIn (shapeOf p) S D) S (choices (nodeCount (shapeOf p)) S D) ≡ routeIn p S D
-  unfolding routeIn
+  pub route-is : routeBy (shapeOf p) (soundBy masks) S D ≡ routeIn p S D
   route-is =
-      route-same (shapeOf p) (from-node .sound) S D (from-node .below) (to-node .below) (soundBy masks) (soundIn p)
+      route-same (shapeOf p) (from-node .sound) (soundBy masks) S D (from-node .below) (to-node .below) (soundIn p)
       (λ n d l k. sound-by p masks (A .plan) are n d (record { sound = from-node .sound; below = l }) k)
 
   pub outcome-is :
@@ -117,11 +115,11 @@ module _ (p masks : List ℕ) (S D : ℕ) (A : Accepted p S D) (are : (n : ℕ) 
       ((n : ℕ) → getD from n 0 ≡ outwardAnswer (shapeOf p) masks S n) →
       ((n : ℕ) → getD toward n 0 ≡ towardAnswer (shapeOf p) masks D n) →
       count ≡ nodeCount (shapeOf p) →
-      outcomeIn from toward count D ≡ told (chosen (shapeOf p) S D (routeIn p S D))
+      outcomeIn from toward count D ≡ told (shapeOf p) S (chosen (routeIn p S D))
   outcome-is from toward count out back c =
       rw (c, sym route-is) (outcome-planned (shapeOf p) (soundBy masks) S D from toward (tables-of (shapeOf p) masks S D from toward (A .source) (A .target) out back))
 
-chosen-pair : (p : List ℕ) (S D : ℕ) → pairError p S D ≡ 0 → told (chosen (shapeOf p) S D (routeIn p S D)) ≡ told (pair p S D)
+chosen-pair : (p : List ℕ) (S D : ℕ) → pairError large p S D ≡ 0 → told (shapeOf p) S (chosen (routeIn p S D)) ≡ told (shapeOf p) S (pair large p S D)
 unfolding pair answered
 chosen-pair p S D h = rw h
 
@@ -129,7 +127,7 @@ count-is : (s : Shape) (n r : ℕ) → isNode s n ≡ true → r ≡ countAnswer
 count-is s n r k e = e ∙ rw (eq-eqb (shapeError s) 0 (node-of s n k .sound))
 
 -- What is worked out of an accepted pair: the shape, the masks of its links, and the tables of the legs from S and to D.
-module _ (p : List ℕ) (s : Shape) (S D e : ℕ) (es : s ≡ shapeOf p) (ee : e ≡ pairError p S D) (zero : e ≡ 0) where
+module _ (p : List ℕ) (s : Shape) (S D e : ℕ) (es : s ≡ shapeOf p) (ee : e ≡ pairError large p S D) (zero : e ≡ 0) where
   A : Accepted p S D
   A = accepted p S D (sym ee ∙ zero)
 
@@ -145,7 +143,7 @@ module _ (p : List ℕ) (s : Shape) (S D e : ℕ) (es : s ≡ shapeOf p) (ee : e
       ((n : ℕ) → getD toward n 0 ≡ towardAnswer s masks D n) →
       count ≡ countAnswer s →
       r ≡ outcomeIn from toward count D →
-      r ≡ told (pair p S D)
+      r ≡ told (shapeOf p) S (pair large p S D)
   paired masks from toward count r are out back c q =
       q
       ∙ outcome-is p masks S D A are from toward count (rw es at out) (rw es at back) (count-is (shapeOf p) D count (A .target) (rw es at c))

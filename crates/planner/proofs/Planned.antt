@@ -3,47 +3,51 @@ use Prim.Native.Nat.{ℕ, _+_, _*_, _≤_, _<_}
 use native.Mathlib.Omega.{arith}
 use mathlib.Core.Path.{_≡_, refl, sym, ap, _∙_}
 use mathlib.Core.Logic.{⊎-elim}
-use mathlib.Core.Bool.{Bool, true, false, _&&_, true≢false}
-use mathlib.Core.List.{List}
+use mathlib.Core.Bool.{Bool, true, false}
+use mathlib.Core.List.{List, [], _∷_, _++_, List·Memᴰ, List·Memᴰ·append-cases, Memᴰ·append-left, Memᴰ·append-right}
 use mathlib.Core.Option.{Option, none, some}
-use lib.ListN.{getD}
-use borrow.Author.Tests.{eq-eqb, lt-ltb, ltb-true}
-use Rattle.theory.specs.Clear.{clear, clearIn, clearLegs}
-use Rattle.theory.specs.Choice.{Best, best}
-use Rattle.theory.specs.Plan.{planned}
-use Rattle.theory.proofs.Bools.{and-true}
-use Rattle.theory.proofs.Cases.{by-le}
-use Rattle.theory.proofs.Choice.{best-is}
+use lib.ListN.{length, getD}
+use borrow.Author.Tests.{eq-eqb, lt-ltb, le-ltb}
+use Rattle.theory.specs.Machine.{endBy, sumBy}
+use Rattle.theory.specs.Clear.{clear}
+use Rattle.theory.specs.Choice.{best}
+use Rattle.theory.proofs.Cases.{test, by-le}
+use Rattle.theory.proofs.Choice.{best-none, best-first}
 use Rattle.shape.specs.declared.shape.Shape.{Shape}
 use Rattle.shape.specs.Shape.{shapeError}
 use Rattle.shape.proofs.Shapes.{count-most}
-use Rattle.machine.specs.declared.leg.Mode.{Mode}
-use Rattle.machine.specs.declared.leg.Mode.the-variants.{Adaptive, Deterministic}
+use Rattle.machine.specs.declared.leg.Leg.{Leg}
 use Rattle.machine.specs.Number.{nodeCount}
 use Rattle.machine.specs.Hop.{distance}
 use Rattle.machine.specs.Torus.{torus}
-use Rattle.machine.proofs.Laws.{distance-self, distance-most}
+use Rattle.machine.proofs.Laws.{distance-most}
 use Rattle.machine.specs.Node.{isNode, arePair}
 use Rattle.machine.proofs.Nodes.{Node, node-of}
-use Rattle.tables.specs.Entry.{soundBy, clearFrom, entry, towardAnswer, outwardAnswer}
-use Rattle.choice.specs.Choice.{Choice, Direct, Via, legsTo, Admits, choices, lengthFrom, lengthOf, det, detLegs, viaCount, viaNode, firstMode, beforeIn}
-use Rattle.choice.specs.Pair.{chosen}
-use Rattle.choice.proofs.Choices.{before-order, admits-lists, lists-admits}
-use Rattle.planner.specs.Outcome.{told}
+use Rattle.tables.specs.Table.{soundBy, cell, towardAnswer, outwardAnswer}
+use Rattle.choice.specs.Choice.{Choice, over, viasOf, det, detsOf, legLength, lengthOf, beforeIn}
+use Rattle.choice.specs.OneVia.{OneVia, viaOf, firstDet}
+use Rattle.choice.specs.Further.{firstBy, better, directly, alone, followed, furthered}
+use Rattle.choice.specs.Answer.{Answer}
+use Rattle.choice.specs.Outcome.{told}
+use Rattle.choice.specs.Pair.{routeBy, chosen}
+use Rattle.choice.proofs.Keys.{before-order}
+use Rattle.choice.proofs.Listed.{over-has, has-over}
+use Rattle.choice.proofs.Further.{alone-has, has-alone, Followed, followed-has, has-followed, better-is}
+use Rattle.choice.proofs.AtTorus.{route-first, no-via-first}
 use Rattle.planner.specs.Least.{least}
-use Rattle.planner.specs.Score.{lengthPlace, detsPlace, viasPlace, nodePlace, scoreOf, unclear, legScore, firstScore, viaScore, scoreAt, decoded, outcomeIn}
+use Rattle.planner.specs.KeyNumber.{lengthPlace, detsPlace, viasPlace, nodePlace, keyNumber, unclear, legPart, firstPart, viaNumber, numberAt, decoded, outcomeIn}
 use Rattle.planner.proofs.Leasts.{ReachedAt, least-first, least-each, least-one}
-use Rattle.planner.proofs.Order.{Small, low-places, before-score}
-use Rattle.planner.proofs.Entries.{LegScore, entry-score}
-use Rattle.planner.proofs.Outcomes.{decoded-none, decoded-score}
+use Rattle.planner.proofs.Order.{Low, low-places, before-number}
+use Rattle.planner.proofs.Entries.{Adds, entry-part}
+use Rattle.planner.proofs.Decoded.{decoded-none, decoded-number}
 
 -- The tables of the legs from the source S and to the destination D.
 pub record Tables (s : Shape) (sound : ℕ → ℕ → Bool) (S D : ℕ) (from toward : List ℕ) : Type 0 where
   pub ok : shapeError s ≡ 0
   pub source : S < nodeCount s
   pub target : D < nodeCount s
-  pub out : (n : ℕ) → n < nodeCount s → getD from n 0 ≡ entry s sound S n
-  pub back : (n : ℕ) → n < nodeCount s → getD toward n 0 ≡ entry s sound n D
+  pub out : (n : ℕ) → n < nodeCount s → getD from n 0 ≡ cell s sound S n
+  pub back : (n : ℕ) → n < nodeCount s → getD toward n 0 ≡ cell s sound n D
 
 is-node : (s : Shape) (n : ℕ) → shapeError s ≡ 0 → n < nodeCount s → isNode s n ≡ true
 unfolding isNode
@@ -76,165 +80,202 @@ pub nodes-most : (s : Shape) → shapeError s ≡ 0 → nodeCount s ≤ 4096
 unfolding nodeCount
 nodes-most s h = count-most s h
 
--- An empty leg is clear.
-self-clear : (s : Shape) (sound : ℕ → ℕ → Bool) (n : ℕ) → clearFrom s sound Adaptive n n ≡ true
-unfolding clear clearIn
-self-clear s sound n = rw (distance-self s n)
+number-parts : (from toward : List ℕ) (v : ℕ) → numberAt from toward v ≡ firstPart (getD from v 0) + (legPart (getD toward v 0) + (viasPlace + v * nodePlace))
+unfolding numberAt viaNumber
+number-parts from toward v = refl
 
-and-one : (b : Bool) → (b && true) ≡ b
-and-one true = refl
-and-one false = refl
-
--- What a first leg adds, of what the same leg adds elsewhere.
-first-leg : (e : ℕ) → (legScore e ≤ firstScore e) × (firstScore e ≤ legScore e + 1)
-unfolding firstScore
-first-leg e = (omega arith, omega arith)
-
-score-parts : (from toward : List ℕ) (v : ℕ) → scoreAt from toward v ≡ firstScore (getD from v 0) + (legScore (getD toward v 0) + (viasPlace + v * nodePlace))
-unfolding scoreAt viaScore
-score-parts from toward v = refl
+first-part : (e : ℕ) → legPart e ≤ firstPart e
+unfolding firstPart
+first-part e = omega arith
 
 module _ (s : Shape) (sound : ℕ → ℕ → Bool) (S D : ℕ) where
-  abbrev okay : Choice → Bool
-  okay c = clearLegs (torus s) sound S (legsTo D c)
+  -- The numbers of one leg and of two.
+  number-direct : (l : Leg) → l .target ≡ D → keyNumber (legLength s) S (l ∷ []) ≡ distance s S D * lengthPlace + (det (l .mode) * detsPlace + det (l .mode))
+  unfolding keyNumber sumBy detsOf viasOf viaOf firstDet
+  number-direct l e = rw e (omega arith)
 
-  okay-direct : (m : Mode) → okay (Direct m) ≡ clearFrom s sound m S D
-  unfolding legsTo clearLegs
-  okay-direct m = and-one _
-
-  okay-via : (v : ℕ) (m n : Mode) → okay (Via v m n) ≡ (clearFrom s sound m S v && clearFrom s sound n v D)
-  unfolding legsTo clearLegs
-  okay-via v m n = rw (and-one (clearFrom s sound n v D))
-
-  score-direct : (m : Mode) → scoreOf s S D (Direct m) ≡ distance s S D * lengthPlace + (det m * detsPlace + det m)
-  unfolding scoreOf lengthFrom legsTo detLegs viaCount viaNode firstMode
-  score-direct m = omega arith
-
-  score-via : (v : ℕ) (m n : Mode) → scoreOf s S D (Via v m n) ≡ (distance s S v + distance s v D) * lengthPlace + ((det m + det n) * detsPlace + (viasPlace + (v * nodePlace + det m)))
-  unfolding scoreOf lengthFrom legsTo detLegs viaCount viaNode firstMode
-  score-via v m n = omega arith
-
-  -- A number is that of an admitted choice that is clear.
-  record Reached (k : ℕ) : Type 0 where
-    choice : Choice
-    admitted : Admits s S D choice
-    passes : okay choice ≡ true
-    score : k ≡ scoreOf s S D choice
+  number-via :
+      (l m : Leg) (v : ℕ) → l .target ≡ v → m .target ≡ D →
+      keyNumber (legLength s) S (l ∷ m ∷ []) ≡ (distance s S v + distance s v D) * lengthPlace + ((det (l .mode) + det (m .mode)) * detsPlace + (viasPlace + (v * nodePlace + det (l .mode))))
+  unfolding keyNumber sumBy detsOf viasOf viaOf firstDet
+  number-via l m v e f = rw (e, f) (omega arith)
 
   module _ (from toward : List ℕ) (T : Tables s sound S D from toward) where
     abbrev first : ℕ
-    first = firstScore (getD from D 0)
+    first = firstPart (getD from D 0)
 
     abbrev found : ℕ
-    found = least (scoreAt from toward) first 0 (nodeCount s)
+    found = least (numberAt from toward) first 0 (nodeCount s)
 
-    found-first : found ≤ first
-    found-first = least-first (scoreAt from toward) first 0 (nodeCount s)
+    abbrev leads : ℕ → ℕ → Option Leg
+    leads u t = better (clear (torus s) sound) u t
 
-    out-score : (v : ℕ) → v < nodeCount s → LegScore (distance s S v) (getD from v 0) (λ m. clearFrom s sound m S v)
-    out-score v h = entry-score s sound S v (getD from v 0) (T .out v h)
+    leads-to : (u t : ℕ) (l : Leg) → leads u t ≡ some l → l .target ≡ t
+    leads-to u t l e = better-is (legLength s) (clear (torus s) sound) (nodeCount s) u t l e .0
 
-    back-score : (v : ℕ) → v < nodeCount s → LegScore (distance s v D) (getD toward v 0) (λ m. clearFrom s sound m v D)
-    back-score v h = entry-score s sound v D (getD toward v 0) (T .back v h)
+    out-part : (v : ℕ) → v < nodeCount s → Adds (distance s S v) (getD from v 0) (leads S v)
+    out-part v h = entry-part s sound S v (getD from v 0) (T .out v h)
 
-    -- No admitted choice that is clear has a lower number.
-    found-below : (c : Choice) → Admits s S D c → okay c ≡ true → found ≤ scoreOf s S D c
-    found-below (Direct m) a ok =
-        let clear = sym (okay-direct m) ∙ ok in
-        omega (arith, found-first, out-score D (T .target) .first-most m clear, score-direct m)
-    found-below (Via v m n) a ok =
-        let clear = and-true (clearFrom s sound m S v) (clearFrom s sound n v D) (sym (okay-via v m n) ∙ ok) in
-        omega (arith, least-each (scoreAt from toward) first 0 (nodeCount s) v (omega arith) (omega (arith, a .0)), score-parts from toward v, out-score v (a .0) .first-most m (clear .0), back-score v (a .0) .leg-most n (clear .1), score-via v m n)
+    back-part : (v : ℕ) → v < nodeCount s → Adds (distance s v D) (getD toward v 0) (leads v D)
+    back-part v h = entry-part s sound v D (getD toward v 0) (T .back v h)
 
-    -- The source to itself: the number of its direct and adaptive route is 0.
-    self-first : S ≡ D → first ≤ 0
-    self-first e = omega (arith, out-score D (T .target) .first-most Adaptive (rw e (self-clear s sound D)), ap (λ (n : ℕ). distance s n D) e, distance-self s D)
+    -- The choices among which the route is: the better direct leg; and for each node w the better leg to w and the better leg from w to D.
+    abbrev candidates : List Choice
+    candidates = furthered (legLength s) (clear (torus s) sound) 0 (nodeCount s) S D
 
-    self-mode : (m : Mode) → S ≡ D → first ≡ distance s S D * lengthPlace + (det m * detsPlace + det m) → m ≡ Adaptive
-    self-mode Adaptive e f = refl
-    self-mode Deterministic e f = absurd (omega (arith, self-first e))
+    abbrev by : ℕ → List Choice
+    by w = followed (firstBy (legLength s) (clear (torus s) sound) 0 (nodeCount s) S w) (leads w D)
 
-    -- A via that is an end of the pair is never the least: the direct choice is lower.
-    not-source : (v : ℕ) → found ≡ scoreAt from toward v → v ≡ S → ⊥
-    not-source v e q =
-        let same : getD toward v 0 ≡ getD from D 0 = rw q (T .back S (T .source) ∙ sym (T .out D (T .target))) in
-        omega (arith, found-first, score-parts from toward v, ap legScore same, first-leg (getD from D 0) .1)
+    -- One of them: its number is not below the number found.
+    record Candidate (c : Choice) : Type 0 where
+      one : OneVia S D c
+      node : viaOf c < 4096
+      short : lengthOf s S c ≤ 90
+      above : found ≤ keyNumber (legLength s) S c
 
-    not-target : (v : ℕ) → found ≡ scoreAt from toward v → v ≡ D → ⊥
-    not-target v e q =
-        omega (arith, found-first, score-parts from toward v, ap (λ (n : ℕ). firstScore (getD from n 0)) q)
+    direct-number : (l : Leg) → leads S D ≡ some l → first ≡ keyNumber (legLength s) S (l ∷ [])
+    direct-number l e =
+        let a : Adds (distance s S D) (getD from D 0) (some l) = rw e at (out-part D (T .target)) in
+        a .1 ∙ sym (number-direct l (leads-to S D l e))
 
-    at-direct : found < unclear → found ≡ first → Reached found
-    at-direct h e =
-        let f = out-score D (T .target) .found (omega (arith, first-leg (getD from D 0) .0)) in
+    via-number : (w : ℕ) (l m : Leg) → w < nodeCount s → leads S w ≡ some l → leads w D ≡ some m → numberAt from toward w ≡ keyNumber (legLength s) S (l ∷ m ∷ [])
+    via-number w l m lt e f =
+        let a : Adds (distance s S w) (getD from w 0) (some l) = rw e at (out-part w lt) in
+        let b : Adds (distance s w D) (getD toward w 0) (some m) = rw f at (back-part w lt) in
+        omega (arith, number-parts from toward w, a .1, b .0, number-via l m w (leads-to S w l e) (leads-to w D m f))
+
+    direct-candidate : (l : Leg) → leads S D ≡ some l → Candidate (l ∷ [])
+    unfolding endBy sumBy viaOf
+    direct-candidate l e =
+        let to = leads-to S D l e in
+        let far = distance-most s (T .ok) S D (T .source) (T .target) in
+        let same : distance s S (l .target) ≡ distance s S D = ap (distance s S) to in
         record {
-          choice = Direct (f .mode);
-          admitted = λ q. self-mode (f .mode) q (f .first-is);
-          passes = okay-direct (f .mode) ∙ f .clear;
-          score = omega (arith, f .first-is, score-direct (f .mode));
+          one = record { ends = to; some = omega arith; few = omega arith };
+          node = omega arith;
+          short = omega arith;
+          above = omega (arith, direct-number l e, least-first (numberAt from toward) first 0 (nodeCount s));
         }
 
-    at-via : found < unclear → ReachedAt (scoreAt from toward) first 0 (nodeCount s) found → Reached found
-    at-via h a =
-        let v = a .node in
-        let inside : v < nodeCount s = omega (arith, a .below) in
-        let parts = score-parts from toward v in
-        let f = out-score v inside .found (omega (arith, parts, a .is, first-leg (getD from v 0) .0)) in
-        let g = back-score v inside .found (omega (arith, parts, a .is)) in
+    via-candidate : (w : ℕ) (l m : Leg) → w < nodeCount s → leads S w ≡ some l → leads w D ≡ some m → Candidate (l ∷ m ∷ [])
+    unfolding endBy sumBy viaOf
+    via-candidate w l m lt e f =
+        let here = leads-to S w l e in
+        let to = leads-to w D m f in
+        let out = distance-most s (T .ok) S w (T .source) lt in
+        let back = distance-most s (T .ok) w D lt (T .target) in
+        let one : distance s S (l .target) ≡ distance s S w = ap (distance s S) here in
+        let two : distance s (l .target) (m .target) ≡ distance s w D = ap (λ t. distance s t (m .target)) here ∙ ap (distance s w) to in
         record {
-          choice = Via v (f .mode) (g .mode);
-          admitted = (inside, not-source v (a .is), not-target v (a .is), λ q. omega (arith, self-first q, found-first, parts, a .is));
-          passes = okay-via v (f .mode) (g .mode) ∙ rw (f .clear, g .clear);
-          score = omega (arith, parts, a .is, f .first-is, g .leg-is, score-via v (f .mode) (g .mode));
+          one = record { ends = to; some = omega arith; few = omega arith };
+          node = omega (arith, here, nodes-most s (T .ok));
+          short = omega arith;
+          above = omega (arith, via-number w l m lt e f, least-each (numberAt from toward) first 0 (nodeCount s) w (omega arith) (omega arith));
         }
+
+    directly-is : (o : Option Leg) (c : Choice) → directly o ≡ some c → (l : Leg) × (o ≡ some l) × (c ≡ l ∷ [])
+    directly-is none c e = let z : _≡_ {A = ℕ} 0 1 = cc in absurd (omega arith)
+    directly-is (some l) c e = let q : l ∷ [] ≡ c = cc in (l, refl, sym q)
+
+    first-to : (w : ℕ) (c : Choice) → firstBy (legLength s) (clear (torus s) sound) 0 (nodeCount s) S w ≡ some c → (l : Leg) × (leads S w ≡ some l) × (c ≡ l ∷ [])
+    first-to w c e = directly-is (leads S w) c (sym (no-via-first s (T .ok) sound S D (T .source) (T .target) w) ∙ e)
+
+    to-first : (w : ℕ) (l : Leg) → leads S w ≡ some l → firstBy (legLength s) (clear (torus s) sound) 0 (nodeCount s) S w ≡ some (l ∷ [])
+    to-first w l e = no-via-first s (T .ok) sound S D (T .source) (T .target) w ∙ ap directly e
+
+    candidate-to : (c e : Choice) → c ≡ e → Candidate e → Candidate c
+    candidate-to c e q h = rw q h
+
+    is-candidate : (c : Choice) → List·Memᴰ c candidates → Candidate c
+    unfolding furthered
+    is-candidate c m =
+        ⊎-elim
+        (λ m. let f = first-to D c (alone-has (firstBy (legLength s) (clear (torus s) sound) 0 (nodeCount s) S D) c m) in candidate-to c (f .0 ∷ []) (f .2) (direct-candidate (f .0) (f .1)))
+        (λ m.
+        let o = has-over (nodeCount s) (λ w. by w) c m in
+        let w = o .0 in
+        let b = followed-has (firstBy (legLength s) (clear (torus s) sound) 0 (nodeCount s) S w) (leads w D) c (o .2) in
+        let f = first-to w (b .front) (b .one) in
+        candidate-to c (f .0 ∷ b .last ∷ []) (b .same ∙ ap (λ x. x ++ (b .last ∷ [])) (f .2)) (via-candidate w (f .0) (b .last) (o .1) (f .1) (b .two)))
+        (List·Memᴰ·append-cases (alone (firstBy (legLength s) (clear (torus s) sound) 0 (nodeCount s) S D)) m)
+
+    direct-listed : (l : Leg) → leads S D ≡ some l → List·Memᴰ (l ∷ []) candidates
+    unfolding furthered
+    direct-listed l e = Memᴰ·append-left (over (nodeCount s) (λ w. by w)) (has-alone (firstBy (legLength s) (clear (torus s) sound) 0 (nodeCount s) S D) (l ∷ []) (to-first D l e))
+
+    via-listed : (w : ℕ) (l m : Leg) → w < nodeCount s → leads S w ≡ some l → leads w D ≡ some m → List·Memᴰ (l ∷ m ∷ []) candidates
+    unfolding furthered
+    via-listed w l m lt e f =
+        Memᴰ·append-right (alone (firstBy (legLength s) (clear (torus s) sound) 0 (nodeCount s) S D))
+        (over-has (nodeCount s) (λ w. by w) w (l ∷ m ∷ []) lt (has-followed (firstBy (legLength s) (clear (torus s) sound) 0 (nodeCount s) S w) (leads w D) (l ∷ []) m (to-first w l e) f))
+
+    -- The number found is that of a candidate, or there is none.
+    record Reached (k : ℕ) : Type 0 where
+      choice : Choice
+      listed : List·Memᴰ choice candidates
+      number : k ≡ keyNumber (legLength s) S choice
+
+    at-direct : (o : Option Leg) → leads S D ≡ o → first < unclear → Reached first
+    at-direct none e h = let a : unclear ≤ legPart (getD from D 0) = rw e at (out-part D (T .target)) in absurd (omega (arith, first-part (getD from D 0)))
+    at-direct (some l) e h = record { choice = l ∷ []; listed = direct-listed l e; number = direct-number l e }
+
+    at-via : (w : ℕ) → w < nodeCount s → (o b : Option Leg) → leads S w ≡ o → leads w D ≡ b → numberAt from toward w < unclear → Reached (numberAt from toward w)
+    at-via w lt none b e f h =
+        let a : unclear ≤ legPart (getD from w 0) = rw e at (out-part w lt) in
+        absurd (omega (arith, number-parts from toward w, first-part (getD from w 0)))
+    at-via w lt (some l) none e f h =
+        let a : unclear ≤ legPart (getD toward w 0) = rw f at (back-part w lt) in
+        absurd (omega (arith, number-parts from toward w))
+    at-via w lt (some l) (some m) e f h = record { choice = l ∷ m ∷ []; listed = via-listed w l m lt e f; number = via-number w l m lt e f }
+
+    reached-to : (k j : ℕ) → k ≡ j → Reached j → Reached k
+    reached-to k j e r = rw e r
 
     reached : found < unclear → Reached found
-    reached h = ⊎-elim (at-direct h) (at-via h) (least-one (scoreAt from toward) first 0 (nodeCount s))
+    reached h =
+        ⊎-elim
+        (λ e. reached-to found first e (at-direct (leads S D) refl (omega arith)))
+        (λ a. reached-to found (numberAt from toward (a .node)) (a .is) (at-via (a .node) (omega (arith, a .below)) (leads S (a .node)) (leads (a .node) D) refl refl (omega (arith, a .is))))
+        (least-one (numberAt from toward) first 0 (nodeCount s))
 
-    small : (c : Choice) → Admits s S D c → Small c
-    small (Direct m) a = tt
-    small (Via v m n) a = omega (arith, a .0, nodes-most s (T .ok))
-
-    short : (c : Choice) → Admits s S D c → lengthOf s S D c ≤ 90
-    unfolding lengthFrom legsTo
-    short (Direct m) a = omega (arith, distance-most s (T .ok) S D (T .source) (T .target))
-    short (Via v m n) a = omega (arith, distance-most s (T .ok) S v (T .source) (a .0), distance-most s (T .ok) v D (a .0) (T .target))
-
-    score-clear : (c : Choice) → Admits s S D c → scoreOf s S D c < unclear
-    unfolding scoreOf
-    score-clear c a = let l = low-places c (small c a) in omega (arith, short c a)
+    number-clear : (c : Choice) → Candidate c → keyNumber (legLength s) S c < unclear
+    unfolding keyNumber
+    number-clear c a =
+        let l = low-places S D c (a .one) (a .node) in
+        omega (arith, a .short, l .dets-low, l .vias-low, l .node-low, l .first-low)
 
     abbrev order : Choice → Choice → Bool
-    order = beforeIn s S D
+    order = beforeIn s S
 
-    abbrev all : List Choice
-    all = choices (nodeCount s) S D
+    -- Of different candidates the one with the lower number, or the same, comes first.
+    not-above : (c e : Choice) → Candidate c → Candidate e → keyNumber (legLength s) S c ≤ keyNumber (legLength s) S e → (e ≡ c → ⊥) → order c e ≡ true
+    not-above c e a b le ne =
+        let there = before-number (legLength s) S D c e (a .one) (b .one) (a .node) (b .node) in
+        let back : order e c ≡ false = before-number (legLength s) S D e c (b .one) (a .one) (b .node) (a .node) ∙ le-ltb (keyNumber (legLength s) S e) (keyNumber (legLength s) S c) le in
+        test (order c e) (λ t. t) (λ t. absurd (ne (before-order (legLength s) S .apart e c back t)))
 
-    refused : Best order okay all none → unclear ≤ found
-    refused b = by-le unclear found (λ h. h)
-        (λ h.
-        let r = reached h in
-        absurd (true≢false (sym (r .passes) ∙ b .refused .0 refl (r .choice) (admits-lists s S D (r .choice) (r .admitted)))))
+    abbrev answer : Answer
+    answer = chosen (best order (λ _. true) candidates)
 
-    first-in-order : (c : Choice) → Best order okay all (some c) → found ≡ scoreOf s S D c
-    first-in-order c b =
-        let f = b .chosen c refl in
-        let a = lists-admits s S D c (f .listed) in
-        let below = found-below c a (f .passes) in
-        by-le (scoreOf s S D c) found (λ h. omega arith)
-        (λ h.
-        let r = reached (omega (arith, score-clear c a)) in
-        let lower : scoreOf s S D (r .choice) < scoreOf s S D c = omega (arith, r .score) in
-        let other : r .choice ≡ c → ⊥ = λ q. omega (arith, ap (scoreOf s S D) q) in
-        let later = f .least (r .choice) (admits-lists s S D (r .choice) (r .admitted)) (r .passes) other in
-        absurd (omega (arith, ltb-true (scoreOf s S D c) (scoreOf s S D (r .choice)) (sym (before-score s S D c (r .choice) (small c a) (small (r .choice) (r .admitted))) ∙ later))))
+    some-answer : (r : Reached found) → decoded found ≡ told s S answer
+    some-answer r =
+        let c = r .choice in
+        let a = is-candidate c (r .listed) in
+        let is : best order (λ _. true) candidates ≡ some c = best-first order (before-order (legLength s) S) (λ _. true) candidates c (record {
+          listed = r .listed;
+          passes = refl;
+          least = λ e m _ ne. let b = is-candidate e m in not-above c e a b (omega (arith, r .number, b .above)) ne;
+        }) in
+        decoded-number s S D found c (a .one) (a .node) (omega (arith, a .short)) (r .number) ∙ sym (ap (λ o. told s S (chosen o)) is)
 
-    at : (o : Option Choice) → Best order okay all o → decoded found ≡ told (chosen s S D o)
-    at none b = decoded-none found (refused b)
-    at (some c) b =
-        let a = lists-admits s S D c (b .chosen c refl .listed) in
-        decoded-score s S D found c (small c a) (omega (arith, short c a)) (first-in-order c b)
+    no-answer : unclear ≤ found → decoded found ≡ told s S answer
+    no-answer h =
+        let is : best order (λ _. true) candidates ≡ none = best-none order (before-order (legLength s) S) (λ _. true) candidates
+        (λ e m. let b = is-candidate e m in absurd (omega (arith, b .above, number-clear e b))) in
+        decoded-none s S found h ∙ sym (ap (λ o. told s S (chosen o)) is)
 
-    pub outcome-planned : outcomeIn from toward (nodeCount s) D ≡ told (chosen s S D (planned (torus s) sound (legsTo D) order S all))
-    unfolding outcomeIn planned
-    outcome-planned = at (best order okay all) (best-is order (before-order s S D) okay all)
+    pub outcome-planned : outcomeIn from toward (nodeCount s) D ≡ told s S (chosen (routeBy s sound S D))
+    unfolding outcomeIn
+    outcome-planned =
+        by-le unclear found no-answer (λ h. some-answer (reached h))
+        ∙ sym (ap (λ o. told s S (chosen o)) (route-first s (T .ok) sound S D (T .source) (T .target)))

@@ -25,7 +25,7 @@ use Rattle.plan.specs.Checks.{large, planError}
 use Rattle.plan.specs.Reading.{isPlan}
 use Rattle.dead.specs.Dead.{deadNode, bitOf, maskAnswer, nodeAnswer}
 use Rattle.dead.proofs.Table.{is-node}
-use Rattle.tables.specs.Entry.{outwardAnswer}
+use Rattle.tables.specs.Table.{outwardAnswer}
 use Rattle.choice.specs.Choice.{Direct, Via, routeOf}
 use Rattle.choice.specs.Pair as Pair
 use Rattle.choice.specs.Pair.{Answer, pair}
@@ -39,11 +39,11 @@ use Rattle.routes.specs.Writing.{sheetBytes, routeEntries, sheetOf, writeError}
 use Rattle.routes.proofs.Saying.{heard-told}
 use Rattle.planner.specs.declared.outcome.Outcome.{Outcome}
 use Rattle.planner.specs.Outcome.{told, routeFrom}
-use Rattle.planner.specs.Dest.{outcomeTo}
+use Rattle.planner.specs.OneDestination.{outcomeTo}
 use Rattle.planner.specs.Sheet.{sourceError, saidOf, lists, entriesFrom, plannedSheet}
 use Rattle.planner.specs.Steps.{isListed, pickEntry, counted, lastAt}
 use Rattle.planner.proofs.Planned.{nodes-most}
-use Rattle.planner.proofs.Dests.{Ready, dest-planned}
+use Rattle.planner.proofs.OneDestination.{Ready, dest-planned}
 use Rattle.planner.proofs.Planning.{Source, source-of, self-unlisted, sheet-accepted}
 
 -- ---- the checks

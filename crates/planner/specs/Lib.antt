@@ -1,8 +1,8 @@
-pub mod Outcome
-pub mod Least
-pub mod Score
-pub mod Rank
-pub mod Dest
 pub mod Sheet
-pub mod Steps
 pub mod Demand
+-- The code's own steps.
+pub mod Least
+pub mod KeyNumber
+pub mod KeyByte
+pub mod OneDestination
+pub mod Steps

@@ -1,27 +1,27 @@
 // The first clear choice in the order, from the tables of the legs from the source and to the destination.
-use crate::outcome::Outcome;
-use crate::rank::best_row;
-use crate::score::decode;
-use crate::score::first_score;
-use crate::score::lower;
-use crate::score::via_score;
+use crate::key_byte::best_row;
+use crate::key_number::decode;
+use crate::key_number::first_part;
+use crate::key_number::lower;
+use crate::key_number::via_number;
+use choice::Outcome;
 ghost use mathlib.Core.Path.{_≡_};
 ghost use Prim.Native.Nat.{_-_, _≤_, _<_};
 ghost use Rattle.planner.specs.Least.{least};
-ghost use Rattle.planner.specs.Score.{scoreAt, outcomeIn};
+ghost use Rattle.planner.specs.KeyNumber.{numberAt, outcomeIn};
 
 // The least of the number `first` and those of the nodes from `lo` to below `hi` as vias.
-fn least_score(from: &[u8; 4096], toward: &[u8; 4096], lo: usize, hi: usize, first: u32) -> u32
+fn least_number(from: &[u8; 4096], toward: &[u8; 4096], lo: usize, hi: usize, first: u32) -> u32
     requires { ⌜ (lo ≤ hi) × (hi ≤ 4096) ⌝ }
-    ensures { λ r. ⌜ r ≡ least (scoreAt (now (from .entry)) (now (toward .entry))) first lo (hi - lo) ⌝ }
+    ensures { λ r. ⌜ r ≡ least (numberAt (now (from .entry)) (now (toward .entry))) first lo (hi - lo) ⌝ }
 {
-    let mut score = first;
+    let mut number = first;
     let mut v = lo;
     while v < hi {
-        score = lower(via_score(v as u16, from[v], toward[v]), score);
+        number = lower(via_number(v as u16, from[v], toward[v]), number);
         v = v + 1;
     }
-    score
+    number
 }
 
 // The outcome for the destination d. The ends of the pair need no test: as vias their numbers are above that of the direct choice.
@@ -31,5 +31,5 @@ pub fn choose(count: u16, from: &[u8; 4096], toward: &[u8; 4096], d: u16) -> Out
 {
     let at = d as usize;
     let row = best_row(count as usize, from, toward);
-    decode(least_score(from, toward, row.lo, row.hi, first_score(from[at])))
+    decode(least_number(from, toward, row.lo, row.hi, first_part(from[at])))
 }

@@ -1,8 +1,7 @@
 // Planning: a pair, and the sheet of a source.
 mod choose;
-pub mod dest;
-pub mod outcome;
+mod key_byte;
+mod key_number;
+pub mod one_destination;
 pub mod pair;
-mod rank;
-mod score;
 pub mod sheets;

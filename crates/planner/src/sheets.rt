@@ -1,5 +1,5 @@
 // Writing a route sheet by planning from a source: checks 1 to 8, 9, 10 (source only), 12.
-use crate::dest::outcome_to;
+use crate::one_destination::outcome_to;
 use dead::dead_masks;
 use dead::dead_nodes;
 use dead::is_dead_node;

@@ -4,46 +4,44 @@ use mathlib.Core.Bool.{Bool, true, not, cond, _&&_}
 use mathlib.Core.List.{List, [], _∷_}
 use lib.ListN.{length}
 use lib.Dec.{leb, eqb}
+use Rattle.numbers.specs.Numbers.{wrongRouteSheet}
 use Rattle.theory.specs.Checks.{declined, _then_}
+use Rattle.sheet.specs.Head.{version, lengthIs}
 use Rattle.shape.specs.declared.shape.Shape.{Shape}
 use Rattle.machine.specs.Node.{isNode}
-use Rattle.plan.specs.Layout.{version, lengthField, bytesAfter, shapeOf}
-use Rattle.plan.specs.Checks.{large, planError}
+use Rattle.plan.specs.Layout.{shapeOf}
+use Rattle.plan.specs.Checks.{Limits, planError}
 use Rattle.routes.specs.declared.layout.Entry.{Entry}
-use Rattle.routes.specs.Layout.{routeVersion, source, entryCount, entriesAt, entriesOf, sizeAfter}
-use Rattle.routes.specs.Kinds.{viaKind, plainKind}
+use Rattle.routes.specs.Layout.{Format, formatOf, source, entryCount, entriesAt, entriesOf, sizeAfter}
 
--- Version 1, and the length field is the bytes that follow and 4 + 5 × count.
-unfoldable pub headGood : List ℕ → Bool
-headGood s =
-    leb entriesAt (length s)
-    && eqb (version s) routeVersion
-    && eqb (lengthField s) (bytesAfter s)
-    && eqb (lengthField s) (sizeAfter (entryCount s))
+-- The format's version, and the length field is the bytes that follow and, in version 1, 4 + 5 × count.
+unfoldable pub headGood : Format → List ℕ → Bool
+headGood F s = leb entriesAt (length s) && eqb (version s) (F .version) && lengthIs s (sizeAfter F (entryCount s))
 
 -- A via is a node of the plan and neither end; it is 0 for kinds 1, 10, 11. No other kinds.
-unfoldable pub viaGood : Shape → ℕ → Entry → Bool
-viaGood m S e =
-    cond (viaKind (e .kind))
+unfoldable pub viaGood : Format → Shape → ℕ → Entry → Bool
+viaGood F m S e =
+    cond (F .viaKind (e .kind))
     (isNode m (e .via) && (not (eqb (e .via) S) && not (eqb (e .via) (e .dest))))
-    (plainKind (e .kind) && eqb (e .via) 0)
+    (F .plainKind (e .kind) && eqb (e .via) 0)
 
 -- The destination is a node of the plan; the source is never listed.
-unfoldable pub entryGood : Shape → ℕ → Entry → Bool
-entryGood m S e = isNode m (e .dest) && not (eqb (e .dest) S) && viaGood m S e
+unfoldable pub entryGood : Format → Shape → ℕ → Entry → Bool
+entryGood F m S e = isNode m (e .dest) && not (eqb (e .dest) S) && viaGood F m S e
 
 -- Destinations rise strictly: the least that one may be is 1 above the one before, 0 for the first.
-unfoldable pub entriesGood : Shape → ℕ → ℕ → List Entry → Bool
-entriesGood m S least [] = true
-entriesGood m S least (e ∷ es) = leb least (e .dest) && (entryGood m S e && entriesGood m S (e .dest + 1) es)
+unfoldable pub entriesGood : Format → Shape → ℕ → ℕ → List Entry → Bool
+entriesGood F m S least [] = true
+entriesGood F m S least (e ∷ es) = leb least (e .dest) && (entryGood F m S e && entriesGood F m S (e .dest + 1) es)
 
 -- The routes from the source S with these entries.
-unfoldable pub routesGood : Shape → ℕ → List Entry → Bool
-routesGood m S es = isNode m S && entriesGood m S 0 es
+unfoldable pub routesGood : Format → Shape → ℕ → List Entry → Bool
+routesGood F m S es = isNode m S && entriesGood F m S 0 es
 
+-- The sheet in its own format.
 unfoldable pub sheetGood : Shape → List ℕ → Bool
-sheetGood m s = headGood s && routesGood m (source s) (entriesOf s)
+sheetGood m s = headGood (formatOf s) s && routesGood (formatOf s) m (source s) (entriesOf s)
 
 -- The plan's checks 1 to 8, then 13.
-unfoldable pub sheetError : List ℕ → List ℕ → ℕ
-sheetError p s = planError large p then declined (not (sheetGood (shapeOf p) s)) 13
+unfoldable pub sheetError : Limits → List ℕ → List ℕ → ℕ
+sheetError L p s = planError L p then declined (not (sheetGood (shapeOf p) s)) wrongRouteSheet

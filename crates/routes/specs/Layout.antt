@@ -1,36 +1,74 @@
--- 'Route sheet, version 1': where its parts stand. Byte 0 is the version and bytes 1-2 the length of what follows, as in a plan sheet.
+-- 'Route sheet': where its parts stand, by its format. Byte 0 is the version and bytes 1-2 the length of what follows, as in every sheet.
 use Prim.Native.Nat.{ℕ, _+_, _*_}
-use mathlib.Core.List.{List}
-use Rattle.sheet.specs.Bytes.{byte, word, listFrom}
+use mathlib.Core.Bool.{Bool}
+use mathlib.Core.List.{List, [], _∷_}
+use Rattle.sheet.specs.Bytes.{byte, word, upperByte, lowerByte, listFrom}
+use Rattle.sheet.specs.Head.{version}
+use Rattle.sheet.specs.Records.{Form, recordAt, recordsAfter}
 use Rattle.routes.specs.declared.layout.Entry.{Entry}
+use Rattle.routes.specs.Kinds.{viaKind, plainKind}
 
--- Byte 0: version, 1.
-abbrev pub routeVersion : ℕ
-routeVersion = 1
+-- What a version lays down: its byte, how many vias an entry holds, and the kinds of entries by a via and without.
+pub record Format : Type 0 where
+  pub version : ℕ
+  pub vias : ℕ
+  pub viaKind : ℕ → Bool
+  pub plainKind : ℕ → Bool
 
--- Then source (two bytes), entry count (two).
+-- Version 1.
+abbrev pub first : Format
+first = record { version = 1; vias = 1; viaKind = viaKind; plainKind = plainKind }
+
+-- The format in which a sheet is read, by its byte 0. A version that is not read is none's own.
+unfoldable pub formatBy : ℕ → Format
+formatBy v = first
+
+abbrev pub formatOf : List ℕ → Format
+formatOf s = formatBy (version s)
+
+-- The format that is written.
+abbrev pub written : Format
+written = first
+
+-- After the length field source (two bytes), entry count (two).
 unfoldable pub source : List ℕ → ℕ
 source s = word s 3
 
 unfoldable pub entryCount : List ℕ → ℕ
 entryCount s = word s 5
 
--- Then five bytes an entry: destination (two), kind (one), via (two). The entries stand at byte 7; entry number i, from 0.
+-- Then the entries, from byte 7 on.
 abbrev pub entriesAt : ℕ
 entriesAt = 7
 
+-- Destination (two), kind (one), vias (two each): five bytes an entry of one via.
+abbrev pub entrySize : Format → ℕ
+entrySize F = 3 + 2 * F .vias
+
+abbrev pub entryForm : Format → Form Entry
+entryForm F = record {
+  size = entrySize F;
+  read = λ s at. record { dest = word s at; kind = byte s (at + 2); via = word s (at + 3) };
+  bytes = λ e. upperByte (e .dest) ∷ lowerByte (e .dest) ∷ e .kind ∷ upperByte (e .via) ∷ lowerByte (e .via) ∷ [];
+}
+
+-- Entry number i, from 0, in a format, and in the sheet's own.
+abbrev pub entryIn : Format → List ℕ → ℕ → Entry
+entryIn F s i = recordAt (entryForm F) entriesAt s i
+
 unfoldable pub entryAt : List ℕ → ℕ → Entry
-entryAt s i =
-    let at = entriesAt + 5 * i in
-    record { dest = word s at; kind = byte s (at + 2); via = word s (at + 3) }
+entryAt s i = entryIn (formatOf s) s i
 
 unfoldable pub entriesOf : List ℕ → List Entry
 entriesOf s = listFrom (entryAt s) 0 (entryCount s)
 
 -- The length of what follows, with this many entries.
-abbrev pub sizeAfter : ℕ → ℕ
-sizeAfter count = 4 + 5 * count
+abbrev pub sizeAfter : Format → ℕ → ℕ
+sizeAfter F count = recordsAfter (entryForm F) entriesAt count
 
--- What stands past the entries of an array.
+-- What stands past the entries of an array, and how many a sheet has at most: one for each node but the source.
 abbrev pub noEntry : Entry
 noEntry = record { dest = 0; kind = 0; via = 0 }
+
+abbrev pub mostEntries : ℕ
+mostEntries = 4095

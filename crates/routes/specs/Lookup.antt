@@ -10,13 +10,14 @@ use Rattle.numbers.specs.Numbers.{nodeOutside}
 use Rattle.theory.specs.Checks.{declined, _then_}
 use Rattle.machine.specs.Node.{isNode}
 use Rattle.plan.specs.Layout.{shapeOf}
+use Rattle.plan.specs.Checks.{Limits}
 use Rattle.routes.specs.declared.layout.Entry.{Entry}
-use Rattle.routes.specs.Layout.{entryCount, entriesAt, entriesOf}
+use Rattle.routes.specs.Layout.{formatOf, entryCount, entriesAt, entrySize, entriesOf}
 use Rattle.routes.specs.Checks.{sheetError}
 
 -- A lookup checks 1 to 8, 13, then 9.
-unfoldable pub lookupError : List ℕ → List ℕ → ℕ → ℕ
-lookupError p s d = sheetError p s then declined (not (isNode (shapeOf p) d)) nodeOutside
+unfoldable pub lookupError : Limits → List ℕ → List ℕ → ℕ → ℕ
+lookupError L p s d = sheetError L p s then declined (not (isNode (shapeOf p) d)) nodeOutside
 
 -- The number of the first entry for the destination d, or how many entries there are where none is.
 unfoldable pub find : List Entry → ℕ → ℕ
@@ -24,15 +25,15 @@ find [] d = 0
 find (e ∷ es) d = cond (eqb (e .dest) d) 0 (find es d + 1)
 
 -- The lookup is not declined, and the destination is listed.
-unfoldable pub isListed : List ℕ → List ℕ → ℕ → Bool
-isListed p s d = eqb (lookupError p s d) 0 && ltb (find (entriesOf s) d) (entryCount s)
+unfoldable pub isListed : Limits → List ℕ → List ℕ → ℕ → Bool
+isListed L p s d = eqb (lookupError L p s d) 0 && ltb (find (entriesOf s) d) (entryCount s)
 
 -- That part is empty, at the sheet's start, if the destination is not listed or the lookup is declined.
-unfoldable pub partStart : List ℕ → List ℕ → ℕ → ℕ
-partStart p s d = cond (isListed p s d) (entriesAt + 5 * find (entriesOf s) d) 0
+unfoldable pub partStart : Limits → List ℕ → List ℕ → ℕ → ℕ
+partStart L p s d = cond (isListed L p s d) (entriesAt + entrySize (formatOf s) * find (entriesOf s) d) 0
 
-unfoldable pub partLength : List ℕ → List ℕ → ℕ → ℕ
-partLength p s d = cond (isListed p s d) 5 0
+unfoldable pub partLength : Limits → List ℕ → List ℕ → ℕ → ℕ
+partLength L p s d = cond (isListed L p s d) (entrySize (formatOf s)) 0
 
 -- r is the part of the slice s of len bytes from byte at on: the same memory, and so the same bytes.
 pub record PartOf (s r : RefT (List ℕ)) (at len : ℕ) : Type 0 where

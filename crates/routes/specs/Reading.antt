@@ -7,14 +7,14 @@ use Rattle.plan.specs.declared.reading.Answer.the-variants.{Accepted, Refused}
 use Rattle.routes.specs.declared.layout.Entry.{Entry}
 use Rattle.routes.specs.declared.reading.Routes.{Routes}
 use Rattle.routes.specs.declared.reading.Reading.{Reading}
-use Rattle.routes.specs.Layout.{source, entryCount, entriesOf, noEntry}
+use Rattle.routes.specs.Layout.{source, entryCount, entriesOf, noEntry, mostEntries}
 
 abbrev pub noRoutes : Routes
-noRoutes = record { source = 0; count = 0; entries = replicate 4095 noEntry }
+noRoutes = record { source = 0; count = 0; entries = replicate mostEntries noEntry }
 
 -- The entries as an array of 4,095, with zeros past them.
 unfoldable pub entryArray : List ℕ → List Entry
-entryArray s = arrayOf noEntry 4095 (entriesOf s)
+entryArray s = arrayOf noEntry mostEntries (entriesOf s)
 
 unfoldable pub routesOf : List ℕ → Routes
 routesOf s = record { source = source s; count = entryCount s; entries = entryArray s }

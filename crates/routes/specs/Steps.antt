@@ -13,7 +13,7 @@ use Rattle.choice.specs.Answer.{Answer, Given}
 use Rattle.routes.specs.declared.layout.Entry.{Entry}
 use Rattle.routes.specs.declared.route.Found.{Found}
 use Rattle.routes.specs.declared.route.Found.the-variants.{At, Missing}
-use Rattle.routes.specs.Layout.{routeVersion, sizeAfter, entriesAt, entryCount, entryAt, entriesOf}
+use Rattle.routes.specs.Layout.{written, entrySize, sizeAfter, entriesAt, entryCount, entryAt, entriesOf}
 use Rattle.routes.specs.Kinds.{viaKind}
 use Rattle.routes.specs.Said.{saidBy}
 use Rattle.routes.specs.Lookup.{find}
@@ -37,7 +37,7 @@ lengthBy s S e = cond (viaKind (e .kind)) (distanceAnswer s S (e .via) + distanc
 
 -- The bytes of a sheet with its head, or with entry number i, put in its place.
 unfoldable pub putHead : List ℕ → ℕ → ℕ → List ℕ
-putHead s S n = putWord (putWord (putWord (set s 0 routeVersion) 1 (sizeAfter n)) 3 S) 5 n
+putHead s S n = putWord (putWord (putWord (set s 0 (written .version)) 1 (sizeAfter written n)) 3 S) 5 n
 
 unfoldable pub putEntry : List ℕ → ℕ → Entry → List ℕ
-putEntry s i e = let at = entriesAt + 5 * i in putWord (set (putWord s at (e .dest)) (at + 2) (e .kind)) (at + 3) (e .via)
+putEntry s i e = let at = entriesAt + entrySize written * i in putWord (set (putWord s at (e .dest)) (at + 2) (e .kind)) (at + 3) (e .via)

@@ -5,7 +5,7 @@ use lib.ListN.{length, getD}
 use Rattle.sheet.specs.Bytes.{arrayOf}
 use Rattle.routes.specs.declared.layout.Entry.{Entry}
 use Rattle.routes.specs.declared.reading.Routes.{Routes}
-use Rattle.routes.specs.Layout.{noEntry}
+use Rattle.routes.specs.Layout.{noEntry, mostEntries}
 use Rattle.routes.specs.Writing.{routeEntries}
 
 -- The numbers that a sheet holds in two bytes fit them, as the code's u16 do.
@@ -20,8 +20,8 @@ pub record Fits (r : Routes) : Type 0 where
 
 -- The routes from the source S with these entries, and zeros past them.
 unfoldable pub routesWith : ℕ → List Entry → Routes
-routesWith S es = record { source = S; count = length es; entries = arrayOf noEntry 4095 es }
+routesWith S es = record { source = S; count = length es; entries = arrayOf noEntry mostEntries es }
 
 -- The routes with zeros past their entries. What stands there is no entry.
 unfoldable pub cleared : Routes → Routes
-cleared r = record { source = r .source; count = r .count; entries = arrayOf noEntry 4095 (routeEntries r) }
+cleared r = record { source = r .source; count = r .count; entries = arrayOf noEntry mostEntries (routeEntries r) }

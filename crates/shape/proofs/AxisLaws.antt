@@ -6,7 +6,8 @@ use mathlib.Core.Logic.{_⊎_, inl, inr}
 use native.Mathlib.Omega.{arith}
 use lib.Dec.{leb, eqb}
 use borrow.Author.Tests.{lt-ltb, le-ltb, le-leb, lt-leb, eq-eqb, ne-eqb, ltb-true, leb-true}
-use Rattle.shape.specs.Axis.{gap, axisDistance, hasLink, place, axisUseful, openUseful, ahead, ringUseful}
+use Rattle.shape.specs.Axis.{gap, axisDistance, hasLink, place, axisUseful}
+use Rattle.shape.specs.Steps.{openUseful, ahead, ringUseful}
 use Rattle.theory.proofs.Bools.{and-true}
 use Rattle.theory.proofs.Cases.{by-le}
 

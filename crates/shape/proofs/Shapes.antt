@@ -5,6 +5,7 @@ use mathlib.Core.Path.{_≡_}
 use native.Mathlib.Nat.{mul-le-mul}
 use lib.Dec.{ltb}
 use borrow.Author.Tests.{ltb-false}
+use Rattle.numbers.specs.Numbers.{extentOutside, wrongWrap}
 use Rattle.theory.specs.Checks.{declined, _then_}
 use Rattle.theory.proofs.Checks.{then-zero, declined-zero}
 use Rattle.theory.proofs.Bools.{or-false}
@@ -32,9 +33,9 @@ axis n w e h =
 neither : (s : Shape) → shapeError s ≡ 0 → (badExtents s ≡ false) × (badWraps s ≡ false)
 unfolding shapeError
 neither s h =
-    let five = then-zero (declined (badExtents s) 5) (declined (badWraps s) 6 then 0) h in
-    let six = then-zero (declined (badWraps s) 6) 0 (five .1) in
-    (declined-zero (badExtents s) 4 (five .0), declined-zero (badWraps s) 5 (six .0))
+    let extents = then-zero (declined (badExtents s) extentOutside) (declined (badWraps s) wrongWrap then 0) h in
+    let wraps = then-zero (declined (badWraps s) wrongWrap) 0 (extents .1) in
+    (declined-zero (badExtents s) _ (extents .0), declined-zero (badWraps s) _ (wraps .0))
 
 extents : (s : Shape) → badExtents s ≡ false → (d : Dim) → badExtent (extentOf s d) ≡ false
 unfolding badExtents

@@ -1,7 +1,7 @@
 -- One dimension: places 0 to len - 1, a ring (wrapped) or open.
-use Prim.Native.Nat.{ℕ, _+_, _-_, _*_, min}
-use mathlib.Core.Bool.{Bool, cond, not, _&&_, _||_}
-use lib.Dec.{ltb, leb, eqb}
+use Prim.Native.Nat.{ℕ, _+_, _-_, min}
+use mathlib.Core.Bool.{Bool, cond, _&&_, _||_}
+use lib.Dec.{ltb, eqb}
 
 -- The coordinates' difference.
 abbrev pub gap : ℕ → ℕ → ℕ
@@ -22,16 +22,3 @@ place len p plus = cond plus (cond (ltb (p + 1) len) (p + 1) 0) (cond (ltb 0 p) 
 -- A hop from p along the dimension lowers the distance to q by one.
 unfoldable pub axisUseful : ℕ → Bool → ℕ → ℕ → Bool → Bool
 axisUseful len ring p q plus = hasLink len ring p plus && eqb (axisDistance len ring (place len p plus) q + 1) (axisDistance len ring p q)
-
--- ---- the code's own steps: useful hops of two places that exist, without their distance
-
-abbrev pub openUseful : ℕ → ℕ → Bool → Bool
-openUseful p q plus = cond plus (ltb p q) (ltb q p)
-
--- The hops from p to q going plus, round a ring.
-unfoldable pub ahead : ℕ → ℕ → ℕ → ℕ
-ahead len p q = cond (leb p q) (q - p) (len - (p - q))
-
--- Plus is useful up to half the ring, minus from half the ring on.
-abbrev pub ringUseful : ℕ → ℕ → Bool → Bool
-ringUseful len up plus = not (eqb up 0) && cond plus (leb (2 * up) len) (leb len (2 * up))

@@ -2,6 +2,7 @@
 use Prim.Native.Nat.{ℕ, _/_, _%_}
 use mathlib.Core.Bool.{Bool, _&&_, _||_}
 use lib.Dec.{ltb, eqb}
+use Rattle.numbers.specs.Numbers.{extentOutside, wrongWrap}
 use Rattle.theory.specs.Checks.{declined, _then_}
 use Rattle.shape.specs.declared.shape.Shape.{Shape}
 use Rattle.shape.specs.declared.shape.Coords.{Coords}
@@ -37,7 +38,7 @@ badWraps s = badWrap (s .x) (wrappedIn s X) || (badWrap (s .y) (wrappedIn s Y) |
 
 -- Checks 5 and 6.
 unfoldable pub shapeError : Shape → ℕ
-shapeError s = declined (badExtents s) 5 then declined (badWraps s) 6 then 0
+shapeError s = declined (badExtents s) extentOutside then declined (badWraps s) wrongWrap then 0
 
 -- The coordinate in a dimension.
 abbrev pub coordOf : Coords → Dim → ℕ

@@ -6,7 +6,8 @@ use logic::pick_bool;
 ghost use mathlib.Core.Bool.{true, false};
 ghost use mathlib.Core.Path.{_≡_};
 ghost use Prim.Native.Nat.{_≤_, _<_};
-ghost use Rattle.shape.specs.Axis.{gap, axisDistance, hasLink, place, axisUseful, ahead, ringUseful};
+ghost use Rattle.shape.specs.Axis.{gap, axisDistance, hasLink, place, axisUseful};
+ghost use Rattle.shape.specs.Steps.{ahead, ringUseful};
 
 fn difference(p: u8, q: u8) -> u8
     ensures { λ r. ⌜ r ≡ gap p q ⌝ }

@@ -1,6 +1,8 @@
 // The shape of a machine, extents and wrap, with checks 5 and 6; and coordinates.
 use logic::either;
 use logic::pick;
+use numbers::EXTENT_OUTSIDE;
+use numbers::WRONG_WRAP;
 ghost use mathlib.Core.Path.{_≡_};
 ghost use Rattle.shape.specs.Shape.{badExtent, badWrap, badExtents, badWraps, shapeError, extentOf, wrappedIn, coordOf, put};
 
@@ -109,5 +111,9 @@ fn bad_wraps(shape: Shape) -> bool
 pub fn shape_error(shape: Shape) -> u8
     ensures { λ r. ⌜ r ≡ shapeError shape ⌝ }
 {
-    pick(bad_extents(shape), 5, pick(bad_wraps(shape), 6, 0))
+    pick(
+        bad_extents(shape),
+        EXTENT_OUTSIDE,
+        pick(bad_wraps(shape), WRONG_WRAP, 0),
+    )
 }

@@ -1,4 +1,7 @@
 pub mod Records
+pub mod Heads
+pub mod Forms
+pub mod Encoding
 pub mod Fill
 pub mod Outputs
 pub mod Inputs

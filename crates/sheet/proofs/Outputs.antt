@@ -6,6 +6,7 @@ use mathlib.Core.List.{List, _++_}
 use lib.ListN.{length, take, drop}
 use lib.Seq.{take-length, take-append-seam, drop-append-seam}
 use borrow.Author.Tests.{lt-ltb, le-ltb}
+use Rattle.numbers.specs.Numbers.{outputShort}
 use Rattle.theory.proofs.Checks.{declines}
 use Rattle.sheet.specs.declared.output.Written.{Written}
 use Rattle.sheet.specs.declared.output.Written.the-variants.{Bytes, Refused}
@@ -22,7 +23,7 @@ module _ (e : ℕ) (s o : List ℕ) where
   unfolding roomError
   unread h = declines e _ h
 
-  pub no-room : e ≡ 0 → length o < length s → roomError e s o ≡ 12
+  pub no-room : e ≡ 0 → length o < length s → roomError e s o ≡ outputShort
   unfolding roomError
   no-room h l = rw (h, lt-ltb (length o) (length s) l)
 

@@ -3,13 +3,14 @@ use Prim.Native.Nat.{ℕ, zero, suc}
 use mathlib.Core.List.{List, _++_}
 use lib.ListN.{length, drop}
 use lib.Dec.{ltb}
+use Rattle.numbers.specs.Numbers.{outputShort}
 use Rattle.theory.specs.Checks.{declined, _then_}
 use Rattle.sheet.specs.declared.output.Written.{Written}
 use Rattle.sheet.specs.declared.output.Written.the-variants.{Bytes, Refused}
 
 -- Checks that gave e, then 12: output shorter than the sheet.
 unfoldable pub roomError : ℕ → List ℕ → List ℕ → ℕ
-roomError e s o = e then declined (ltb (length o) (length s)) 12 then 0
+roomError e s o = e then declined (ltb (length o) (length s)) outputShort then 0
 
 -- The answer: 0 is the sheet's length.
 unfoldable pub written : ℕ → List ℕ → Written

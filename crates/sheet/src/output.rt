@@ -1,4 +1,5 @@
 // Writing a sheet into lent bytes.
+use numbers::OUTPUT_SHORT;
 ghost use mathlib.Core.Path.{_≡_};
 ghost use Rattle.sheet.specs.Output.{roomError, written, outAfter};
 
@@ -17,7 +18,7 @@ pub fn put_sheet(s: &[u8], error: u8, out: &mut [u8]) -> Written
         return Written::Refused(error);
     }
     if out.len() < s.len() {
-        return Written::Refused(12);
+        return Written::Refused(OUTPUT_SHORT);
     }
     Written::Bytes(bytes::copy(s, out))
 }

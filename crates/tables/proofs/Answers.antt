@@ -1,4 +1,4 @@
--- What a table answers: at a node its entry, and 0 elsewhere; and what a turn of its loop gives.
+-- What a table answers: at a node its cell, and 0 elsewhere; and what a turn of its loop gives.
 use Prim.Native.Nat.{ℕ, _≤_, _<_}
 use mathlib.Core.Bool.{Bool, true, false, true≢false, and-false}
 use mathlib.Core.List.{List}
@@ -15,24 +15,24 @@ use Rattle.shape.specs.declared.shape.Coords.{Coords}
 use Rattle.shape.specs.declared.shape.Dim.{Dim}
 use Rattle.shape.specs.Shape.{shapeError}
 use Rattle.machine.specs.Number.{nodeCount, coordsOf, Inside}
-use Rattle.machine.specs.Hop.{neighbour, useful}
+use Rattle.machine.specs.Hop.{dirOf, neighbour, useful}
 use Rattle.machine.specs.Node.{isNode, arePair, countAnswer, coordsAnswer}
 use Rattle.machine.proofs.Numbers.{inside}
 use Rattle.machine.proofs.ByCoords.{neighbour-below}
 use Rattle.machine.proofs.Nodes.{Node}
-use Rattle.tables.specs.declared.place.Place.{Place}
-use Rattle.tables.specs.declared.fill.Legs.{Legs}
-use Rattle.tables.specs.declared.fill.Legs.the-variants.{Toward, Outward}
-use Rattle.tables.specs.Entry.{soundBy, entry, towardAnswer, outwardAnswer}
+use Rattle.tables.specs.declared.view.View.{View}
+use Rattle.tables.specs.declared.fill.Heading.{Heading}
+use Rattle.tables.specs.declared.fill.Heading.the-variants.{Toward, Outward}
+use Rattle.tables.specs.Table.{soundBy, cell, towardAnswer, outwardAnswer}
 use Rattle.tables.specs.Fill.{answerOf, partOf, valueIn}
-use Rattle.tables.specs.Places.{Limits, within}
-use Rattle.tables.specs.Around.{aroundIn}
-use Rattle.tables.specs.Judge.{judged}
-use Rattle.tables.proofs.Visits.{In, inside-ranked, visit-before, in-before}
-use Rattle.tables.proofs.Neighbours.{dirOf, byteOf, number-here, byte-of}
+use Rattle.tables.specs.Visit.{Bounds, within}
+use Rattle.tables.specs.Neighbours.{neighboursIn}
+use Rattle.tables.specs.FirstHop.{byFirstHop}
+use Rattle.tables.proofs.Visits.{In, inside-visits, visited-before, in-before}
+use Rattle.tables.proofs.Numbering.{byteOf, number-here, byte-of}
 use Rattle.tables.proofs.Filling.{Visiting, Filling, ended}
-use Rattle.tables.proofs.Judging.{judged-entry}
-use Rattle.tables.proofs.LastJudging.{judged-last}
+use Rattle.tables.proofs.FirstCells.{first-cell}
+use Rattle.tables.proofs.LastCells.{last-cell}
 
 -- ---- what is answered of a node
 pub is-node : (s : Shape) (n : ℕ) → Node s n → isNode s n ≡ true
@@ -54,87 +54,87 @@ count-of s r h e = e ∙ rw (eq-eqb (shapeError s) 0 h)
 
 -- ---- what a table answers
 module _ (s : Shape) (masks : List ℕ) (t : ℕ) where
-  toward-node : (n : ℕ) → Node s n → Node s t → towardAnswer s masks t n ≡ entry s (soundBy masks) n t
+  toward-node : (n : ℕ) → Node s n → Node s t → towardAnswer s masks t n ≡ cell s (soundBy masks) n t
   unfolding towardAnswer arePair
   toward-node n k l = rw (is-node s n k, is-node s t l)
 
-  outward-node : (n : ℕ) → Node s n → Node s t → outwardAnswer s masks t n ≡ entry s (soundBy masks) t n
+  outward-node : (n : ℕ) → Node s n → Node s t → outwardAnswer s masks t n ≡ cell s (soundBy masks) t n
   unfolding outwardAnswer arePair
   outward-node n k l = rw (is-node s n k, is-node s t l)
 
-  past : (legs : Legs) (n : ℕ) → nodeCount s ≤ n → answerOf legs s masks t n ≡ 0
+  past : (heading : Heading) (n : ℕ) → nodeCount s ≤ n → answerOf heading s masks t n ≡ 0
   unfolding answerOf towardAnswer outwardAnswer arePair
   past Toward n k = rw (past-node s n k)
   past Outward n k = rw (past-node s n k, and-false (isNode s t))
 
   -- No table where the centre is no node.
-  pub none : (legs : Legs) → isNode s t ≡ false → (n : ℕ) → getD (replicate 4096 0) n 0 ≡ answerOf legs s masks t n
+  pub none : (heading : Heading) → isNode s t ≡ false → (n : ℕ) → getD (replicate 4096 0) n 0 ≡ answerOf heading s masks t n
   unfolding answerOf towardAnswer outwardAnswer arePair
   none Toward e n = getD-same 0 4096 n ∙ rw (e, and-false (isNode s n))
   none Outward e n = getD-same 0 4096 n ∙ rw e
 
-  -- ---- limits
-  within-of : (L : Shape) (n : ℕ) → In s L t n → within s L t n ≡ true
+  -- ---- bounds
+  pub within-of : (B : Shape) (n : ℕ) → In s B t n → within s B t n ≡ true
   unfolding within
-  within-of L n i = rw (lt-ltb _ (L .x) (i .ranks .x), lt-ltb _ (L .y) (i .ranks .y), lt-ltb _ (L .z) (i .ranks .z))
+  within-of B n i = rw (lt-ltb _ (B .x) (i .visits .x), lt-ltb _ (B .y) (i .visits .y), lt-ltb _ (B .z) (i .visits .z))
 
-  of-within : (L : Shape) (n : ℕ) → n < nodeCount s → within s L t n ≡ true → In s L t n
+  of-within : (B : Shape) (n : ℕ) → n < nodeCount s → within s B t n ≡ true → In s B t n
   unfolding within
-  of-within L n l e =
+  of-within B n l e =
       let a = and-true _ _ e in
       let b = and-true _ _ (a .1) in
-      record { below = l; ranks = record { x = ltb-true _ (L .x) (a .0); y = ltb-true _ (L .y) (b .0); z = ltb-true _ (L .z) (b .1) } }
+      record { below = l; visits = record { x = ltb-true _ (B .x) (a .0); y = ltb-true _ (B .y) (b .0); z = ltb-true _ (B .z) (b .1) } }
 
-  -- With the shape itself as limits the part is the whole.
-  pub whole : (k : Node s t) (legs : Legs) (n : ℕ) → partOf legs s masks t s n ≡ answerOf legs s masks t n
+  -- With the shape itself as bounds the part is the whole.
+  pub whole : (k : Node s t) (heading : Heading) (n : ℕ) → partOf heading s masks t s n ≡ answerOf heading s masks t n
   unfolding partOf
-  whole k legs n =
+  whole k heading n =
       by-le (nodeCount s) n
-      (λ l. test (within s s t n) (λ e. rw e) (λ e. rw e (sym (past legs n l))))
-      (λ l. rw (within-of s n (record { below = l; ranks = inside-ranked s (k .sound) t (k .below) (coordsOf s n) (inside s (k .sound) n l) })))
+      (λ l. test (within s s t n) (λ e. rw e) (λ e. rw e (sym (past heading n l))))
+      (λ l. rw (within-of s n (record { below = l; visits = inside-visits s (k .sound) t (k .below) (coordsOf s n) (inside s (k .sound) n l) })))
 
   -- What a filled table answers.
-  pub filled : (k : Node s t) (L : Shape) (lim : Limits s L) (legs : Legs) (table : List ℕ) (ranks : Coords) (m : ℕ) → Filling s L t (answerOf legs s masks t) table ranks m → nodeCount L ≤ m → (n : ℕ) → getD table n 0 ≡ partOf legs s masks t L n
+  pub filled : (k : Node s t) (B : Shape) (bound : Bounds s B) (heading : Heading) (table : List ℕ) (visits : Coords) (m : ℕ) → Filling s B t (answerOf heading s masks t) table visits m → nodeCount B ≤ m → (n : ℕ) → getD table n 0 ≡ partOf heading s masks t B n
   unfolding partOf
-  filled k L lim legs table ranks m f h n =
+  filled k B bound heading table visits m f h n =
       by-le (nodeCount s) n
-      (λ l. f .rest n (λ i. omega (arith, i .below)) ∙ test (within s L t n) (λ e. rw e (sym (past legs n l))) (λ e. rw e))
-      (λ l. test (within s L t n)
-      (λ e. rw e (ended s L t (answerOf legs s masks t) k lim table ranks m f h n (of-within L n l e)))
-      (λ e. rw e (f .rest n (λ i. true≢false (sym (within-of L n i) ∙ e)))))
+      (λ l. f .rest n (λ i. omega (arith, i .below)) ∙ test (within s B t n) (λ e. rw e (sym (past heading n l))) (λ e. rw e))
+      (λ l. test (within s B t n)
+      (λ e. rw e (ended s B t (answerOf heading s masks t) k bound table visits m f h n (of-within B n l e)))
+      (λ e. rw e (f .rest n (λ i. true≢false (sym (within-of B n i) ∙ e)))))
 
-  module _ (k : Node s t) (L : Shape) (lim : Limits s L) (table : List ℕ) (n : ℕ) (x y z : Place) where
+  module _ (k : Node s t) (B : Shape) (bound : Bounds s B) (table : List ℕ) (n : ℕ) (x y z : View) where
     -- A neighbour's byte of the table, where a hop toward the centre is useful.
-    nearer : (F : ℕ → ℕ) → Visiting s L t F table n x y z → (d : Dim) (plus : Bool) → useful s n t (dirOf d plus) ≡ true → byteOf (aroundIn x y z table) d plus ≡ F (neighbour s n (dirOf d plus))
+    nearer : (F : ℕ → ℕ) → Visiting s B t F table n x y z → (d : Dim) (plus : Bool) → useful s n t (dirOf d plus) ≡ true → byteOf (neighboursIn x y z table) d plus ≡ F (neighbour s n (dirOf d plus))
     nearer F w d plus u =
         let dir = dirOf d plus in
-        byte-of s (k .sound) t n (k .below) (w .in-limits .below) x y z (w .in-x) (w .in-y) (w .in-z) table d plus
-        ∙ w .earlier _ (in-before s (k .sound) t (k .below) L lim n (w .in-limits) dir u) (visit-before s (k .sound) t (k .below) L lim n (w .in-limits) dir u)
+        byte-of s (k .sound) t n (k .below) (w .in-bounds .below) x y z (w .in-x) (w .in-y) (w .in-z) table d plus
+        ∙ w .earlier _ (in-before s (k .sound) t (k .below) B bound n (w .in-bounds) dir u) (visited-before s (k .sound) t (k .below) B bound n (w .in-bounds) dir u)
 
     next-node : n < nodeCount s → (dir : ℕ) → Node s (neighbour s n dir)
     next-node hn dir = record { sound = k .sound; below = neighbour-below s (k .sound) n hn dir }
 
     -- The value of the node that is visited, as it is judged.
-    pub value-is : (legs : Legs) → Visiting s L t (answerOf legs s masks t) table n x y z → (v : ℕ) → v ≡ valueIn legs x y z masks table → v ≡ answerOf legs s masks t n
+    pub value-is : (heading : Heading) → Visiting s B t (answerOf heading s masks t) table n x y z → (v : ℕ) → v ≡ valueIn heading x y z masks table → v ≡ answerOf heading s masks t n
     unfolding valueIn answerOf
     value-is Toward w v e =
         let h = k .sound in
-        let hn = w .in-limits .below in
+        let hn = w .in-bounds .below in
         e
         ∙ rw (number-here s h t n (k .below) hn x y z (w .in-x) (w .in-y) (w .in-z))
-        (judged-entry s h masks t (k .below) n hn (aroundIn x y z table)
+        (first-cell s h masks t (k .below) n hn (neighboursIn x y z table)
         (λ d plus u. nearer (towardAnswer s masks t) w d plus u ∙ toward-node _ (next-node hn (dirOf d plus)) k)
         x y z (w .in-x) (w .in-y) (w .in-z))
         ∙ sym (toward-node n (record { sound = h; below = hn }) k)
     value-is Outward w v e =
         let h = k .sound in
-        let hn = w .in-limits .below in
+        let hn = w .in-bounds .below in
         e
-        ∙ judged-last s h masks t (k .below) n hn (aroundIn x y z masks) (aroundIn x y z table)
+        ∙ last-cell s h masks t (k .below) n hn (neighboursIn x y z masks) (neighboursIn x y z table)
         (λ d plus. byte-of s h t n (k .below) hn x y z (w .in-x) (w .in-y) (w .in-z) masks d plus)
         (λ d plus u. nearer (outwardAnswer s masks t) w d plus u ∙ outward-node _ (next-node hn (dirOf d plus)) k)
         x y z (w .in-x) (w .in-y) (w .in-z)
         ∙ sym (outward-node n (record { sound = h; below = hn }) k)
 
-pub same-limits : (s : Shape) → shapeError s ≡ 0 → Limits s s
-same-limits s h = record { ok = h; x = omega arith; y = omega arith; z = omega arith }
+pub same-bounds : (s : Shape) → shapeError s ≡ 0 → Bounds s s
+same-bounds s h = record { ok = h; x = omega arith; y = omega arith; z = omega arith }

@@ -4,7 +4,7 @@ use native.Mathlib.Omega.{arith}
 use mathlib.Core.Path.{_≡_, refl, sym}
 use mathlib.Core.Bool.{Bool, true, cond, not, _&&_, and-eq-true-iff}
 use lib.Dec.{eqb}
-use borrow.Author.Tests.{eqb-true, eqb-false, eq-eqb}
+use borrow.Author.Tests.{eqb-true, eqb-false}
 use Rattle.theory.specs.Clear.{every}
 use Rattle.theory.proofs.Cases.{test}
 use Rattle.theory.proofs.Clear.{same-test, every-true, true-every, clear-on, empty-clear, clear-iff, clear-ahead}
@@ -13,26 +13,13 @@ use Rattle.shape.specs.Shape.{shapeError}
 use Rattle.machine.specs.declared.leg.Mode.{Mode}
 use Rattle.machine.specs.declared.leg.Mode.the-variants.{Adaptive}
 use Rattle.machine.specs.Number.{nodeCount}
-use Rattle.machine.specs.Hop.{opposite, distance, link, neighbour, useful, firstDirection}
+use Rattle.machine.specs.Hop.{opposite, distance, link, neighbour, useful, rule, firstDirection}
 use Rattle.machine.specs.Torus.{allowedBy, leg, torus}
 use Rattle.machine.proofs.ByCoords.{neighbour-below}
-use Rattle.machine.proofs.Laws.{useful-link, useful-lowers, distance-symmetric, distance-self, first-useful, low, link-back, neighbour-back, distance-step}
+use Rattle.machine.proofs.Directions.{opposite-twice}
+use Rattle.machine.proofs.Laws.{useful-of, useful-link, useful-lowers, distance-symmetric, distance-self, first-useful, low, link-back, neighbour-back, distance-step}
 use Rattle.machine.proofs.Torus.{torus-laws, useful-named}
-use Rattle.tables.specs.Entry.{clearFrom}
-
-opposite-twice : (d : ℕ) → d ≤ 5 → opposite (opposite d) ≡ d
-unfolding opposite
-opposite-twice zero h = refl
-opposite-twice (suc zero) h = refl
-opposite-twice (suc (suc zero)) h = refl
-opposite-twice (suc (suc (suc zero))) h = refl
-opposite-twice (suc (suc (suc (suc zero)))) h = refl
-opposite-twice (suc (suc (suc (suc (suc zero))))) h = refl
-opposite-twice (suc (suc (suc (suc (suc (suc n)))))) h = absurd (omega arith)
-
-useful-of : (s : Shape) (n t d : ℕ) → link s n d ≡ true → distance s (neighbour s n d) t + 1 ≡ distance s n t → useful s n t d ≡ true
-unfolding useful
-useful-of s n t d l e = rw (l, eq-eqb (distance s (neighbour s n d) t + 1) (distance s n t) e)
+use Rattle.tables.specs.Table.{clearFrom}
 
 module _ (s : Shape) (h : shapeError s ≡ 0) where
   -- The hop back from the target of a hop is useful.
@@ -64,15 +51,15 @@ module _ (s : Shape) (h : shapeError s ≡ 0) where
 
   module _ (sound : ℕ → ℕ → Bool) where
     module _ (m : Mode) (u v : ℕ) (hu : u < nodeCount s) (hv : v < nodeCount s) where
-      pub clear-hop : (d : ℕ) → clearFrom s sound m u v ≡ true → allowedBy m s u v d ≡ true → (sound u d ≡ true) × (clearFrom s sound m (neighbour s u d) v ≡ true)
+      pub clear-hop : (d : ℕ) → clearFrom s sound m u v ≡ true → allowedBy rule m s u v d ≡ true → (sound u d ≡ true) × (clearFrom s sound m (neighbour s u d) v ≡ true)
       clear-hop d c a =
           let on = clear-on (torus s) (torus-laws s h) sound (leg v m) u d a (clear-iff (torus s) (torus-laws s h) sound (leg v m) hv u hu .0 c) in
           (on .0, clear-iff (torus s) (torus-laws s h) sound (leg v m) hv (neighbour s u d) (neighbour-below s h u hu d) .1 (on .1))
 
-      pub clear-from : ((d : ℕ) → allowedBy m s u v d ≡ true → (sound u d ≡ true) × (clearFrom s sound m (neighbour s u d) v ≡ true)) → clearFrom s sound m u v ≡ true
+      pub clear-from : ((d : ℕ) → allowedBy rule m s u v d ≡ true → (sound u d ≡ true) × (clearFrom s sound m (neighbour s u d) v ≡ true)) → clearFrom s sound m u v ≡ true
       clear-from f =
           rw (clear-ahead (torus s) (torus-laws s h) sound (leg v m) hv u hu)
-          (true-every 6 _ λ d lt. test (allowedBy m s u v d) (λ a. rw a (and-eq-true-iff (sound u d) _ .1 (f d a))) (λ a. rw a))
+          (true-every 6 _ λ d lt. test (allowedBy rule m s u v d) (λ a. rw a (and-eq-true-iff (sound u d) _ .1 (f d a))) (λ a. rw a))
 
     pub self-clear : (m : Mode) (v : ℕ) → v < nodeCount s → clearFrom s sound m v v ≡ true
     self-clear m v hv = clear-iff (torus s) (torus-laws s h) sound (leg v m) hv v hv .1 (empty-clear (torus s) (torus-laws s h) sound (leg v m) v hv refl)
@@ -81,11 +68,11 @@ module _ (s : Shape) (h : shapeError s ≡ 0) where
     abbrev LastFrom : ℕ → ℕ → ℕ → Type 0
     LastFrom u v e = (sound (neighbour s v e) (opposite e) ≡ true) × (clearFrom s sound Adaptive u (neighbour s v e) ≡ true)
 
-    adaptive : (u v : ℕ) → (d : ℕ) → useful s u v d ≡ true → allowedBy Adaptive s u v d ≡ true
+    adaptive : (u v : ℕ) → (d : ℕ) → useful s u v d ≡ true → allowedBy rule Adaptive s u v d ≡ true
     unfolding allowedBy
     adaptive u v d b = b
 
-    of-adaptive : (u v : ℕ) → (d : ℕ) → allowedBy Adaptive s u v d ≡ true → useful s u v d ≡ true
+    of-adaptive : (u v : ℕ) → (d : ℕ) → allowedBy rule Adaptive s u v d ≡ true → useful s u v d ≡ true
     unfolding allowedBy
     of-adaptive u v d b = b
 
@@ -109,7 +96,7 @@ module _ (s : Shape) (h : shapeError s ≡ 0) where
 
       more-hops : (u ≡ neighbour s v e → ⊥) → LastFrom u v e
       more-hops ne =
-          let some = hop-on (firstDirection s u (neighbour s v e)) (first-useful s h u (neighbour s v e) hu hw ne) in
+          let some = hop-on (firstDirection rule s u (neighbour s v e)) (first-useful s h u (neighbour s v e) hu hw rule ne) in
           (some .1 .0, clear-from Adaptive u (neighbour s v e) hu hw (λ d a. let x = hop-on d (of-adaptive u (neighbour s v e) d a) in (x .0, x .1 .1)))
 
       last-by : LastFrom u v e
@@ -139,7 +126,7 @@ module _ (s : Shape) (h : shapeError s ≡ 0) where
 
       hops-on : (v ≡ neighbour s u d → ⊥) → (sound u d ≡ true) × (clearFrom s sound Adaptive (neighbour s u d) v ≡ true)
       hops-on ne =
-          (hop-back (firstDirection s v (neighbour s u d)) (first-useful s h v (neighbour s u d) hv (neighbour-below s h u hu d) ne) .0, rest (λ e b. hop-back e b .1))
+          (hop-back (firstDirection rule s v (neighbour s u d)) (first-useful s h v (neighbour s u d) hv (neighbour-below s h u hu d) rule ne) .0, rest (λ e b. hop-back e b .1))
 
       clear-by : (sound u d ≡ true) × (clearFrom s sound Adaptive (neighbour s u d) v ≡ true)
       clear-by = test (eqb v (neighbour s u d)) (λ t. one-hop (sym (eqb-true v (neighbour s u d) t))) (λ t. hops-on (eqb-false v (neighbour s u d) t))

@@ -2,10 +2,9 @@
 use Prim.Native.Nat.{ℕ, zero, suc, _≤_, _<_}
 use native.Mathlib.Omega.{arith}
 use mathlib.Core.Path.{_≡_, refl, sym, ap, _∙_}
-use mathlib.Core.Bool.{Bool, true, false, false≢true, cond, not, _&&_, and-eq-true-iff}
-use mathlib.Core.Logic.{⊎-elim}
+use mathlib.Core.Bool.{Bool, true, false, not, _&&_, and-eq-true-iff}
 use lib.Dec.{leb, eqb}
-use borrow.Author.Tests.{eqb-true, eqb-false, eq-eqb, ne-eqb, le-leb}
+use borrow.Author.Tests.{eqb-true, eqb-false, eq-eqb, ne-eqb}
 use Rattle.theory.proofs.Bools.{and-true}
 use Rattle.theory.proofs.Cases.{test}
 use Rattle.theory.proofs.Clear.{same-test}
@@ -15,31 +14,26 @@ use Rattle.shape.specs.declared.shape.Dim.{Dim}
 use Rattle.shape.specs.declared.shape.Dim.the-variants.{X, Y, Z}
 use Rattle.shape.specs.Shape.{shapeError, extentOf, wrappedIn, coordOf, put}
 use Rattle.shape.specs.Axis.{place}
-use Rattle.shape.proofs.AxisLaws.{axis-some}
-use Rattle.shape.proofs.Runs.{mirror, Run, Onward, onward}
+use Rattle.shape.proofs.Runs.{mirror, goes-useful, Run, Onward, onward}
 use Rattle.machine.specs.declared.leg.Mode.the-variants.{Deterministic}
 use Rattle.machine.specs.Number.{nodeCount, coordsOf, Inside}
-use Rattle.machine.specs.Hop.{dirDim, plusDir, minusDir, opposite, distance, neighbour, useful, firstDirection}
+use Rattle.machine.specs.Hop.{dirOf, opposite, distance, neighbour, useful, rule, firstDirection}
 use Rattle.machine.specs.Torus.{allowedBy}
-use Rattle.machine.specs.ByCoords.{usefulAlong, movedAt, towardAt, firstAt}
+use Rattle.machine.specs.ByCoords.{usefulAlong, movedAt, goesAlong, firstAt}
+use Rattle.machine.proofs.Directions.{direction}
 use Rattle.machine.proofs.Numbers.{inside}
 use Rattle.machine.proofs.ByCoords.{inside-at, neighbour-below, neighbour-coords, plus-of, minus-of, first-at}
 use Rattle.machine.proofs.Laws.{useful-lowers, useful-link, distance-self, distance-zero, same-node, first-useful, low, neighbour-back}
-use Rattle.tables.specs.Entry.{clearFrom}
-use Rattle.tables.proofs.Neighbours.{dirOf}
+use Rattle.machine.proofs.Torus.{first-allowed}
+use Rattle.tables.specs.Table.{clearFrom}
 use Rattle.tables.proofs.LastHop.{clear-hop, clear-from, self-clear}
+
+opposite-way : (d : Dim) (plus : Bool) → opposite (dirOf d (not plus)) ≡ dirOf d plus
+opposite-way d true = direction d false .back
+opposite-way d false = direction d true .back
 
 same-place : (c t : Coords) → c .x ≡ t .x → c .y ≡ t .y → c .z ≡ t .z → c ≡ t
 same-place c t e f g = λ i. record { x = e i; y = f i; z = g i }
-
-opposite-way : (d : Dim) (plus : Bool) → opposite (dirOf d (not plus)) ≡ dirOf d plus
-unfolding opposite
-opposite-way X true = refl
-opposite-way X false = refl
-opposite-way Y true = refl
-opposite-way Y false = refl
-opposite-way Z true = refl
-opposite-way Z false = refl
 
 -- The dimensions after d have the same coordinates.
 abbrev pub Later : Dim → Coords → Coords → Type 0
@@ -49,39 +43,26 @@ Later Z c t = Unit {0}
 
 module _ (s : Shape) where
   moved-dir : (c : Coords) (d : Dim) (plus : Bool) → movedAt s c (dirOf d plus) ≡ put c d (place (extentOf s d) (coordOf c d) plus)
-  unfolding movedAt dirDim
-  moved-dir c X true = refl
-  moved-dir c X false = refl
-  moved-dir c Y true = refl
-  moved-dir c Y false = refl
-  moved-dir c Z true = refl
-  moved-dir c Z false = refl
+  unfolding movedAt
+  moved-dir c d plus = rw (direction d plus .dim, direction d plus .way)
 
-  pick-way : (p m : Bool) (a b : ℕ) → cond (p && m) a (cond p a b) ≡ cond p a b
-  pick-way true true a b = refl
-  pick-way true false a b = refl
-  pick-way false m a b = refl
-
-  pub toward-dir : (c t : Coords) (d : Dim) → towardAt s c t d ≡ dirOf d (usefulAlong s c t d true)
-  toward-dir c t d = pick-way (usefulAlong s c t d true) (usefulAlong s c t d false) (plusDir d) (minusDir d)
-
-  first-x : (c t : Coords) → (c .x ≡ t .x → ⊥) → firstAt s c t ≡ dirOf X (usefulAlong s c t X true)
+  first-x : (c t : Coords) → (c .x ≡ t .x → ⊥) → firstAt rule s c t ≡ dirOf X (goesAlong rule s c t X)
   unfolding firstAt
-  first-x c t ne = rw (ne-eqb (c .x) (t .x) ne) (toward-dir c t X)
+  first-x c t ne = rw (ne-eqb (c .x) (t .x) ne)
 
-  first-y : (c t : Coords) → c .x ≡ t .x → (c .y ≡ t .y → ⊥) → firstAt s c t ≡ dirOf Y (usefulAlong s c t Y true)
+  first-y : (c t : Coords) → c .x ≡ t .x → (c .y ≡ t .y → ⊥) → firstAt rule s c t ≡ dirOf Y (goesAlong rule s c t Y)
   unfolding firstAt
-  first-y c t e ne = rw (eq-eqb (c .x) (t .x) e, ne-eqb (c .y) (t .y) ne) (toward-dir c t Y)
+  first-y c t e ne = rw (eq-eqb (c .x) (t .x) e, ne-eqb (c .y) (t .y) ne)
 
-  first-z : (c t : Coords) → c .x ≡ t .x → c .y ≡ t .y → (c .z ≡ t .z → ⊥) → firstAt s c t ≡ dirOf Z (usefulAlong s c t Z true)
+  first-z : (c t : Coords) → c .x ≡ t .x → c .y ≡ t .y → (c .z ≡ t .z → ⊥) → firstAt rule s c t ≡ dirOf Z (goesAlong rule s c t Z)
   unfolding firstAt
-  first-z c t e f ne = rw (eq-eqb (c .x) (t .x) e, eq-eqb (c .y) (t .y) f, ne-eqb (c .z) (t .z) ne) (toward-dir c t Z)
+  first-z c t e f ne = rw (eq-eqb (c .x) (t .x) e, eq-eqb (c .y) (t .y) f, ne-eqb (c .z) (t .z) ne)
 
   -- On the walk to t, whose last hop goes along the dimension d.
   record On (d : Dim) (plus : Bool) (t c : Coords) : Type 0 where
     within : Inside s c
     later : Later d c t
-    run : Run (extentOf s d) (wrappedIn s d) (coordOf c d) (coordOf t d) plus
+    run : Run (extentOf s d) (wrappedIn s d) rule (coordOf c d) (coordOf t d) plus
 
   -- The place before t on that walk.
   abbrev before : Dim → Bool → Coords → Coords
@@ -90,13 +71,13 @@ module _ (s : Shape) where
   -- The same direction toward t and toward the place before it, and the walk goes on.
   record Both (d : Dim) (plus : Bool) (t c : Coords) : Type 0 where
     dir : ℕ
-    end : firstAt s c t ≡ dir
-    short : firstAt s c (before d plus t) ≡ dir
-    on : Later d (movedAt s c dir) t × Run (extentOf s d) (wrappedIn s d) (coordOf (movedAt s c dir) d) (coordOf t d) plus
+    end : firstAt rule s c t ≡ dir
+    short : firstAt rule s c (before d plus t) ≡ dir
+    on : Later d (movedAt s c dir) t × Run (extentOf s d) (wrappedIn s d) rule (coordOf (movedAt s c dir) d) (coordOf t d) plus
 
   module _ (plus : Bool) (t c : Coords) (j : Inside s t) where
-    ahead-in : (d : Dim) (o : On d plus t c) → (coordOf c d ≡ place (extentOf s d) (coordOf t d) (not plus) → ⊥) → Onward (extentOf s d) (wrappedIn s d) (coordOf c d) (coordOf t d) plus
-    ahead-in d o ne = onward (extentOf s d) (wrappedIn s d) (coordOf c d) (coordOf t d) plus (inside-at s c (o .within) d) (inside-at s t j d) (o .run) ne
+    ahead-in : (d : Dim) (o : On d plus t c) → (coordOf c d ≡ place (extentOf s d) (coordOf t d) (not plus) → ⊥) → Onward (extentOf s d) (wrappedIn s d) rule (coordOf c d) (coordOf t d) plus
+    ahead-in d o ne = onward rule (extentOf s d) (coordOf c d) (coordOf t d) (inside-at s c (o .within) d) (inside-at s t j d) (wrappedIn s d) plus (o .run) ne
 
     go-x : (o : On X plus t c) → (c .x ≡ place (s .x) (t .x) (not plus) → ⊥) → Both X plus t c
     go-x o ne =
@@ -131,26 +112,26 @@ module _ (s : Shape) where
     -- A hop along a dimension before that of the last hop.
     y-by-x : (o : On Y plus t c) → (c .x ≡ t .x → ⊥) → Both Y plus t c
     y-by-x o ne = record {
-      dir = dirOf X (usefulAlong s c t X true);
+      dir = dirOf X (goesAlong rule s c t X);
       end = first-x c t ne;
       short = first-x c (before Y plus t) ne;
-      on = rw (moved-dir c X (usefulAlong s c t X true)) (o .later, o .run);
+      on = rw (moved-dir c X (goesAlong rule s c t X)) (o .later, o .run);
     }
 
     z-by-x : (o : On Z plus t c) → (c .x ≡ t .x → ⊥) → Both Z plus t c
     z-by-x o ne = record {
-      dir = dirOf X (usefulAlong s c t X true);
+      dir = dirOf X (goesAlong rule s c t X);
       end = first-x c t ne;
       short = first-x c (before Z plus t) ne;
-      on = rw (moved-dir c X (usefulAlong s c t X true)) (tt, o .run);
+      on = rw (moved-dir c X (goesAlong rule s c t X)) (tt, o .run);
     }
 
     z-by-y : (o : On Z plus t c) → c .x ≡ t .x → (c .y ≡ t .y → ⊥) → Both Z plus t c
     z-by-y o e ne = record {
-      dir = dirOf Y (usefulAlong s c t Y true);
+      dir = dirOf Y (goesAlong rule s c t Y);
       end = first-y c t e ne;
       short = first-y c (before Z plus t) e ne;
-      on = rw (moved-dir c Y (usefulAlong s c t Y true)) (tt, o .run);
+      on = rw (moved-dir c Y (goesAlong rule s c t Y)) (tt, o .run);
     }
 
     -- Before the end of the walk one hop goes on.
@@ -170,7 +151,7 @@ module _ (s : Shape) where
         (λ e. z-by-x o (eqb-false (c .x) (t .x) e))
 
   -- At the place before t the walk goes along that dimension.
-  last-first : (d : Dim) (plus : Bool) (t : Coords) → On d plus t (before d plus t) → firstAt s (before d plus t) t ≡ dirOf d plus
+  last-first : (d : Dim) (plus : Bool) (t : Coords) → On d plus t (before d plus t) → firstAt rule s (before d plus t) t ≡ dirOf d plus
   last-first X plus t o = first-x (before X plus t) t (o .run .apart) ∙ ap (dirOf X) (o .run .way)
   last-first Y plus t o = first-y (before Y plus t) t refl (o .run .apart) ∙ ap (dirOf Y) (o .run .way)
   last-first Z plus t o = first-z (before Z plus t) t refl refl (o .run .apart) ∙ ap (dirOf Z) (o .run .way)
@@ -180,25 +161,19 @@ swap-and true b c = refl
 swap-and false true c = refl
 swap-and false false c = refl
 
-module _ (s : Shape) (u v : ℕ) where
-  -- A deterministic leg's one direction.
-  first-allowed : firstDirection s u v ≤ 5 → allowedBy Deterministic s u v (firstDirection s u v) ≡ true
-  unfolding allowedBy
-  first-allowed l = rw (le-leb (firstDirection s u v) 5 l) (eq-eqb (firstDirection s u v) (firstDirection s u v) refl)
-
-  allowed-first : (d : ℕ) → allowedBy Deterministic s u v d ≡ true → d ≡ firstDirection s u v
-  unfolding allowedBy
-  allowed-first d a = eqb-true d _ (and-true (leb d 5) _ a .1)
+allowed-first : (s : Shape) (u v d : ℕ) → allowedBy rule Deterministic s u v d ≡ true → d ≡ firstDirection rule s u v
+unfolding allowedBy
+allowed-first s u v d a = eqb-true d _ (and-true (leb d 5) _ a .1)
 
 module _ (s : Shape) (h : shapeError s ≡ 0) (sound : ℕ → ℕ → Bool) where
   det-ahead :
       (u v : ℕ) → u < nodeCount s → v < nodeCount s → (u ≡ v → ⊥) →
-      clearFrom s sound Deterministic u v ≡ (sound u (firstDirection s u v) && clearFrom s sound Deterministic (neighbour s u (firstDirection s u v)) v)
+      clearFrom s sound Deterministic u v ≡ (sound u (firstDirection rule s u v) && clearFrom s sound Deterministic (neighbour s u (firstDirection rule s u v)) v)
   det-ahead u v hu hv ne =
-      let b = first-useful s h u v hu hv ne in
-      let l = low s h u (firstDirection s u v) hu (useful-link s u v (firstDirection s u v) b) in
+      let b = first-useful s h u v hu hv rule ne in
+      let l = low s h u (firstDirection rule s u v) hu (useful-link s u v (firstDirection rule s u v) b) in
       same-test _ _
-      (λ c. and-eq-true-iff _ _ .1 (clear-hop s h sound Deterministic u v hu hv (firstDirection s u v) c (first-allowed s u v l)))
+      (λ c. and-eq-true-iff _ _ .1 (clear-hop s h sound Deterministic u v hu hv (firstDirection rule s u v) c (first-allowed s h u v hu hv rule l)))
       (λ c. clear-from s h sound Deterministic u v hu hv (λ d a. rw (allowed-first s u v d a) (and-eq-true-iff _ _ .0 c)))
 
   -- v, the dimension d and the way along it of the walk's last hop, and the node w before v.
@@ -211,7 +186,7 @@ module _ (s : Shape) (h : shapeError s ≡ 0) (sound : ℕ → ℕ → Bool) whe
 
     last-hop : OnWay w → clearFrom s sound Deterministic w v ≡ (sound w (dirOf d plus) && clearFrom s sound Deterministic w w)
     last-hop o =
-        let f : firstDirection s w v ≡ dirOf d plus = first-at s h w hw v ∙ rw at (last-first s d plus (coordsOf s v) (rw at at o)) in
+        let f : firstDirection rule s w v ≡ dirOf d plus = first-at s h w hw v rule ∙ rw at (last-first s d plus (coordsOf s v) (rw at at o)) in
         det-ahead w v hw hv (apart w o) ∙ rw (f, to, self-clear s h sound Deterministic v hv, self-clear s h sound Deterministic w hw)
 
     walk : (k u : ℕ) → u < nodeCount s → distance s u w ≡ k → OnWay u → clearFrom s sound Deterministic u v ≡ (sound w (dirOf d plus) && clearFrom s sound Deterministic u w)
@@ -220,11 +195,11 @@ module _ (s : Shape) (h : shapeError s ≡ 0) (sound : ℕ → ℕ → Bool) whe
         let ne : u ≡ w → ⊥ = λ e. omega (arith, ap (λ n. distance s n w) e, distance-self s w) in
         let b = hop-on s plus (coordsOf s v) (coordsOf s u) (inside s h v hv) d o (λ e. ne (same-node s h u w hu hw (λ j. ap (λ c. coordOf c j) (e ∙ sym at)))) in
         let x = b .dir in
-        let fv : firstDirection s u v ≡ x = first-at s h u hu v ∙ b .end in
-        let fw : firstDirection s u w ≡ x = first-at s h u hu w ∙ ap (firstAt s (coordsOf s u)) at ∙ b .short in
+        let fv : firstDirection rule s u v ≡ x = first-at s h u hu v rule ∙ b .end in
+        let fw : firstDirection rule s u w ≡ x = first-at s h u hu w rule ∙ ap (firstAt rule s (coordsOf s u)) at ∙ b .short in
         let m = neighbour-coords s h u hu x in
         let hx = neighbour-below s h u hu x in
-        let z = useful-lowers s u w x (rw fw at (first-useful s h u w hu hw ne)) in
+        let z = useful-lowers s u w x (rw fw at (first-useful s h u w hu hw rule ne)) in
         let on : OnWay (neighbour s u x) = record { within = inside s h (neighbour s u x) hx; later = rw m (b .on .0); run = rw m (b .on .1) } in
         let rest = walk k (neighbour s u x) hx (omega arith) on in
         let av = det-ahead u v hu hv (apart u o) in
@@ -234,13 +209,10 @@ module _ (s : Shape) (h : shapeError s ≡ 0) (sound : ℕ → ℕ → Bool) whe
   -- The hop back along a dimension where the coordinates differ, and the walk's own hop there.
   module _ (u v : ℕ) (hu : u < nodeCount s) (hv : v < nodeCount s) (d : Dim) (ne : coordOf (coordsOf s u) d ≡ coordOf (coordsOf s v) d → ⊥) where
     abbrev pub way : Bool
-    way = usefulAlong s (coordsOf s u) (coordsOf s v) d true
+    way = goesAlong rule s (coordsOf s u) (coordsOf s v) d
 
-    pub way-useful : (b : Bool) → usefulAlong s (coordsOf s u) (coordsOf s v) d true ≡ b → usefulAlong s (coordsOf s u) (coordsOf s v) d b ≡ true
-    way-useful true e = e
-    way-useful false e =
-        ⊎-elim (λ t. absurd (false≢true (sym e ∙ t))) (λ t. t)
-        (axis-some (extentOf s d) (wrappedIn s d) (coordOf (coordsOf s u) d) (coordOf (coordsOf s v) d) (inside-at s _ (inside s h u hu) d) (inside-at s _ (inside s h v hv) d) ne)
+    pub way-useful : (b : Bool) → goesAlong rule s (coordsOf s u) (coordsOf s v) d ≡ b → usefulAlong s (coordsOf s u) (coordsOf s v) d b ≡ true
+    way-useful b e = goes-useful rule (extentOf s d) (wrappedIn s d) _ _ b (inside-at s _ (inside s h u hu) d) (inside-at s _ (inside s h v hv) d) ne e
 
     -- Seen from v the hop back is useful to u.
     pub back-useful : (b : Bool) → usefulAlong s (coordsOf s u) (coordsOf s v) d b ≡ true → useful s v u (dirOf d (not b)) ≡ true

@@ -1,11 +1,11 @@
-pub mod Ranks
+pub mod Order
 pub mod Visits
-pub mod Entries
-pub mod Neighbours
+pub mod Cells
+pub mod Numbering
 pub mod Filling
-pub mod Judging
+pub mod FirstCells
 pub mod LastHop
 pub mod LastRun
-pub mod LastJudging
+pub mod LastCells
 pub mod Answers
 pub mod Between

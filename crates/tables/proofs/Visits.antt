@@ -1,5 +1,5 @@
--- The order in which the nodes are visited from a centre: by the numbers that their ranks would have as coordinates. Each node is visited once, and
--- after the nodes to which a useful hop toward the centre leads. The visit may be limited to the lower ranks of each dimension.
+-- The order in which the nodes are visited from a centre: by the numbers that their visit numbers would have as coordinates. Each node is visited once, and
+-- after the nodes to which a useful hop toward the centre leads. The visit may be bounded to the lower numbers of each dimension.
 use Prim.Native.Nat.{ℕ, suc, _+_, _*_, _/_, _≤_, _<_}
 use mathlib.Core.Bool.{Bool, true}
 use mathlib.Core.Path.{_≡_, refl, sym, ap, _∙_}
@@ -22,32 +22,31 @@ use Rattle.machine.specs.Hop.{dirDim, dirPlus, neighbour, useful}
 use Rattle.machine.specs.ByCoords.{movedAlong, movedAt, usefulAt}
 use Rattle.machine.proofs.Numbers.{number-below, coords-number, number-coords, inside, low-digit, high-digit}
 use Rattle.machine.proofs.ByCoords.{inside-at, neighbour-below, neighbour-coords, useful-at}
-use Rattle.tables.specs.Order.{plusSide, further}
-use Rattle.tables.specs.Places.{rankedPlace, rankIn, ranked, Limits}
-use Rattle.tables.proofs.Ranks.{rank-place, place-rank, rank-below, place-in, side-most, useful-rank}
+use Rattle.tables.specs.Visit.{plusSide, further, visitedPlace, visitIn, visitsOf, Bounds}
+use Rattle.tables.proofs.Order.{visit-place, place-visit, visit-below, place-in, side-most, useful-visit}
 
 abbrev side : Shape → Coords → Dim → ℕ
 side s t d = plusSide (extentOf s d) (wrappedIn s d) (coordOf t d)
 
--- The coordinates with these ranks.
+-- The coordinates with these visit numbers.
 abbrev pub placed : Shape → Coords → Coords → Coords
-placed s t ranks = record { x = rankedPlace s t X (ranks .x); y = rankedPlace s t Y (ranks .y); z = rankedPlace s t Z (ranks .z) }
+placed s t visits = record { x = visitedPlace s t X (visits .x); y = visitedPlace s t Y (visits .y); z = visitedPlace s t Z (visits .z) }
 
--- The node n is a node of the shape, and its ranks as seen from t are below the limits.
-pub record In (s L : Shape) (t n : ℕ) : Type 0 where
+-- The node n is a node of the shape, and its visit numbers as seen from t are below the bounds.
+pub record In (s B : Shape) (t n : ℕ) : Type 0 where
   pub below : n < nodeCount s
-  pub ranks : Inside L (ranked s (coordsOf s t) (coordsOf s n))
+  pub visits : Inside B (visitsOf s (coordsOf s t) (coordsOf s n))
 
 -- With t as the centre: the node that is visited as number m, and the number in the order of a node n.
 pub nodeAt : Shape → Shape → ℕ → ℕ → ℕ
-nodeAt s L t m = numberOf s (placed s (coordsOf s t) (coordsOf L m))
+nodeAt s B t m = numberOf s (placed s (coordsOf s t) (coordsOf B m))
 
-pub visit : Shape → Shape → ℕ → ℕ → ℕ
-visit s L t n = numberOf L (ranked s (coordsOf s t) (coordsOf s n))
+pub nodeVisit : Shape → Shape → ℕ → ℕ → ℕ
+nodeVisit s B t n = numberOf B (visitsOf s (coordsOf s t) (coordsOf s n))
 
-pub node-at : (s L : Shape) (t m : ℕ) → nodeAt s L t m ≡ numberOf s (placed s (coordsOf s t) (coordsOf L m))
+pub node-at : (s B : Shape) (t m : ℕ) → nodeAt s B t m ≡ numberOf s (placed s (coordsOf s t) (coordsOf B m))
 unfolding nodeAt
-node-at s L t m = refl
+node-at s B t m = refl
 
 pub inside-along : (s : Shape) (c : Coords) → Inside s c → (d : Dim) (plus : Bool) → Inside s (movedAlong s c d plus)
 inside-along s c i X plus = record { x = place-below (s .x) (c .x) plus (i .x); y = i .y; z = i .z }
@@ -66,7 +65,7 @@ number-put s c Z v hx hy h =
     let inner : c .y + s .y * v < c .y + s .y * c .z = omega (arith, mul-le-mul-left (s .y) h, mul-suc (s .y) v) in
     omega (arith, mul-le-mul-left (s .x) inner, mul-suc (s .x) (c .y + s .y * v))
 
--- ---- one further, by the ranks
+-- ---- one further, by the visit numbers
 module _ (s : Shape) (h : shapeError s ≡ 0) where
   further-x : (c : Coords) → c .x < s .x → further s c .x < s .x
   unfolding further
@@ -124,90 +123,90 @@ module _ (s : Shape) (h : shapeError s ≡ 0) where
     most : (d : Dim) → side s centre d ≤ extentOf s d
     most d = side-most (extentOf s d) (wrappedIn s d) (coordOf centre d) (within d)
 
-    pub inside-placed : (ranks : Coords) → Inside s ranks → Inside s (placed s centre ranks)
-    inside-placed ranks i = record { x = one X _ (i .x); y = one Y _ (i .y); z = one Z _ (i .z) }
+    pub inside-placed : (visits : Coords) → Inside s visits → Inside s (placed s centre visits)
+    inside-placed visits i = record { x = one X _ (i .x); y = one Y _ (i .y); z = one Z _ (i .z) }
       where
-        one : (d : Dim) (k : ℕ) → k < extentOf s d → rankedPlace s centre d k < extentOf s d
+        one : (d : Dim) (k : ℕ) → k < extentOf s d → visitedPlace s centre d k < extentOf s d
         one d k l = place-in (extentOf s d) (coordOf centre d) (within d) (side s centre d) (most d) k l
 
-    pub inside-ranked : (c : Coords) → Inside s c → Inside s (ranked s centre c)
-    inside-ranked c i = record { x = one X _ (i .x); y = one Y _ (i .y); z = one Z _ (i .z) }
+    pub inside-visits : (c : Coords) → Inside s c → Inside s (visitsOf s centre c)
+    inside-visits c i = record { x = one X _ (i .x); y = one Y _ (i .y); z = one Z _ (i .z) }
       where
-        one : (d : Dim) (p : ℕ) → p < extentOf s d → rankIn s centre d p < extentOf s d
-        one d p l = rank-below (extentOf s d) (coordOf centre d) (within d) (side s centre d) (most d) p l
+        one : (d : Dim) (p : ℕ) → p < extentOf s d → visitIn s centre d p < extentOf s d
+        one d p l = visit-below (extentOf s d) (coordOf centre d) (within d) (side s centre d) (most d) p l
 
-    placed-ranked : (c : Coords) → Inside s c → placed s centre (ranked s centre c) ≡ c
-    placed-ranked c i = λ j. record { x = one X (c .x) (i .x) j; y = one Y (c .y) (i .y) j; z = one Z (c .z) (i .z) j }
+    placed-visits : (c : Coords) → Inside s c → placed s centre (visitsOf s centre c) ≡ c
+    placed-visits c i = λ j. record { x = one X (c .x) (i .x) j; y = one Y (c .y) (i .y) j; z = one Z (c .z) (i .z) j }
       where
-        one : (d : Dim) (p : ℕ) → p < extentOf s d → rankedPlace s centre d (rankIn s centre d p) ≡ p
-        one d p l = place-rank (extentOf s d) (coordOf centre d) (within d) (side s centre d) (most d) p l
+        one : (d : Dim) (p : ℕ) → p < extentOf s d → visitedPlace s centre d (visitIn s centre d p) ≡ p
+        one d p l = place-visit (extentOf s d) (coordOf centre d) (within d) (side s centre d) (most d) p l
 
-    ranked-placed : (ranks : Coords) → Inside s ranks → ranked s centre (placed s centre ranks) ≡ ranks
-    ranked-placed ranks i = λ j. record { x = one X (ranks .x) (i .x) j; y = one Y (ranks .y) (i .y) j; z = one Z (ranks .z) (i .z) j }
+    visits-placed : (visits : Coords) → Inside s visits → visitsOf s centre (placed s centre visits) ≡ visits
+    visits-placed visits i = λ j. record { x = one X (visits .x) (i .x) j; y = one Y (visits .y) (i .y) j; z = one Z (visits .z) (i .z) j }
       where
-        one : (d : Dim) (k : ℕ) → k < extentOf s d → rankIn s centre d (rankedPlace s centre d k) ≡ k
-        one d k l = rank-place (extentOf s d) (coordOf centre d) (within d) (side s centre d) (most d) k l
+        one : (d : Dim) (k : ℕ) → k < extentOf s d → visitIn s centre d (visitedPlace s centre d k) ≡ k
+        one d k l = visit-place (extentOf s d) (coordOf centre d) (within d) (side s centre d) (most d) k l
 
-    ranked-put : (c : Coords) (d : Dim) (v : ℕ) → ranked s centre (put c d v) ≡ put (ranked s centre c) d (rankIn s centre d v)
-    ranked-put c X v = refl
-    ranked-put c Y v = refl
-    ranked-put c Z v = refl
+    visits-put : (c : Coords) (d : Dim) (v : ℕ) → visitsOf s centre (put c d v) ≡ put (visitsOf s centre c) d (visitIn s centre d v)
+    visits-put c X v = refl
+    visits-put c Y v = refl
+    visits-put c Z v = refl
 
-    ranked-at : (c : Coords) (d : Dim) → coordOf (ranked s centre c) d ≡ rankIn s centre d (coordOf c d)
-    ranked-at c X = refl
-    ranked-at c Y = refl
-    ranked-at c Z = refl
+    visits-at : (c : Coords) (d : Dim) → coordOf (visitsOf s centre c) d ≡ visitIn s centre d (coordOf c d)
+    visits-at c X = refl
+    visits-at c Y = refl
+    visits-at c Z = refl
 
-    module _ (L : Shape) (lim : Limits s L) where
-      pub inside-limits : (ranks : Coords) → Inside L ranks → Inside s ranks
-      inside-limits ranks i =
+    module _ (B : Shape) (bound : Bounds s B) where
+      pub inside-bounds : (visits : Coords) → Inside B visits → Inside s visits
+      inside-bounds visits i =
           let a = i .x in
           let b = i .y in
           let c = i .z in
-          record { x = omega (arith, lim .x); y = omega (arith, lim .y); z = omega (arith, lim .z) }
+          record { x = omega (arith, bound .x); y = omega (arith, bound .y); z = omega (arith, bound .z) }
 
       -- ---- each node is visited once
-      pub node-in : (m : ℕ) → m < nodeCount L → In s L t (nodeAt s L t m)
+      pub node-in : (m : ℕ) → m < nodeCount B → In s B t (nodeAt s B t m)
       unfolding nodeAt
       node-in m k =
-          let i = inside L (lim .ok) m k in
-          let j = inside-placed _ (inside-limits _ i) in
-          record { below = number-below s h _ j; ranks = rw (coords-number s h _ j, ranked-placed _ (inside-limits _ i)) i }
+          let i = inside B (bound .ok) m k in
+          let j = inside-placed _ (inside-bounds _ i) in
+          record { below = number-below s h _ j; visits = rw (coords-number s h _ j, visits-placed _ (inside-bounds _ i)) i }
 
-      pub visit-below : (n : ℕ) → In s L t n → visit s L t n < nodeCount L
-      unfolding visit
-      visit-below n k = number-below L (lim .ok) _ (k .ranks)
+      pub node-visit-below : (n : ℕ) → In s B t n → nodeVisit s B t n < nodeCount B
+      unfolding nodeVisit
+      node-visit-below n k = number-below B (bound .ok) _ (k .visits)
 
-      pub visit-node : (m : ℕ) → m < nodeCount L → visit s L t (nodeAt s L t m) ≡ m
-      unfolding visit nodeAt
-      visit-node m k =
-          let i = inside-limits _ (inside L (lim .ok) m k) in
-          rw (coords-number s h _ (inside-placed _ i), ranked-placed _ i) (number-coords L (lim .ok) m)
+      pub visit-of-node : (m : ℕ) → m < nodeCount B → nodeVisit s B t (nodeAt s B t m) ≡ m
+      unfolding nodeVisit nodeAt
+      visit-of-node m k =
+          let i = inside-bounds _ (inside B (bound .ok) m k) in
+          rw (coords-number s h _ (inside-placed _ i), visits-placed _ i) (number-coords B (bound .ok) m)
 
-      pub node-visit : (n : ℕ) → In s L t n → nodeAt s L t (visit s L t n) ≡ n
-      unfolding visit nodeAt
-      node-visit n k = rw (coords-number L (lim .ok) _ (k .ranks), placed-ranked _ (inside s h n (k .below))) (number-coords s h n)
+      pub node-of-visit : (n : ℕ) → In s B t n → nodeAt s B t (nodeVisit s B t n) ≡ n
+      unfolding nodeVisit nodeAt
+      node-of-visit n k = rw (coords-number B (bound .ok) _ (k .visits), placed-visits _ (inside s h n (k .below))) (number-coords s h n)
 
-      -- ---- and after the nodes that are one hop nearer, which are within the limits as well
-      lower : (c : Coords) (d : Dim) (v : ℕ) → rankIn s centre d v < rankIn s centre d (coordOf c d) → numberOf L (ranked s centre (put c d v)) < numberOf L (ranked s centre c)
-      lower c d v l = rw (ranked-put c d v) (number-put L (ranked s centre c) d _ (sound L (lim .ok) X .low) (sound L (lim .ok) Y .low) (rw (ranked-at c d) l))
+      -- ---- and after the nodes that are one hop nearer, which are within the bounds as well
+      lower : (c : Coords) (d : Dim) (v : ℕ) → visitIn s centre d v < visitIn s centre d (coordOf c d) → numberOf B (visitsOf s centre (put c d v)) < numberOf B (visitsOf s centre c)
+      lower c d v l = rw (visits-put c d v) (number-put B (visitsOf s centre c) d _ (sound B (bound .ok) X .low) (sound B (bound .ok) Y .low) (rw (visits-at c d) l))
 
-      lower-in : (c : Coords) (d : Dim) (v : ℕ) → rankIn s centre d v < rankIn s centre d (coordOf c d) → Inside L (ranked s centre c) → Inside L (ranked s centre (put c d v))
+      lower-in : (c : Coords) (d : Dim) (v : ℕ) → visitIn s centre d v < visitIn s centre d (coordOf c d) → Inside B (visitsOf s centre c) → Inside B (visitsOf s centre (put c d v))
       lower-in c X v l i = let a = i .x in record { x = omega arith; y = i .y; z = i .z }
       lower-in c Y v l i = let a = i .y in record { x = i .x; y = omega arith; z = i .z }
       lower-in c Z v l i = let a = i .z in record { x = i .x; y = i .y; z = omega arith }
 
-      module _ (n : ℕ) (k : In s L t n) (dir : ℕ) (u : useful s n t dir ≡ true) where
-        drop : rankIn s centre (dirDim dir) (place (extentOf s (dirDim dir)) (coordOf (coordsOf s n) (dirDim dir)) (dirPlus dir)) < rankIn s centre (dirDim dir) (coordOf (coordsOf s n) (dirDim dir))
+      module _ (n : ℕ) (k : In s B t n) (dir : ℕ) (u : useful s n t dir ≡ true) where
+        drop : visitIn s centre (dirDim dir) (place (extentOf s (dirDim dir)) (coordOf (coordsOf s n) (dirDim dir)) (dirPlus dir)) < visitIn s centre (dirDim dir) (coordOf (coordsOf s n) (dirDim dir))
         unfolding usefulAt
         drop =
             let d = dirDim dir in
-            useful-rank (extentOf s d) (wrappedIn s d) _ (coordOf centre d) (dirPlus dir) (inside-at s (coordsOf s n) (inside s h n (k .below)) d) (within d) (and-true (leb dir 5) _ (rw (useful-at s h n (k .below) t dir) at u) .1)
+            useful-visit (extentOf s d) (wrappedIn s d) _ (coordOf centre d) (dirPlus dir) (inside-at s (coordsOf s n) (inside s h n (k .below)) d) (within d) (and-true (leb dir 5) _ (rw (useful-at s h n (k .below) t dir) at u) .1)
 
-        pub visit-before : visit s L t (neighbour s n dir) < visit s L t n
-        unfolding visit movedAt
-        visit-before = rw (neighbour-coords s h n (k .below) dir) (lower (coordsOf s n) (dirDim dir) _ drop)
+        pub visited-before : nodeVisit s B t (neighbour s n dir) < nodeVisit s B t n
+        unfolding nodeVisit movedAt
+        visited-before = rw (neighbour-coords s h n (k .below) dir) (lower (coordsOf s n) (dirDim dir) _ drop)
 
-        pub in-before : In s L t (neighbour s n dir)
+        pub in-before : In s B t (neighbour s n dir)
         unfolding movedAt
-        in-before = record { below = neighbour-below s h n (k .below) dir; ranks = rw (neighbour-coords s h n (k .below) dir) (lower-in (coordsOf s n) (dirDim dir) _ drop (k .ranks)) }
+        in-before = record { below = neighbour-below s h n (k .below) dir; visits = rw (neighbour-coords s h n (k .below) dir) (lower-in (coordsOf s n) (dirDim dir) _ drop (k .visits)) }

@@ -1,4 +1,4 @@
--- Two flags and a number in a byte, as an entry holds them.
+-- The code's own steps: two flags and a number in a byte, as a cell holds them.
 use Prim.Native.Nat.{ℕ, _+_, _*_, _/_, _%_}
 use mathlib.Core.Bool.{Bool, cond}
 use lib.Dec.{eqb}

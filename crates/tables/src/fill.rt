@@ -1,9 +1,9 @@
 // Filling a table from near to far: every node on which the judging of a node rests comes earlier.
-use crate::judge::judge;
-use crate::last::judge_last;
-use crate::order::next;
-use crate::place::Place;
-use crate::place::places;
+use crate::first_hop::by_first_hop;
+use crate::last_hop::by_last_hop;
+use crate::view::View;
+use crate::view::views;
+use crate::visit::next;
 use machine::node::coords;
 use machine::node::count;
 use shape::Coords;
@@ -14,55 +14,61 @@ ghost use mathlib.Core.Bool.{true};
 ghost use Prim.Native.Nat.{ℕ};
 ghost use lib.ListN.{getD};
 ghost use Rattle.machine.specs.Node.{isNode};
-ghost use Rattle.tables.specs.Around.{Near};
-ghost use Rattle.tables.specs.Places.{Limits};
+ghost use Rattle.tables.specs.Neighbours.{Fits};
+ghost use Rattle.tables.specs.Visit.{Bounds};
 ghost use Rattle.tables.specs.Fill.{partOf, valueIn};
 
-// The legs that a table holds: those of every node to the centre, or those from the centre to every node.
-pub enum Legs {
+// The legs that a table holds: those of every node toward the centre, or those outward from the centre to every node.
+pub enum Heading {
     Toward,
     Outward,
 }
 
-fn value(legs: Legs, x: Place, y: Place, z: Place, masks: &[u8; 4096], table: &[u8; 4096]) -> u8
-    requires { ⌜ Near x y z ⌝ }
-    ensures { λ r. ⌜ r ≡ valueIn legs x y z (now (masks .entry)) (now (table .entry)) ⌝ }
+fn value(heading: Heading, x: View, y: View, z: View, masks: &[u8; 4096], table: &[u8; 4096]) -> u8
+    requires { ⌜ Fits x y z ⌝ }
+    ensures { λ r. ⌜ r ≡ valueIn heading x y z (now (masks .entry)) (now (table .entry)) ⌝ }
 {
-    match legs {
-        Legs::Toward => {
+    match heading {
+        Heading::Toward => {
             let n = (x.here + y.here + z.here) as usize;
-            judge(x, y, z, masks[n], table)
+            by_first_hop(x, y, z, masks[n], table)
         }
-        Legs::Outward => judge_last(x, y, z, masks, table),
+        Heading::Outward => by_last_hop(x, y, z, masks, table),
     }
 }
 
-// The nodes whose ranks are below the limits; all of them where the limits are the shape itself.
-pub fn fill(legs: Legs, shape: Shape, masks: &[u8; 4096], node: u16, limits: Shape) -> [u8; 4096]
+// The nodes whose visit numbers are below the bounds; all of them where the bounds are the shape itself.
+pub fn fill(
+    heading: Heading,
+    shape: Shape,
+    masks: &[u8; 4096],
+    node: u16,
+    bounds: Shape,
+) -> [u8; 4096]
     requires { ⌜ isNode shape node ≡ true ⌝ }
-    requires { ⌜ Limits shape limits ⌝ }
-    ensures { λ r. ⌜ ((n : ℕ) → getD r n 0 ≡ partOf legs shape (now (masks .entry)) node limits n) ⌝ }
+    requires { ⌜ Bounds shape bounds ⌝ }
+    ensures { λ r. ⌜ ((n : ℕ) → getD r n 0 ≡ partOf heading shape (now (masks .entry)) node bounds n) ⌝ }
 {
     let centre = coords(shape, node);
-    let xs = places(shape, centre, Dim::X);
-    let ys = places(shape, centre, Dim::Y);
-    let zs = places(shape, centre, Dim::Z);
-    let all = count(limits) as usize;
+    let xs = views(shape, centre, Dim::X);
+    let ys = views(shape, centre, Dim::Y);
+    let zs = views(shape, centre, Dim::Z);
+    let all = count(bounds) as usize;
     let mut table = [0u8; 4096];
-    let mut ranks = Coords { x: 0, y: 0, z: 0 };
+    let mut visits = Coords { x: 0, y: 0, z: 0 };
     let mut m: usize = 0;
     while m < all {
         // The loop's invariant speaks of the shape.
         let _shape = shape;
-        let i = ranks.x as usize;
-        let j = ranks.y as usize;
-        let k = ranks.z as usize;
+        let i = visits.x as usize;
+        let j = visits.y as usize;
+        let k = visits.z as usize;
         let x = xs[i];
         let y = ys[j];
         let z = zs[k];
         let n = (x.here + y.here + z.here) as usize;
-        table[n] = value(legs, x, y, z, masks, &table);
-        ranks = next(limits, ranks);
+        table[n] = value(heading, x, y, z, masks, &table);
+        visits = next(bounds, visits);
         m = m + 1;
     }
     table

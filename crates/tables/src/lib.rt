@@ -1,11 +1,11 @@
 // Tables of clear legs: toward a target and outward from a source.
-mod around;
-mod entry;
+mod cell;
 mod fill;
-mod judge;
-mod last;
+mod first_hop;
+mod last_hop;
 pub mod near;
-mod order;
+mod neighbours;
 pub mod outward;
-mod place;
 pub mod toward;
+mod view;
+mod visit;

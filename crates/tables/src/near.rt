@@ -1,8 +1,8 @@
 // The part of the table toward a target that a shortest way from a source can meet.
-use crate::fill::Legs;
+use crate::fill::Heading;
 use crate::fill::fill;
-use crate::order::plus_side;
-use crate::order::rank;
+use crate::visit::plus_side;
+use crate::visit::visit;
 use logic::both;
 use machine::node::coords;
 use machine::node::is_node;
@@ -19,33 +19,33 @@ ghost use lib.ListN.{getD};
 ghost use Rattle.shape.specs.Shape.{shapeError, extentOf, coordOf};
 ghost use Rattle.machine.specs.Number.{Inside};
 ghost use Rattle.machine.specs.Node.{arePair};
-ghost use Rattle.tables.specs.Places.{rankIn, limitsOf};
-ghost use Rattle.tables.specs.Fill.{nearAnswer};
+ghost use Rattle.tables.specs.Visit.{visitIn, boundsOf};
+ghost use Rattle.tables.specs.Near.{nearAnswer};
 
-fn rank_in(shape: Shape, centre: Coords, d: Dim, at: Coords) -> u8
+fn visit_in(shape: Shape, centre: Coords, d: Dim, at: Coords) -> u8
     requires { ⌜ shapeError shape ≡ 0 ⌝ }
     requires { ⌜ Inside shape centre ⌝ }
     requires { ⌜ Inside shape at ⌝ }
-    ensures { λ r. ⌜ r ≡ rankIn shape centre d (coordOf at d) ⌝ }
+    ensures { λ r. ⌜ r ≡ visitIn shape centre d (coordOf at d) ⌝ }
     ensures { λ r. ⌜ r < extentOf shape d ⌝ }
 {
     let len = extent(shape, d);
     let q = coord(centre, d);
     let side = plus_side(len, wrapped(shape, d), q);
-    rank(len, side, q, coord(at, d))
+    visit(len, side, q, coord(at, d))
 }
 
-// The ranks of the source, as limits.
-fn limits(shape: Shape, target: u16, source: u16) -> Shape
+// The visit numbers of the source, as bounds.
+fn bounds(shape: Shape, target: u16, source: u16) -> Shape
     requires { ⌜ arePair shape source target ≡ true ⌝ }
-    ensures { λ r. ⌜ r ≡ limitsOf shape target source ⌝ }
+    ensures { λ r. ⌜ r ≡ boundsOf shape target source ⌝ }
 {
     let centre = coords(shape, target);
     let at = coords(shape, source);
     Shape {
-        x: rank_in(shape, centre, Dim::X, at) + 1,
-        y: rank_in(shape, centre, Dim::Y, at) + 1,
-        z: rank_in(shape, centre, Dim::Z, at) + 1,
+        x: visit_in(shape, centre, Dim::X, at) + 1,
+        y: visit_in(shape, centre, Dim::Y, at) + 1,
+        z: visit_in(shape, centre, Dim::Z, at) + 1,
         wrap: 0,
     }
 }
@@ -56,11 +56,11 @@ pub fn near(shape: Shape, masks: &[u8; 4096], target: u16, source: u16) -> [u8; 
 {
     if both(is_node(shape, source), is_node(shape, target)) {
         fill(
-            Legs::Toward,
+            Heading::Toward,
             shape,
             masks,
             target,
-            limits(shape, target, source),
+            bounds(shape, target, source),
         )
     } else {
         [0u8; 4096]

@@ -1,3 +1,4 @@
+use Rattle.machine.specs.Hop.{rule}
 use Rattle.machine.proofs.ByCoords.{first-at}
 use mathlib.Core.Path.{sym, _∙_}
 use Rattle.machine.proofs.Nodes.{from-of, to-of}
@@ -18,7 +19,7 @@ first-at-requires : tie.Need-first-at-requires
 first-at-requires c κs = search needs
 
 returns : tie.Need-returns
-returns c = let n = from-of _ _ _ (sym (c .before .before .before .before .are-pair .ensures) ∙ c .before .before .before .if1 .taken) in rw (← c .before .before .before .before .are-pair .ensures, c .before .before .before .if1 .taken, first-at _ (n .sound) _ (n .below) _) (cc)
+returns c = let n = from-of _ _ _ (sym (c .before .before .before .before .are-pair .ensures) ∙ c .before .before .before .if1 .taken) in rw (← c .before .before .before .before .are-pair .ensures, c .before .before .before .if1 .taken, first-at _ (n .sound) _ (n .below) _ rule) (cc)
 
 returns-2 : tie.Need-returns-2
 returns-2 c = rw (← c .before .are-pair .ensures, c .if1 .left)

@@ -1,4 +1,5 @@
 use mathlib.Core.Path.{sym, _∙_}
+use Rattle.plan.specs.Checks.{torusPlans}
 use Rattle.plan.proofs.Plans.{head-refused, shape-refused, faults-left}
 use borrow.Author.Needs.{needs}
 use Rattle.plan.proofs.checks.check.Statement.{statement}
@@ -8,7 +9,7 @@ head-error-requires : tie.Need-head-error-requires
 head-error-requires c κs = search needs
 
 returns : tie.Need-returns
-returns c = head-refused _ _ _ (c .before .head-error .ensures) (c .if1 .taken)
+returns c = head-refused torusPlans _ _ _ (c .before .head-error .ensures) (c .if1 .taken)
 
 shape-in-requires : tie.Need-shape-in-requires
 shape-in-requires c κs = search needs
@@ -17,13 +18,13 @@ shape-error-requires : tie.Need-shape-error-requires
 shape-error-requires c κs = search needs
 
 returns-2 : tie.Need-returns-2
-returns-2 c = shape-refused _ _ (sym (c .before .before .before .before .head-error .ensures) ∙ c .before .before .before .if1 .left) _ (c .before .before .shape-in .ensures) _ (c .before .shape-error .ensures) (c .if2 .taken)
+returns-2 c = shape-refused torusPlans _ _ (sym (c .before .before .before .before .head-error .ensures) ∙ c .before .before .before .if1 .left) _ (c .before .before .shape-in .ensures) _ (c .before .shape-error .ensures) (c .if2 .taken)
 
 faults-error-requires : tie.Need-faults-error-requires
 faults-error-requires c κs = search needs
 
 returns-3 : tie.Need-returns-3
-returns-3 c = faults-left _ _ (sym (c .before .before .before .before .before .head-error .ensures) ∙ c .before .before .before .before .if1 .left) _ (c .before .before .before .shape-in .ensures) _ (sym (c .before .before .shape-error .ensures) ∙ c .before .if2 .left) (c .faults-error .ensures)
+returns-3 c = faults-left torusPlans _ _ (sym (c .before .before .before .before .before .head-error .ensures) ∙ c .before .before .before .before .if1 .left) _ (c .before .before .before .shape-in .ensures) _ (sym (c .before .before .shape-error .ensures) ∙ c .before .if2 .left) (c .faults-error .ensures)
 
 pub check-spec : {M : Type 1} → statement M
 check-spec =

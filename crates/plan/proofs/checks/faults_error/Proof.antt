@@ -2,12 +2,14 @@ use Prim.Native.Nat.{_-_}
 use native.Mathlib.Omega.{arith}
 use mathlib.Core.Path.{sym, _∙_}
 use borrow.Author.Tests.{not-true, not-false}
+use Rattle.plan.specs.Layout.{layoutOf}
+use Rattle.plan.specs.Checks.{torusPlans}
 use Rattle.plan.proofs.Faults.{Checking, begin, refused, refused-order, onward, ended}
 use Rattle.plan.proofs.checks.faults_error.Statement.{statement}
 use Rattle.plan.proofs.checks.faults_error.Tie as tie
 
 abbrev Inv-loop : tie.InvT-loop
-Inv-loop sheet shape count least₀ i₀ least i = Checking sheet shape count least i
+Inv-loop sheet shape count least₀ i₀ least i = Checking torusPlans 3 shape sheet count least i
 
 abbrev μ-loop : tie.MeasureT-loop
 μ-loop sheet shape count least₀ i₀ least i = count - i
@@ -16,22 +18,24 @@ count-in-requires : tie.Need-count-in-requires Inv-loop μ-loop
 count-in-requires c κs = tt
 
 loop-holds : tie.Need-loop-holds Inv-loop μ-loop
-loop-holds c = begin _ _ _ (c .count-in .ensures)
+loop-holds c = begin _ _ _ _ _ (c .count-in .ensures)
 
 fault-in-requires : tie.Need-fault-in-requires Inv-loop μ-loop
 fault-in-requires c κs = tt
 
-fault-exists-requires : tie.Need-fault-exists-requires Inv-loop μ-loop
-fault-exists-requires c κs = tt
+fault-good-requires : tie.Need-fault-good-requires Inv-loop μ-loop
+fault-good-requires c κs = tt
 
 returns : tie.Need-returns Inv-loop μ-loop
-returns c = refused _ _ _ _ _ (c .before .before .before .before .loop .inv) _ (c .before .before .fault-in .ensures) (c .before .before .before .loop-test .taken) (sym (c .before .fault-exists .ensures) ∙ not-true _ (c .if1 .taken))
+unfolding layoutOf
+returns c = refused _ _ _ _ _ _ _ (c .before .before .before .before .loop .inv) _ (c .before .before .fault-in .ensures) (c .before .before .before .loop-test .taken) (sym (c .before .fault-good .ensures) ∙ not-true _ (c .if1 .taken))
 
-rank-of-requires : tie.Need-rank-of-requires Inv-loop μ-loop
-rank-of-requires c κs = tt
+fault-key-requires : tie.Need-fault-key-requires Inv-loop μ-loop
+fault-key-requires c κs = tt
 
 returns-2 : tie.Need-returns-2 Inv-loop μ-loop
-returns-2 c = refused-order _ _ _ _ _ (c .before .before .before .before .before .before .loop .inv) _ (c .before .before .before .before .fault-in .ensures) (c .before .before .before .before .before .loop-test .taken) (sym (c .before .before .before .fault-exists .ensures) ∙ not-false _ (c .before .before .if1 .left)) _ (c .before .rank-of .ensures .0) (c .if2 .taken)
+unfolding layoutOf
+returns-2 c = refused-order _ _ _ _ _ _ _ (c .before .before .before .before .before .before .loop .inv) _ (c .before .before .before .before .fault-in .ensures) (c .before .before .before .before .before .loop-test .taken) (sym (c .before .before .before .fault-good .ensures) ∙ not-false _ (c .before .before .if1 .left)) _ (c .before .fault-key .ensures .0) (c .if2 .taken)
 
 add-least : tie.Need-add-least Inv-loop μ-loop
 add-least c = omega arith
@@ -43,10 +47,11 @@ loop-less : tie.Need-loop-less Inv-loop μ-loop
 loop-less c = omega arith
 
 loop-again : tie.Need-loop-again Inv-loop μ-loop
-loop-again c = onward _ _ _ _ _ (c .before .before .before .before .before .before .loop .inv) _ (c .before .before .before .before .fault-in .ensures) (c .before .before .before .before .before .loop-test .taken) (sym (c .before .before .before .fault-exists .ensures) ∙ not-false _ (c .before .before .if1 .left)) _ (c .before .rank-of .ensures .0) (c .if2 .left) (c .before .rank-of .ensures .1)
+loop-again c = onward _ _ _ _ _ _ _ (c .before .before .before .before .before .before .loop .inv) _ (c .before .before .before .before .fault-in .ensures) (c .before .before .before .before .before .loop-test .taken) (sym (c .before .before .before .fault-good .ensures) ∙ not-false _ (c .before .before .if1 .left)) _ (c .before .fault-key .ensures .0) (c .if2 .left) (c .before .fault-key .ensures .1)
 
 returns-3 : tie.Need-returns-3 Inv-loop μ-loop
-returns-3 c = ended _ _ _ _ _ (c .before .loop .inv) (c .loop-test .left)
+unfolding layoutOf
+returns-3 c = ended _ _ _ _ _ _ _ (c .before .loop .inv) (c .loop-test .left)
 
 pub faults-error-spec : {M : Type 1} → statement M
 faults-error-spec =
@@ -57,9 +62,9 @@ faults-error-spec =
     count-in-requires
     loop-holds
     fault-in-requires
-    fault-exists-requires
+    fault-good-requires
     returns
-    rank-of-requires
+    fault-key-requires
     returns-2
     add-least
     add-i

@@ -1,17 +1,22 @@
 use Rattle.theory.proofs.Checks.{then-cond}
+use Rattle.plan.specs.Layout.{layoutOf}
 use Rattle.plan.specs.Steps.{headError}
+use Rattle.plan.proofs.Plans.{unless-cond}
 use borrow.Author.Needs.{needs}
 use Rattle.plan.proofs.checks.head_error.Statement.{statement}
 use Rattle.plan.proofs.checks.head_error.Tie as tie
 
-bad-length-requires : tie.Need-bad-length-requires
-bad-length-requires c κs = search needs
+count-in-requires : tie.Need-count-in-requires
+count-in-requires c κs = search needs
+
+size-after-requires : tie.Need-size-after-requires
+size-after-requires c κs = search needs
+
+length-is-requires : tie.Need-length-is-requires
+length-is-requires c κs = search needs
 
 pick-requires : tie.Need-pick-requires
 pick-requires c κs = search needs
-
-count-in-requires : tie.Need-count-in-requires
-count-in-requires c κs = search needs
 
 pick-requires-2 : tie.Need-pick-requires-2
 pick-requires-2 c κs = search needs
@@ -26,16 +31,17 @@ pick-requires-4 : tie.Need-pick-requires-4
 pick-requires-4 c κs = search needs
 
 returns : tie.Need-returns
-unfolding headError
-returns c = rw (then-cond _ 0 _, then-cond _ 1 _, then-cond _ 2 _, then-cond _ 3 _) (cc)
+unfolding headError layoutOf
+returns c = rw (then-cond _ 0 _, unless-cond _ 1 _, then-cond _ 2 _, unless-cond _ 3 _) (cc)
 
 pub head-error-spec : {M : Type 1} → statement M
 head-error-spec =
     tie.close
     (tie.spec
-    bad-length-requires
-    pick-requires
     count-in-requires
+    size-after-requires
+    length-is-requires
+    pick-requires
     pick-requires-2
     version-in-requires
     pick-requires-3

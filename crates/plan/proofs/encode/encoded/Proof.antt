@@ -1,13 +1,18 @@
-use mathlib.Core.Path.{refl}
-use Rattle.plan.proofs.Encoding.{whole, Encoding, begin, onward, ended}
+use Prim.Native.Nat.{_-_, _≤_}
 use native.Mathlib.Omega.{arith}
-use Prim.Native.Nat.{_-_}
+use mathlib.Core.Path.{_≡_, refl, ap, _∙_}
+use lib.ListN.{length, getD, length-set}
+use Rattle.sheet.proofs.Encoding.{begin, ended}
+use Rattle.plan.specs.Layout.{layoutOf, faultForm}
+use Rattle.plan.specs.Reading.{noFault}
+use Rattle.plan.proofs.Forms.{lawful, Encoded, fault-put}
+use Rattle.plan.proofs.Writings.{whole}
 use borrow.Author.Needs.{needs}
 use Rattle.plan.proofs.encode.encoded.Statement.{statement}
 use Rattle.plan.proofs.encode.encoded.Tie as tie
 
 abbrev Inv-loop : tie.InvT-loop
-Inv-loop count faults bytes₀ i₀ bytes i = Encoding count faults bytes₀ bytes i
+Inv-loop count faults bytes₀ i₀ bytes i = ((count ≤ 256) × (length bytes ≡ 777)) × Encoded count (λ k. getD faults k noFault) bytes₀ bytes i
 
 abbrev μ-loop : tie.MeasureT-loop
 μ-loop count faults bytes₀ i₀ bytes i = count - i
@@ -19,7 +24,8 @@ head-requires : tie.Need-head-requires Inv-loop μ-loop
 head-requires c κs = omega arith
 
 loop-holds : tie.Need-loop-holds Inv-loop μ-loop
-loop-holds c = begin _ _ _ (omega arith) (search needs)
+unfolding layoutOf
+loop-holds c = ((omega arith, search needs), begin faultForm (lawful .long) 9 _ _ _ (omega arith))
 
 mul-put-fault : tie.Need-mul-put-fault Inv-loop μ-loop
 mul-put-fault c = omega arith
@@ -37,10 +43,12 @@ loop-less : tie.Need-loop-less Inv-loop μ-loop
 loop-less c = omega arith
 
 loop-again : tie.Need-loop-again Inv-loop μ-loop
-loop-again c = onward _ _ _ _ _ (c .before .before .before .before .loop .inv) _ _ refl (c .put-fault .ensures) (c .before .before .before .loop-test .taken)
+loop-again c =
+    let inv = c .before .before .before .before .loop .inv in
+    ((omega arith, ap length (c .put-fault .ensures) ∙ simp length-set (inv .0 .1)), fault-put _ _ _ _ _ (inv .1) _ _ refl (c .put-fault .ensures) (c .before .before .before .loop-test .taken))
 
 returns : tie.Need-returns Inv-loop μ-loop
-returns c = whole _ (c .before .before .head .result) _ (c .before .before .head .ensures) (ended _ _ _ _ _ (c .before .loop .inv) (c .loop-test .left))
+returns c = whole _ (c .before .before .head .result) _ (c .before .before .head .ensures) (ended faultForm (lawful .long) _ _ _ _ _ _ (c .before .loop .inv .1) (c .loop-test .left))
 
 pub encoded-spec : {M : Type 1} → statement M
 encoded-spec =

@@ -1,4 +1,6 @@
 use Rattle.plan.specs.Writing.{headBytes}
+use Rattle.plan.specs.Layout.{layoutOf}
+use native.Mathlib.Omega.{arith}
 use borrow.Author.Needs.{needs}
 use Rattle.plan.proofs.encode.head.Statement.{statement}
 use Rattle.plan.proofs.encode.head.Tie as tie
@@ -7,7 +9,8 @@ size-after-requires : tie.Need-size-after-requires
 size-after-requires c κs = search needs
 
 cast-after : tie.Need-cast-after
-cast-after c = search needs
+unfolding layoutOf
+cast-after c = omega arith
 
 array-write-bytes : tie.Need-array-write-bytes
 array-write-bytes c = search needs
@@ -49,7 +52,7 @@ array-write-bytes-9 : tie.Need-array-write-bytes-9
 array-write-bytes-9 c = search needs
 
 returns : tie.Need-returns
-unfolding headBytes
+unfolding headBytes layoutOf
 returns c = cc
 
 pub head-spec : {M : Type 1} → statement M

@@ -1,3 +1,4 @@
+use Rattle.plan.specs.Layout.{layoutOf}
 use borrow.Author.Needs.{needs}
 use Rattle.plan.proofs.encode.put_fault.Statement.{statement}
 use Rattle.plan.proofs.encode.put_fault.Tie as tie
@@ -30,6 +31,7 @@ element-write-bytes-3 : tie.Need-element-write-bytes-3
 element-write-bytes-3 c = search needs
 
 returns : tie.Need-returns
+unfolding layoutOf
 returns c = cc
 
 pub put-fault-spec : {M : Type 1} → statement M

@@ -1,4 +1,4 @@
-use Rattle.plan.specs.Layout.{faultAt}
+use Rattle.plan.specs.Layout.{layoutOf, faultAt}
 use borrow.Author.Needs.{needs}
 use Rattle.plan.proofs.layout.fault_in.Statement.{statement}
 use Rattle.plan.proofs.layout.fault_in.Tie as tie
@@ -22,7 +22,7 @@ byte-at-requires : tie.Need-byte-at-requires
 byte-at-requires c κs = search needs
 
 returns : tie.Need-returns
-unfolding faultAt
+unfolding faultAt layoutOf
 returns c = cc
 
 pub fault-in-spec : {M : Type 1} → statement M

@@ -10,10 +10,10 @@ count-in-requires : tie.Need-count-in-requires
 count-in-requires c κs = search needs
 
 returns : tie.Need-returns
-returns c = rw (is-plan _ _ (c .before .before .check .ensures) (c .before .if1 .taken)) (c .count-in .ensures)
+returns c = rw (is-plan _ _ _ (c .before .before .check .ensures) (c .before .if1 .taken)) (c .count-in .ensures)
 
 returns-2 : tie.Need-returns-2
-returns-2 c = rw (is-no-plan _ _ (c .before .check .ensures) (c .if1 .left))
+returns-2 c = rw (is-no-plan _ _ _ (c .before .check .ensures) (c .if1 .left))
 
 pub fault-count-spec : {M : Type 1} → statement M
 fault-count-spec = tie.close (tie.spec check-requires count-in-requires returns returns-2)

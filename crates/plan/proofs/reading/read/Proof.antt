@@ -8,7 +8,7 @@ check-requires : tie.Need-check-requires
 check-requires c κs = tt
 
 returns : tie.Need-returns
-returns c = refused _ _ (c .before .check .ensures) (c .if1 .taken)
+returns c = refused _ _ _ (c .before .check .ensures) (c .if1 .taken)
 
 faults-in-requires : tie.Need-faults-in-requires
 faults-in-requires c κs = sym (c .before .check .ensures) ∙ c .if1 .left
@@ -21,7 +21,7 @@ count-in-requires c κs = tt
 
 returns-2 : tie.Need-returns-2
 unfolding reading planOf
-returns-2 c = read-as _ _ (c .before .before .before .before .check .ensures) (c .before .before .before .if1 .left) _ (cc)
+returns-2 c = read-as _ _ _ (c .before .before .before .before .check .ensures) (c .before .before .before .if1 .left) _ (cc)
 
 pub read-spec : {M : Type 1} → statement M
 read-spec =

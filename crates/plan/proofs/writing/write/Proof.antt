@@ -2,19 +2,22 @@ use native.Mathlib.Omega.{arith}
 use mathlib.Core.Path.{sym}
 use lib.Seq.{length-take-le}
 use borrow.Author.Needs.{needs}
+use Rattle.numbers.specs.Numbers.{manyFaults}
 use Rattle.sheet.proofs.Outputs.{refused}
+use Rattle.plan.specs.Layout.{layoutOf}
+use Rattle.plan.specs.Checks.{torusPlans}
 use Rattle.plan.proofs.Writings.{too-many}
 use Rattle.plan.proofs.writing.write.Statement.{statement}
 use Rattle.plan.proofs.writing.write.Tie as tie
 
-cast-count : tie.Need-cast-count
-cast-count c = search needs
-
 returns : tie.Need-returns
-returns c = refused _ 3 _ _ (too-many _ _ (c .if1 .taken) (omega arith)) (omega arith)
+returns c = refused _ manyFaults _ _ (too-many _ torusPlans _ (c .if1 .taken) (omega arith) _) (omega arith)
 
 encoded-requires : tie.Need-encoded-requires
 encoded-requires c κs = omega arith
+
+cast-end : tie.Need-cast-end
+cast-end c = search needs
 
 mul-end : tie.Need-mul-end
 mul-end c = omega arith
@@ -35,15 +38,16 @@ same-length : tie.Need-same-length
 same-length c = search needs
 
 returns-2 : tie.Need-returns-2
+unfolding layoutOf
 returns-2 c = rw (← c .before .before .before .before .before .encoded .ensures) (c .before .before .write-back .ensures)
 
 pub write-spec : {M : Type 1} → statement M
 write-spec =
     tie.close
     (tie.spec
-    cast-count
     returns
     encoded-requires
+    cast-end
     mul-end
     add-end
     array-share-prefix-bytes

@@ -1,5 +1,5 @@
 use borrow.Author.Tests.{le-leb, lt-leb}
-use Rattle.shape.specs.Axis.{ahead}
+use Rattle.shape.specs.Steps.{ahead}
 use borrow.Author.Needs.{needs}
 use Rattle.shape.proofs.axis.hops_ahead.Statement.{statement}
 use Rattle.shape.proofs.axis.hops_ahead.Tie as tie

@@ -18,7 +18,7 @@ pick-requires-2 c κs = search needs
 
 returns : tie.Need-returns
 unfolding shapeError
-returns c = rw (then-cond (badExtents _) 4 _, then-cond (badWraps _) 5 _) (cc)
+returns c = rw (then-cond (badExtents _) _ _, then-cond (badWraps _) _ _) (cc)
 
 pub shape-error-spec : {M : Type 1} → statement M
 shape-error-spec =

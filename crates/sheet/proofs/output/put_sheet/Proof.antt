@@ -1,4 +1,5 @@
 use native.Mathlib.Omega.{arith}
+use Rattle.numbers.specs.Numbers.{outputShort}
 use Rattle.sheet.proofs.Outputs.{refused, unread, no-room, copied}
 use borrow.Author.Needs.{needs}
 use Rattle.sheet.proofs.output.put_sheet.Statement.{statement}
@@ -8,7 +9,7 @@ returns : tie.Need-returns
 returns c = refused _ _ _ _ (unread _ _ _ (c .if1 .taken)) (c .if1 .taken)
 
 returns-2 : tie.Need-returns-2
-returns-2 c = refused _ 12 _ _ (no-room _ _ _ (c .before .if1 .left) (c .if2 .taken)) (omega arith)
+returns-2 c = refused _ outputShort _ _ (no-room _ _ _ (c .before .if1 .left) (c .if2 .taken)) (omega arith)
 
 copy-requires : tie.Need-copy-requires
 copy-requires c κs = search needs

@@ -10,26 +10,26 @@ use Rattle.tables.proofs.fill.fill.Statement.{statement}
 use Rattle.tables.proofs.fill.fill.Tie as tie
 
 abbrev Inv-loop : tie.InvT-loop
-Inv-loop legs shape masks node limits xs ys zs all table₀ ranks₀ m₀ table ranks m = Known shape limits node xs ys zs all × Filling shape limits node (answerOf legs shape masks node) table ranks m
+Inv-loop heading shape masks node bounds xs ys zs all table₀ visits₀ m₀ table visits m = Known shape bounds node xs ys zs all × Filling shape bounds node (answerOf heading shape masks node) table visits m
 
 abbrev μ-loop : tie.MeasureT-loop
-μ-loop legs shape masks node limits xs ys zs all table₀ ranks₀ m₀ table ranks m = all - m
+μ-loop heading shape masks node bounds xs ys zs all table₀ visits₀ m₀ table visits m = all - m
 
 coords-requires : tie.Need-coords-requires Inv-loop μ-loop
 coords-requires c κs = search needs
 
-places-requires : tie.Need-places-requires Inv-loop μ-loop
-places-requires c κs =
+views-requires : tie.Need-views-requires Inv-loop μ-loop
+views-requires c κs =
     let k = node-of _ _ (c .before .pre .0) in
     (k .sound, inside-of _ _ _ k (c .coords .ensures))
 
-places-requires-2 : tie.Need-places-requires-2 Inv-loop μ-loop
-places-requires-2 c κs =
+views-requires-2 : tie.Need-views-requires-2 Inv-loop μ-loop
+views-requires-2 c κs =
     let k = node-of _ _ (c .before .before .pre .0) in
     (k .sound, inside-of _ _ _ k (c .before .coords .ensures))
 
-places-requires-3 : tie.Need-places-requires-3 Inv-loop μ-loop
-places-requires-3 c κs =
+views-requires-3 : tie.Need-views-requires-3 Inv-loop μ-loop
+views-requires-3 c κs =
     let k = node-of _ _ (c .before .before .before .pre .0) in
     (k .sound, inside-of _ _ _ k (c .before .before .coords .ensures))
 
@@ -45,11 +45,11 @@ loop-holds c =
     let e = coords-of _ _ _ k (c .before .before .before .before .coords .ensures) in (
       record {
         node = k;
-        limits = c .before .before .before .before .before .pre .1;
+        bounds = c .before .before .before .before .before .pre .1;
         count = count-of _ _ (c .before .before .before .before .before .pre .1 .ok) (c .count .ensures);
-        x = λ i l. c .before .before .before .places .ensures i l ∙ rw e;
-        y = λ i l. c .before .before .places2 .ensures i l ∙ rw e;
-        z = λ i l. c .before .places3 .ensures i l ∙ rw e;
+        x = λ i l. c .before .before .before .views .ensures i l ∙ rw e;
+        y = λ i l. c .before .before .views2 .ensures i l ∙ rw e;
+        z = λ i l. c .before .views3 .ensures i l ∙ rw e;
       },
       begin _ _ _ _,
     )
@@ -110,12 +110,12 @@ loop-again c =
     let i = c .before .before .before .before .before .before .before .before .before .before .before .before .before .loop .inv in
     let l = c .before .before .before .before .before .before .before .before .before .before .before .before .loop-test .taken in
     let v = visiting _ _ _ _ _ _ _ _ _ _ _ i l _ _ _ refl refl refl in
-    again _ _ _ _ _ _ _ _ _ _ _ i l _ _ _ refl refl refl _ (value-is _ _ _ (i .0 .node) _ (i .0 .limits) _ _ _ _ _ _ v _ (c .before .value .ensures)) _ (c .next .ensures)
+    again _ _ _ _ _ _ _ _ _ _ _ i l _ _ _ refl refl refl _ (value-is _ _ _ (i .0 .node) _ (i .0 .bounds) _ _ _ _ _ _ v _ (c .before .value .ensures)) _ (c .next .ensures)
 
 returns : tie.Need-returns Inv-loop μ-loop
 returns c =
     let i = c .before .loop .inv in
-    filled _ _ _ (i .0 .node) _ (i .0 .limits) _ _ _ _ (i .1) (omega (arith, i .0 .count, c .loop-test .left))
+    filled _ _ _ (i .0 .node) _ (i .0 .bounds) _ _ _ _ (i .1) (omega (arith, i .0 .count, c .loop-test .left))
 
 pub fill-spec : {M : Type 1} → statement M
 fill-spec =
@@ -124,9 +124,9 @@ fill-spec =
     Inv-loop
     μ-loop
     coords-requires
-    places-requires
-    places-requires-2
-    places-requires-3
+    views-requires
+    views-requires-2
+    views-requires-3
     count-requires
     cast-all
     loop-holds

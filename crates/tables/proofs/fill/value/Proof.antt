@@ -15,25 +15,25 @@ add-n-2 c = search needs
 cast-n : tie.Need-cast-n
 cast-n c = search needs
 
-element-copy-out-judge : tie.Need-element-copy-out-judge
-element-copy-out-judge c = search needs
+element-copy-out-by-first-hop : tie.Need-element-copy-out-by-first-hop
+element-copy-out-by-first-hop c = search needs
 
-judge-requires : tie.Need-judge-requires
-judge-requires c κs = search needs
+by-first-hop-requires : tie.Need-by-first-hop-requires
+by-first-hop-requires c κs = search needs
 
 enum-told-2 : tie.Need-enum-told-2
 enum-told-2 c = search needs
 
-judge-last-requires : tie.Need-judge-last-requires
-judge-last-requires c κs = search needs
+by-last-hop-requires : tie.Need-by-last-hop-requires
+by-last-hop-requires c κs = search needs
 
 returns : tie.Need-returns
 unfolding valueIn
-returns c = rw (c .before .before .before .before .before .enum-told .given .1) (c .judge .ensures)
+returns c = rw (c .before .before .before .before .before .enum-told .given .1) (c .by-first-hop .ensures)
 
 returns-2 : tie.Need-returns-2
 unfolding valueIn
-returns-2 c = rw (c .before .enum-told2 .given .1) (c .judge-last .ensures)
+returns-2 c = rw (c .before .enum-told2 .given .1) (c .by-last-hop .ensures)
 
 pub value-spec : {M : Type 1} → statement M
 value-spec =
@@ -43,9 +43,9 @@ value-spec =
     add-n
     add-n-2
     cast-n
-    element-copy-out-judge
-    judge-requires
+    element-copy-out-by-first-hop
+    by-first-hop-requires
     enum-told-2
-    judge-last-requires
+    by-last-hop-requires
     returns
     returns-2)

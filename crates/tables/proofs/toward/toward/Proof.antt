@@ -1,8 +1,8 @@
 use mathlib.Core.Path.{sym, _∙_}
 use Rattle.machine.proofs.Nodes.{node-of}
-use Rattle.tables.specs.declared.fill.Legs.the-variants.{Toward}
+use Rattle.tables.specs.declared.fill.Heading.the-variants.{Toward}
 use Rattle.tables.specs.Fill.{answerOf}
-use Rattle.tables.proofs.Answers.{none, whole, same-limits}
+use Rattle.tables.proofs.Answers.{none, whole, same-bounds}
 use borrow.Author.Needs.{needs}
 use Rattle.tables.proofs.toward.toward.Statement.{statement}
 use Rattle.tables.proofs.toward.toward.Tie as tie
@@ -13,7 +13,7 @@ is-node-requires c κs = search needs
 fill-requires : tie.Need-fill-requires
 fill-requires c κs =
     let e = sym (c .before .is-node .ensures) ∙ c .if1 .taken in
-    (e, same-limits _ (node-of _ _ e .sound))
+    (e, same-bounds _ (node-of _ _ e .sound))
 
 returns : tie.Need-returns
 unfolding answerOf
