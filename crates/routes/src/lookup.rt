@@ -5,6 +5,7 @@ use crate::layout::count_in;
 use crate::layout::entry_in;
 use logic::pick;
 use machine::node::is_node;
+use numbers::NODE_OUTSIDE;
 use plan::layout::shape_in;
 ghost use mathlib.Core.Path.{_≡_};
 ghost use Rattle.routes.specs.Layout.{entriesOf};
@@ -15,7 +16,7 @@ pub fn lookup_error(plan: &[u8], sheet: &[u8], dest: u16) -> u8
     ensures { λ r. ⌜ r ≡ lookupError (now (plan .entry)) (now (sheet .entry)) dest ⌝ }
 {
     let error = check(plan, sheet);
-    let outside = pick(is_node(shape_in(plan), dest), 0, 9);
+    let outside = pick(is_node(shape_in(plan), dest), 0, NODE_OUTSIDE);
     pick(error == 0, outside, error)
 }
 
