@@ -53,7 +53,7 @@ checks true false = refl
 checks false b = refl
 
 pub source-error :
-    (p : List ℕ) (s : Shape) (S e : ℕ) (a b : Bool) → s ≡ shapeOf p → e ≡ planError large p → a ≡ isNode s S → b ≡ nodeAnswer p S →
+    (p : List ℕ) (s : Shape) (S e : ℕ) (a b : Bool) → s ≡ shapeOf p → e ≡ planError large p → a ≡ isNode s S → b ≡ nodeAnswer large p S →
     cond (not (eqb e 0)) e (cond a (cond b 10 0) 9) ≡ sourceError p S
 unfolding sourceError isPlan
 source-error p s S zero a b es ee ea eb =
@@ -195,8 +195,8 @@ module _ (p : List ℕ) (S : ℕ) where
 
 pub ready-of :
     (p : List ℕ) (S : ℕ) (s : Shape) (masks dead from : List ℕ) → sourceError p S ≡ 0 → s ≡ shapeOf p →
-    ((n : ℕ) → getD masks n 0 ≡ maskAnswer p n) →
-    ((n : ℕ) → getD dead n 0 ≡ bitOf (nodeAnswer p n)) →
+    ((n : ℕ) → getD masks n 0 ≡ maskAnswer large p n) →
+    ((n : ℕ) → getD dead n 0 ≡ bitOf (nodeAnswer large p n)) →
     ((n : ℕ) → getD from n 0 ≡ outwardAnswer s masks S n) →
     Ready p S s masks dead from
 ready-of p S s masks dead from h es links nodes legs =
@@ -212,8 +212,8 @@ pub record Going (p : List ℕ) (S : ℕ) (s : Shape) (masks dead from : List �
 
 pub going :
     (p : List ℕ) (S : ℕ) (s : Shape) (masks dead from : List ℕ) (all : ℕ) → sourceError p S ≡ 0 → s ≡ shapeOf p →
-    ((n : ℕ) → getD masks n 0 ≡ maskAnswer p n) →
-    ((n : ℕ) → getD dead n 0 ≡ bitOf (nodeAnswer p n)) →
+    ((n : ℕ) → getD masks n 0 ≡ maskAnswer large p n) →
+    ((n : ℕ) → getD dead n 0 ≡ bitOf (nodeAnswer large p n)) →
     ((n : ℕ) → getD from n 0 ≡ outwardAnswer s masks S n) →
     all ≡ countAnswer s →
     Going p S s masks dead from all (replicate 4095 noEntry) 0 0
