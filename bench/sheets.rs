@@ -5,7 +5,7 @@ use std::process::{Command, Stdio};
 use std::time::Instant;
 
 extern "C" {
-    fn nafthurm_pair(plan: *const u8, plan_len: usize, source: u16, dest: u16) -> u8;
+    fn nafthurm_pair(plan: *const u8, plan_len: usize, source: u16, dest: u16) -> u16;
     fn nafthurm_sheet(plan: *const u8, plan_len: usize, source: u16, out: *mut u8, out_len: usize) -> usize;
 }
 
@@ -14,8 +14,8 @@ mod fast {
     #![allow(dead_code)]
     include!("../reference/fast.rs");
 
-    /// The length of the first choice; 255 where there is none.
-    pub fn pair(sheet: &[u8], source: usize, dest: usize) -> u8 {
+    /// The length of the first choice; 65535 where there is none.
+    pub fn pair(sheet: &[u8], source: usize, dest: usize) -> u16 {
         let p = Plan::parse(sheet, 0).ok().unwrap();
         let t = tables(&p);
         let (mut bad, mut from, mut to) = (vec![0; p.n], [vec![FAR; p.n], vec![FAR; p.n]], [vec![FAR; p.n], vec![FAR; p.n]]);
@@ -25,7 +25,7 @@ mod fast {
         toward(&p, &t, dest, &mut bad, [a, d]);
         let direct = from[A][dest].min(from[D][dest]);
         let via = (0..4).map(|m| least(&from[m / 2], &to[m % 2], wide())).min().unwrap();
-        if source == dest { 0 } else { direct.min(via).min(255) as u8 }
+        if source == dest { 0 } else { direct.min(via).min(65535) as u16 }
     }
 }
 
@@ -102,7 +102,7 @@ fn pair_times(plan: &[u8], random: &mut Random) -> (f64, f64) {
     let ours = |s: u16, d: u16| unsafe { nafthurm_pair(plan.as_ptr(), plan.len(), s, d) };
     let plain = |s: u16, d: u16| fast::pair(plan, s as usize, d as usize);
     assert!(pairs.iter().all(|&(s, d)| ours(s, d) == plain(s, d)), "the lengths differ");
-    let time = |f: &dyn Fn(u16, u16) -> u8| {
+    let time = |f: &dyn Fn(u16, u16) -> u16| {
         least(5, || {
             let start = Instant::now();
             for &(s, d) in &pairs {

@@ -1,8 +1,8 @@
 // What the bench calls from Rust.
+use choice::Outcome;
 use machine::leg::Mode;
 use packet::Packet;
 use packet::Route;
-use planner::outcome::Outcome;
 use planner::pair::pair;
 use planner::sheets::write_sheet;
 use shape::Shape;
@@ -37,13 +37,12 @@ pub extern "C" fn nafthurm_walk(
     walked.hops
 }
 
-// The route's length; 255 where there is none.
+// The route's length; 65535 where there is none.
 #[no_mangle]
-pub extern "C" fn nafthurm_pair(plan: &[u8], source: u16, dest: u16) -> u8 {
+pub extern "C" fn nafthurm_pair(plan: &[u8], source: u16, dest: u16) -> u16 {
     match pair(plan, source, dest) {
-        Outcome::Direct(_, length) => length,
-        Outcome::Via(_, _, _, length) => length,
-        Outcome::Refused(_) => 255,
+        Outcome::Given(_, length) => length,
+        Outcome::Refused(_) => 65535,
     }
 }
 
