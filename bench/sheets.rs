@@ -25,7 +25,11 @@ mod fast {
         toward(&p, &t, dest, &mut bad, [a, d]);
         let direct = from[A][dest].min(from[D][dest]);
         let via = (0..4).map(|m| least(&from[m / 2], &to[m % 2], wide())).min().unwrap();
-        if source == dest { 0 } else { direct.min(via).min(65535) as u16 }
+        match direct.min(via) {
+            _ if source == dest => 0,
+            FAR => u16::MAX,
+            length => length as u16,
+        }
     }
 }
 
