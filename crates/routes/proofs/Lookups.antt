@@ -10,11 +10,12 @@ use borrow.Author.Tests.{eq-eqb, ne-eqb, lt-ltb, le-ltb}
 use Rattle.theory.proofs.Checks.{then-zero}
 use Rattle.theory.proofs.Cases.{test, by-le}
 use Rattle.sheet.specs.Bytes.{listFrom}
+use Rattle.plan.specs.Checks.{Limits}
 use Rattle.routes.specs.declared.layout.Entry.{Entry}
 use Rattle.packet.specs.declared.route.Route.{Route}
 use Rattle.routes.specs.declared.route.Found.{Found}
 use Rattle.routes.specs.declared.route.Found.the-variants.{At, Missing}
-use Rattle.routes.specs.Layout.{entryCount, entryAt, entriesOf}
+use Rattle.routes.specs.Layout.{formatOf, entryCount, entriesAt, entrySize, entryAt, entriesOf}
 use Rattle.routes.specs.Checks.{sheetError}
 use Rattle.routes.specs.Said.{told}
 use Rattle.routes.specs.Lookup.{find, lookupError, isListed, PartOf, partStart, partLength}
@@ -22,30 +23,30 @@ use Rattle.routes.specs.Says.{saysOf, answered, says}
 use Rattle.routes.specs.Steps.{pickFound, foundIn, orDirect}
 use Rattle.routes.proofs.Sheets.{Accepted, accepted}
 
-module _ (p s : List ℕ) (d : ℕ) where
-  pub looked-up : lookupError p s d ≡ 0 → Accepted p s
+module _ (L : Limits) (p s : List ℕ) (d : ℕ) where
+  pub looked-up : lookupError L p s d ≡ 0 → Accepted L p s
   unfolding lookupError
-  looked-up h = accepted p s (then-zero (sheetError p s) _ h .0)
+  looked-up h = accepted L p s (then-zero (sheetError L p s) _ h .0)
 
-  pub declined-not-listed : (lookupError p s d ≡ 0 → ⊥) → isListed p s d ≡ false
+  pub declined-not-listed : (lookupError L p s d ≡ 0 → ⊥) → isListed L p s d ≡ false
   unfolding isListed
-  declined-not-listed h = rw (ne-eqb (lookupError p s d) 0 h)
+  declined-not-listed h = rw (ne-eqb (lookupError L p s d) 0 h)
 
-  pub not-listed : lookupError p s d ≡ 0 → entryCount s ≤ find (entriesOf s) d → isListed p s d ≡ false
+  pub not-listed : lookupError L p s d ≡ 0 → entryCount s ≤ find (entriesOf s) d → isListed L p s d ≡ false
   unfolding isListed
-  not-listed h k = rw (eq-eqb (lookupError p s d) 0 h, le-ltb (find (entriesOf s) d) (entryCount s) k)
+  not-listed h k = rw (eq-eqb (lookupError L p s d) 0 h, le-ltb (find (entriesOf s) d) (entryCount s) k)
 
-  pub listed : lookupError p s d ≡ 0 → find (entriesOf s) d < entryCount s → isListed p s d ≡ true
+  pub listed : lookupError L p s d ≡ 0 → find (entriesOf s) d < entryCount s → isListed L p s d ≡ true
   unfolding isListed
-  listed h k = rw (eq-eqb (lookupError p s d) 0 h, lt-ltb (find (entriesOf s) d) (entryCount s) k)
+  listed h k = rw (eq-eqb (lookupError L p s d) 0 h, lt-ltb (find (entriesOf s) d) (entryCount s) k)
 
 -- The part.
-module _ (p : List ℕ) (s r : RefT (List ℕ)) (d : ℕ) where
-  pub empty-part : isListed p (now s) d ≡ false → PartOf s r 0 0 → PartOf s r (partStart p (now s) d) (partLength p (now s) d)
+module _ (L : Limits) (p : List ℕ) (s r : RefT (List ℕ)) (d : ℕ) where
+  pub empty-part : isListed L p (now s) d ≡ false → PartOf s r 0 0 → PartOf s r (partStart L p (now s) d) (partLength L p (now s) d)
   unfolding partStart partLength
   empty-part h k = rw h k
 
-  pub entry-part : isListed p (now s) d ≡ true → PartOf s r (7 + 5 * find (entriesOf (now s)) d) 5 → PartOf s r (partStart p (now s) d) (partLength p (now s) d)
+  pub entry-part : isListed L p (now s) d ≡ true → PartOf s r (entriesAt + entrySize (formatOf (now s)) * find (entriesOf (now s)) d) (entrySize (formatOf (now s))) → PartOf s r (partStart L p (now s) d) (partLength L p (now s) d)
   unfolding partStart partLength
   entry-part h k = rw h k
 
@@ -81,8 +82,8 @@ module _ (s : List ℕ) (d : ℕ) where
     unfolding foundIn
     missing h = rw (← at, ← count, le-ltb i n h)
 
-module _ (p s : List ℕ) (d : ℕ) where
-  pub refused : (e : ℕ) → e ≡ lookupError p s d → (e ≡ 0 → ⊥) → Route.Refused e ≡ told (says p s d)
+module _ (L : Limits) (p s : List ℕ) (d : ℕ) where
+  pub refused : (e : ℕ) → e ≡ lookupError L p s d → (e ≡ 0 → ⊥) → Route.Refused e ≡ told (says L p s d)
   unfolding says told answered
   refused e h n = rw (← h) (go e n)
     where
@@ -90,6 +91,6 @@ module _ (p s : List ℕ) (d : ℕ) where
       go zero n = absurd (n refl)
       go (suc k) n = refl
 
-  pub said : lookupError p s d ≡ 0 → (f : Found) → f ≡ foundIn s d → told (orDirect f) ≡ told (says p s d)
+  pub said : lookupError L p s d ≡ 0 → (f : Found) → f ≡ foundIn s d → told (orDirect f) ≡ told (says L p s d)
   unfolding says answered
   said h f e = rw (h, e, found-as s d)

@@ -11,6 +11,7 @@ use Rattle.machine.specs.Node.{isNode}
 use Rattle.machine.proofs.Nodes.{node-of}
 use Rattle.choice.specs.Choice.{Choice, Direct, Via, routeOf, Admits, viaNode}
 use Rattle.packet.specs.declared.route.Route.{Route}
+use Rattle.routes.specs.Layout.{written}
 use Rattle.routes.specs.Kinds.{kindOf, viaKind, plainKind}
 use Rattle.routes.specs.Said.{Said, Says, Refused, saidBy, entryFor, told, heard}
 use Rattle.routes.specs.Checks.{viaGood, entryGood}
@@ -42,7 +43,7 @@ unfolding saidBy entryFor
 says-refused d e h = rw (ne-eqb e 0 (omega arith), ne-eqb e 1 (omega arith), ne-eqb e 2 (omega arith), ne-eqb e 3 (omega arith), ne-eqb e 4 (omega arith), ne-eqb e 5 (omega arith))
 
 module _ (m : Shape) (S d : ℕ) (node : isNode m d ≡ true) (other : d ≡ S → ⊥) where
-  good-choice : (c : Choice) → Admits m S d c → (c ≡ Direct Adaptive → ⊥) → viaGood m S (entryFor d (Says c)) ≡ true
+  good-choice : (c : Choice) → Admits m S d c → (c ≡ Direct Adaptive → ⊥) → viaGood written m S (entryFor d (Says c)) ≡ true
   unfolding viaGood entryFor kindOf viaNode viaKind plainKind isNode
   good-choice (Direct Adaptive) a h = absurd (h refl)
   good-choice (Direct Deterministic) a h = refl
@@ -52,14 +53,14 @@ module _ (m : Shape) (S d : ℕ) (node : isNode m d ≡ true) (other : d ≡ S �
   good-choice (Via v Deterministic Deterministic) a h = rw (ne-eqb v S (a .1), ne-eqb v d (a .2), lt-ltb v (nodeCount m) (a .0), eq-eqb _ 0 (node-of m d node .sound))
 
   -- Of an admitted choice that is not direct and adaptive, and of 10 and 11, the entry is good.
-  pub choice-good : (c : Choice) → Admits m S d c → (c ≡ Direct Adaptive → ⊥) → entryGood m S (entryFor d (Says c)) ≡ true
+  pub choice-good : (c : Choice) → Admits m S d c → (c ≡ Direct Adaptive → ⊥) → entryGood written m S (entryFor d (Says c)) ≡ true
   unfolding entryGood entryFor
   choice-good c a h = rw (node, ne-eqb d S other) (good-choice c a h)
 
-  pub dead-good : entryGood m S (entryFor d (Refused 10)) ≡ true
+  pub dead-good : entryGood written m S (entryFor d (Refused 10)) ≡ true
   unfolding entryGood entryFor viaGood viaKind plainKind
   dead-good = rw (node, ne-eqb d S other)
 
-  pub none-good : entryGood m S (entryFor d (Refused 11)) ≡ true
+  pub none-good : entryGood written m S (entryFor d (Refused 11)) ≡ true
   unfolding entryGood entryFor viaGood viaKind plainKind
   none-good = rw (node, ne-eqb d S other)

@@ -8,6 +8,7 @@ use crate::lookup::lookup_error;
 use machine::leg::Mode;
 use packet::Route;
 ghost use mathlib.Core.Path.{_≡_};
+ghost use Rattle.plan.specs.Checks.{large};
 ghost use Rattle.routes.specs.Said.{told};
 ghost use Rattle.routes.specs.Says.{says};
 ghost use Rattle.routes.specs.Steps.{foundIn};
@@ -30,7 +31,7 @@ fn found_in(sheet: &[u8], dest: u16) -> Found
 
 // The route, or 10 or 11 for an entry of that kind, or the number with which the lookup is declined.
 pub fn route(plan: &[u8], sheet: &[u8], dest: u16) -> Route
-    ensures { λ r. ⌜ r ≡ told (says (now (plan .entry)) (now (sheet .entry)) dest) ⌝ }
+    ensures { λ r. ⌜ r ≡ told (says large (now (plan .entry)) (now (sheet .entry)) dest) ⌝ }
 {
     let error = lookup_error(plan, sheet, dest);
     if error != 0 {
