@@ -120,6 +120,20 @@ lowers s c t dir =
     rw (eqb-same (distanceAt s (put c d v) t + 1) (distanceAt s c t) (axisDistance (extentOf s d) (wrappedIn s d) v (coordOf t d) + 1) (distanceAlong s c t d) (λ q. omega arith) (λ q. omega arith))
     (and-assoc (leb dir 5) (linkAlong s c d (dirPlus dir)) _)
 
+-- The direction of a deterministic leg is that of the first dimension where the coordinates differ.
+module _ (ties : ℕ → Bool) (s : Shape) (c t : Coords) where
+  pub first-x : (c .x ≡ t .x → ⊥) → firstAt ties s c t ≡ towardAt ties s c t X
+  unfolding firstAt
+  first-x ne = rw (ne-eqb (c .x) (t .x) ne)
+
+  pub first-y : c .x ≡ t .x → (c .y ≡ t .y → ⊥) → firstAt ties s c t ≡ towardAt ties s c t Y
+  unfolding firstAt
+  first-y e ne = rw (eq-eqb (c .x) (t .x) e, ne-eqb (c .y) (t .y) ne)
+
+  pub first-z : c .x ≡ t .x → c .y ≡ t .y → (c .z ≡ t .z → ⊥) → firstAt ties s c t ≡ towardAt ties s c t Z
+  unfolding firstAt
+  first-z e f ne = rw (eq-eqb (c .x) (t .x) e, eq-eqb (c .y) (t .y) f, ne-eqb (c .z) (t .z) ne)
+
 module _ (s : Shape) (h : shapeError s ≡ 0) where
   pub along-small : (c t : Coords) → Inside s c → Inside s t → (d : Dim) → distanceAlong s c t d ≤ 15
   along-small c t i j d = omega (arith, along-below s c t i j d, sound s h d .high)

@@ -9,15 +9,16 @@ use lib.ListN.{length, getD}
 use borrow.Author.Tests.{eq-eqb, ne-eqb}
 use Rattle.machine.specs.declared.leg.Mode.the-variants.{Adaptive}
 use Rattle.machine.specs.Node.{isNode}
+use Rattle.machine.specs.Torus.{leg}
 use Rattle.plan.specs.Layout.{shapeOf}
 use Rattle.plan.specs.Checks.{Limits, planError}
-use Rattle.choice.specs.Choice.{Direct}
+use Rattle.choice.specs.Answer.{Given, answered}
 use Rattle.routes.specs.declared.layout.Entry.{Entry}
 use Rattle.routes.specs.Layout.{written, noEntry}
 use Rattle.routes.specs.Checks.{routesGood, sheetError}
-use Rattle.routes.specs.Said.{Says, saidBy}
+use Rattle.routes.specs.Said.{saidBy}
 use Rattle.routes.specs.Lookup.{find, lookupError}
-use Rattle.routes.specs.Says.{saysOf, answered, says}
+use Rattle.routes.specs.Says.{saysOf, says}
 use Rattle.routes.specs.Writing.{sheetBytes}
 use Rattle.routes.proofs.Finding.{here, later}
 use Rattle.routes.proofs.Rising.{Rising, routed}
@@ -41,7 +42,7 @@ says-listed (x ∷ es) least r e h =
     (List·Memᴰ·cases-cons h)
 
 -- A destination that no entry has is direct and adaptive.
-pub says-unlisted : (es : List Entry) (d : ℕ) → ((e : Entry) → List·Memᴰ e es → e .dest ≡ d → ⊥) → saysOf es d ≡ Says (Direct Adaptive)
+pub says-unlisted : (es : List Entry) (d : ℕ) → ((e : Entry) → List·Memᴰ e es → e .dest ≡ d → ⊥) → saysOf es d ≡ Given (leg d Adaptive ∷ [])
 unfolding saysOf
 says-unlisted [] d h = refl
 says-unlisted (x ∷ es) d h = rw (ne-eqb (x .dest) d (h x (List·Memᴰ·head refl))) (says-unlisted es d (λ e t. h e (List·Memᴰ·tail t)))

@@ -2,26 +2,42 @@
 use Prim.Native.Nat.{ℕ, zero, suc, _+_, _*_, _≤_, _<_}
 use native.Mathlib.Omega.{arith}
 use mathlib.Core.Path.{_≡_, refl, ap, _∙_}
-use mathlib.Core.Bool.{true, false}
-use mathlib.Core.List.{List}
+use mathlib.Core.Bool.{Bool, true, false, not}
+use mathlib.Core.List.{List, [], _∷_}
 use lib.Dec.{ltb, eqb}
 use denote.Ref.{RefT, now}
-use borrow.Author.Tests.{eq-eqb, ne-eqb, lt-ltb, le-ltb}
-use Rattle.theory.proofs.Checks.{then-zero}
+use borrow.Author.Tests.{eq-eqb, ne-eqb, lt-ltb, le-ltb, ltb-true, not-false}
+use Rattle.theory.specs.Machine.{sumBy}
+use Rattle.theory.proofs.Bools.{and-true}
+use Rattle.theory.proofs.Checks.{then-zero, declined-zero}
 use Rattle.theory.proofs.Cases.{test, by-le}
 use Rattle.sheet.specs.Bytes.{listFrom}
+use Rattle.shape.specs.declared.shape.Shape.{Shape}
+use Rattle.shape.specs.Shape.{shapeError}
+use Rattle.machine.specs.declared.leg.Mode.the-variants.{Adaptive, Deterministic}
+use Rattle.machine.specs.Number.{nodeCount}
+use Rattle.machine.specs.Hop.{distance}
+use Rattle.machine.specs.Node.{isNode, arePair, distanceAnswer}
+use Rattle.machine.specs.Torus.{leg}
+use Rattle.machine.proofs.Nodes.{node-of}
+use Rattle.plan.specs.Layout.{shapeOf}
+use Rattle.packet.specs.declared.route.Route.{Route}
+use Rattle.choice.specs.declared.outcome.Outcome.{Outcome}
+use Rattle.choice.specs.Answer.{Given, answered}
+use Rattle.choice.specs.Outcome.{told}
 use Rattle.plan.specs.Checks.{Limits}
 use Rattle.routes.specs.declared.layout.Entry.{Entry}
-use Rattle.packet.specs.declared.route.Route.{Route}
 use Rattle.routes.specs.declared.route.Found.{Found}
 use Rattle.routes.specs.declared.route.Found.the-variants.{At, Missing}
-use Rattle.routes.specs.Layout.{formatOf, entryCount, entriesAt, entrySize, entryAt, entriesOf}
-use Rattle.routes.specs.Checks.{sheetError}
-use Rattle.routes.specs.Said.{told}
+use Rattle.routes.specs.Layout.{source, entryCount, entryAt, entriesOf}
+use Rattle.routes.specs.Kinds.{viaKind}
+use Rattle.routes.specs.Checks.{entryGood, routesGood, sheetError}
+use Rattle.routes.specs.Said.{saidBy, toldAs}
 use Rattle.routes.specs.Lookup.{find, lookupError, isListed, PartOf, partStart, partLength}
-use Rattle.routes.specs.Says.{saysOf, answered, says}
-use Rattle.routes.specs.Steps.{pickFound, foundIn, orDirect}
+use Rattle.routes.specs.Says.{saysOf, says}
+use Rattle.routes.specs.Steps.{pickFound, foundIn, orDirect, lengthBy}
 use Rattle.routes.proofs.Sheets.{Accepted, accepted}
+use Rattle.routes.proofs.Rising.{good-entry, each-good}
 
 module _ (L : Limits) (p s : List ℕ) (d : ℕ) where
   pub looked-up : lookupError L p s d ≡ 0 → Accepted L p s
@@ -50,11 +66,15 @@ module _ (L : Limits) (p : List ℕ) (s r : RefT (List ℕ)) (d : ℕ) where
   unfolding partStart partLength
   entry-part h k = rw h k
 
+is-node : (m : Shape) (S : ℕ) → isNode m S ≡ true → (n : ℕ) → n < nodeCount m → isNode m n ≡ true
+unfolding isNode
+is-node m S h n k = rw (eq-eqb (shapeError m) 0 (node-of m S h .sound), lt-ltb n (nodeCount m) k)
+
 -- What the entries say is what the one found says.
 ltb-suc : (a n : ℕ) → ltb (a + 1) (suc n) ≡ ltb a n
 ltb-suc a n = by-le n a (λ h. rw (le-ltb (a + 1) (suc n) (omega arith), le-ltb a n h)) (λ h. rw (lt-ltb (a + 1) (suc n) (omega arith), lt-ltb a n h))
 
-found-says : (f : ℕ → Entry) (d n i : ℕ) → let k = find (listFrom f i n) d in orDirect (pickFound (ltb k n) (At (f (i + k))) Missing) ≡ saysOf (listFrom f i n) d
+found-says : (f : ℕ → Entry) (d n i : ℕ) → let k = find (listFrom f i n) d in orDirect d (pickFound (ltb k n) (At (f (i + k))) Missing) ≡ saysOf (listFrom f i n) d
 unfolding listFrom find saysOf orDirect
 found-says f d zero i = refl
 found-says f d (suc n) i =
@@ -66,12 +86,12 @@ found-says f d (suc n) i =
     rw (t, ltb-suc k n, z) (found-says f d n (suc i)))
 
 module _ (s : List ℕ) (d : ℕ) where
-  found-as : orDirect (foundIn s d) ≡ saysOf (entriesOf s) d
+  found-as : orDirect d (foundIn s d) ≡ saysOf (entriesOf s) d
   unfolding foundIn entriesOf
   found-as =
       let k = find (entriesOf s) d in
       let z : k ≡ 0 + k = omega arith in
-      ap (λ (i : ℕ). orDirect (pickFound (ltb k (entryCount s)) (At (entryAt s i)) Missing)) z ∙ found-says (entryAt s) d (entryCount s) 0
+      ap (λ (i : ℕ). orDirect d (pickFound (ltb k (entryCount s)) (At (entryAt s i)) Missing)) z ∙ found-says (entryAt s) d (entryCount s) 0
 
   module _ (i n : ℕ) (at : i ≡ find (entriesOf s) d) (count : n ≡ entryCount s) where
     pub found : i < n → (e : Entry) → e ≡ entryAt s i → At e ≡ foundIn s d
@@ -82,15 +102,84 @@ module _ (s : List ℕ) (d : ℕ) where
     unfolding foundIn
     missing h = rw (← at, ← count, le-ltb i n h)
 
+-- ---- the route, with its length from the source
+module _ (m : Shape) (S : ℕ) (source : isNode m S ≡ true) where
+  -- To one node, and by another.
+  one-leg : (t : ℕ) → isNode m t ≡ true → distanceAnswer m S t ≡ distance m S t + 0
+  unfolding arePair
+  one-leg t h = rw (source, h) (omega arith)
+
+  two-legs : (v t : ℕ) → isNode m v ≡ true → isNode m t ≡ true → distanceAnswer m S v + distanceAnswer m v t ≡ distance m S v + (distance m v t + 0)
+  unfolding arePair
+  two-legs v t hv ht = rw (source, hv, ht) (omega arith)
+
+  told-with : (d k v : ℕ) → isNode m d ≡ true → isNode m v ≡ true → let e : Entry = record { dest = d; kind = k; via = v } in toldAs (lengthBy m S e) (saidBy e) ≡ told m S (saidBy e)
+  unfolding lengthBy saidBy toldAs told viaKind sumBy
+  told-with d zero v hd hv = ap (λ n. Outcome.Given (Route.Direct Adaptive) n) (one-leg d hd)
+  told-with d (suc zero) v hd hv = ap (λ n. Outcome.Given (Route.Direct Deterministic) n) (one-leg d hd)
+  told-with d (suc (suc zero)) v hd hv = ap (λ n. Outcome.Given (Route.Via v Adaptive Adaptive) n) (two-legs v d hv hd)
+  told-with d (suc (suc (suc zero))) v hd hv = ap (λ n. Outcome.Given (Route.Via v Adaptive Deterministic) n) (two-legs v d hv hd)
+  told-with d (suc (suc (suc (suc zero)))) v hd hv = ap (λ n. Outcome.Given (Route.Via v Deterministic Adaptive) n) (two-legs v d hv hd)
+  told-with d (suc (suc (suc (suc (suc zero))))) v hd hv = ap (λ n. Outcome.Given (Route.Via v Deterministic Deterministic) n) (two-legs v d hv hd)
+  told-with d (suc (suc (suc (suc (suc (suc k)))))) v hd hv = refl
+
+  told-good : (e : Entry) → entryGood m S e ≡ true → toldAs (lengthBy m S e) (saidBy e) ≡ told m S (saidBy e)
+  told-good e h =
+      let g = good-entry m S e h in
+      told-with (e .dest) (e .kind) (e .via) (is-node m S source (e .dest) (g .dest)) (is-node m S source (e .via) (g .via))
+
+  told-direct : (d : ℕ) → isNode m d ≡ true → Outcome.Given (Route.Direct Adaptive) (distanceAnswer m S d) ≡ told m S (Given (leg d Adaptive ∷ []))
+  unfolding told sumBy
+  told-direct d h = ap (λ n. Outcome.Given (Route.Direct Adaptive) n) (one-leg d h)
+
+-- What is found is good.
+abbrev FoundGood : Shape → ℕ → Found → Type 0
+FoundGood m S (At e) = entryGood m S e ≡ true
+FoundGood m S Missing = Unit {0}
+
 module _ (L : Limits) (p s : List ℕ) (d : ℕ) where
-  pub refused : (e : ℕ) → e ≡ lookupError L p s d → (e ≡ 0 → ⊥) → Route.Refused e ≡ told (says L p s d)
+  pub refused : (e : ℕ) → e ≡ lookupError L p s d → (e ≡ 0 → ⊥) → Outcome.Refused e ≡ told (shapeOf p) (source s) (says L p s d)
   unfolding says told answered
   refused e h n = rw (← h) (go e n)
     where
-      go : (k : ℕ) → (k ≡ 0 → ⊥) → Route.Refused k ≡ told (answered k (saysOf (entriesOf s) d))
+      go : (k : ℕ) → (k ≡ 0 → ⊥) → Outcome.Refused k ≡ told (shapeOf p) (source s) (answered k (saysOf (entriesOf s) d))
       go zero n = absurd (n refl)
       go (suc k) n = refl
 
-  pub said : lookupError L p s d ≡ 0 → (f : Found) → f ≡ foundIn s d → told (orDirect f) ≡ told (says L p s d)
-  unfolding says answered
-  said h f e = rw (h, e, found-as s d)
+  module _ (h : lookupError L p s d ≡ 0) where
+    abbrev m : Shape
+    m = shapeOf p
+
+    abbrev S : ℕ
+    S = source s
+
+    source-node : isNode m S ≡ true
+    unfolding routesGood
+    source-node = and-true (isNode m S) _ (looked-up p s d h .routes) .0
+
+    dest-node : isNode m d ≡ true
+    unfolding lookupError
+    dest-node = not-false _ (declined-zero (not (isNode m d)) _ (then-zero (sheetError L p s) _ h .1))
+
+    found-good : (f : Found) → f ≡ foundIn s d → FoundGood m S f
+    unfolding foundIn routesGood entriesOf
+    found-good f e = rw e (go (ltb i (entryCount s)) refl)
+      where
+        i : ℕ
+        i = find (entriesOf s) d
+
+        go : (b : Bool) → ltb i (entryCount s) ≡ b → FoundGood m S (pickFound b (At (entryAt s i)) Missing)
+        go true t = each-good m S (entryAt s) (entryCount s) 0 0 (and-true (isNode m S) _ (looked-up p s d h .routes) .1) i (omega arith) (omega (arith, ltb-true i (entryCount s) t))
+        go false t = tt
+
+    said : (f : Found) → f ≡ foundIn s d → orDirect d f ≡ says L p s d
+    unfolding says answered
+    said f e = rw (h, e, found-as s d)
+
+    pub said-found : (e : Entry) → At e ≡ foundIn s d → toldAs (lengthBy m S e) (saidBy e) ≡ told m S (says L p s d)
+    unfolding orDirect
+    said-found e q = told-good m S source-node e (found-good (At e) q) ∙ ap (told m S) (said (At e) q)
+
+    pub said-direct : Missing ≡ foundIn s d → Outcome.Given (Route.Direct Adaptive) (distanceAnswer m S d) ≡ told m S (says L p s d)
+    unfolding orDirect
+    said-direct q = told-direct m S source-node d dest-node ∙ ap (told m S) (said Missing q)

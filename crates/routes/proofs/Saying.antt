@@ -1,66 +1,123 @@
 -- Entries that say a choice or a refusal: they are read back, and check 13 accepts them.
-use Prim.Native.Nat.{ℕ, _<_}
+use Prim.Native.Nat.{ℕ, zero, suc, _<_}
 use native.Mathlib.Omega.{arith}
-use mathlib.Core.Path.{_≡_, refl}
+use mathlib.Core.Path.{_≡_, refl, sym, ap, subst}
 use mathlib.Core.Bool.{true}
+use mathlib.Core.List.{List, [], _∷_}
+use lib.ListN.{length}
 use borrow.Author.Tests.{eq-eqb, ne-eqb, lt-ltb}
+use Rattle.numbers.specs.Numbers.{deadEnd, noClearChoice}
+use Rattle.theory.specs.Machine.{endBy}
 use Rattle.shape.specs.declared.shape.Shape.{Shape}
+use Rattle.machine.specs.declared.leg.Leg.{Leg}
+use Rattle.machine.specs.declared.leg.Mode.{Mode}
 use Rattle.machine.specs.declared.leg.Mode.the-variants.{Adaptive, Deterministic}
 use Rattle.machine.specs.Number.{nodeCount}
 use Rattle.machine.specs.Node.{isNode}
+use Rattle.machine.specs.Torus.{leg}
 use Rattle.machine.proofs.Nodes.{node-of}
-use Rattle.choice.specs.Choice.{Choice, Direct, Via, routeOf, Admits, viaNode}
-use Rattle.packet.specs.declared.route.Route.{Route}
+use Rattle.packet.specs.New.{legsTo}
+use Rattle.choice.specs.Choice.{Choice, AdmitsIn, viasOf, targetsOf}
+use Rattle.choice.specs.Answer.{Answer, Given, Refused}
+use Rattle.choice.specs.Outcome.{told}
 use Rattle.routes.specs.Layout.{written}
-use Rattle.routes.specs.Kinds.{kindOf, viaKind, plainKind}
-use Rattle.routes.specs.Said.{Said, Says, Refused, saidBy, entryFor, told, heard}
+use Rattle.routes.specs.Kinds.{hasModes, kindFrom, kindOf, viaKind, plainKind}
+use Rattle.routes.specs.Said.{saidBy, entryFor, heard}
 use Rattle.routes.specs.Checks.{viaGood, entryGood}
 
-pub heard-told : (x : Said) → heard (told x) ≡ x
-unfolding heard told routeOf
-heard-told (Says (Direct m)) = refl
-heard-told (Says (Via v m n)) = refl
-heard-told (Refused e) = refl
+-- The entry of an answer, from the code's enum of it.
+pub entry-told : (s : Shape) (S d : ℕ) (a : Answer) → entryFor d (heard d (told s S a)) ≡ entryFor d a
+unfolding entryFor heard told legsTo viasOf kindOf kindFrom hasModes
+entry-told s S d (Given []) = refl
+entry-told s S d (Given (l ∷ [])) = refl
+entry-told s S d (Given (l ∷ m ∷ [])) = refl
+entry-told s S d (Given (l ∷ m ∷ n ∷ ls)) = refl
+entry-told s S d (Refused e) = refl
 
-pub told-heard : (r : Route) → told (heard r) ≡ r
-unfolding heard told routeOf
-told-heard (Route.Direct m) = refl
-told-heard (Route.Via v m n) = refl
-told-heard (Route.Refused e) = refl
+-- What holds of one leg to D, and of two legs of which the second is to D, holds of every admitted choice.
+pub admitted-legs :
+    (Q : Choice → Type 0) (s : Shape) (S D : ℕ) →
+    ((m : Mode) → Q (leg D m ∷ [])) →
+    ((v : ℕ) (m n : Mode) → AdmitsIn s S D (leg v m ∷ leg D n ∷ []) → Q (leg v m ∷ leg D n ∷ [])) →
+    (c : Choice) → AdmitsIn s S D c → Q c
+unfolding endBy viasOf
+admitted-legs Q s S D one two [] a = absurd (none (a .self (a .ends)))
+  where
+    size : Choice → ℕ
+    size [] = 0
+    size (l ∷ ls) = 1
+
+    none : _≡_ {A = Choice} [] (leg D Adaptive ∷ []) → ⊥
+    none e = let z : _≡_ {A = ℕ} 0 1 = ap size e in absurd (omega arith)
+admitted-legs Q s S D one two (l ∷ []) a = let e : D ≡ l .target = sym (a .ends) in rw e at (one (l .mode))
+admitted-legs Q s S D one two (l ∷ m ∷ []) a =
+    let is : _≡_ {A = Choice} (l ∷ m ∷ []) (leg (l .target) (l .mode) ∷ leg D (m .mode) ∷ []) = ap (λ t. l ∷ leg t (m .mode) ∷ []) (a .ends) in
+    subst Q (sym is) (two (l .target) (l .mode) (m .mode) (subst (AdmitsIn s S D) is a))
+admitted-legs Q s S D one two (l ∷ m ∷ n ∷ ls) a = let h = a .few in absurd (omega arith)
+
+-- An admitted choice, from the code's enum of it.
+pub heard-told : (s : Shape) (S D : ℕ) (c : Choice) → AdmitsIn s S D c → heard D (told s S (Given c)) ≡ Given c
+unfolding heard told legsTo
+heard-told s S D c a = admitted-legs (λ c. heard D (told s S (Given c)) ≡ Given c) s S D (λ m. refl) (λ v m n _. refl) c a
 
 -- An entry says what it was made for.
-pub says-choice : (d : ℕ) (c : Choice) → saidBy (entryFor d (Says c)) ≡ Says c
-unfolding saidBy entryFor kindOf viaNode
-says-choice d (Direct Adaptive) = refl
-says-choice d (Direct Deterministic) = refl
-says-choice d (Via v Adaptive Adaptive) = refl
-says-choice d (Via v Adaptive Deterministic) = refl
-says-choice d (Via v Deterministic Adaptive) = refl
-says-choice d (Via v Deterministic Deterministic) = refl
+pub says-choice : (s : Shape) (S D : ℕ) (c : Choice) → AdmitsIn s S D c → saidBy (entryFor D (Given c)) ≡ Given c
+unfolding saidBy entryFor viasOf kindOf kindFrom hasModes
+says-choice s S D c a = admitted-legs (λ c. saidBy (entryFor D (Given c)) ≡ Given c) s S D one (λ v m n _. two v m n) c a
+  where
+    one : (m : Mode) → saidBy (entryFor D (Given (leg D m ∷ []))) ≡ Given (leg D m ∷ [])
+    one Adaptive = refl
+    one Deterministic = refl
+
+    two : (v : ℕ) (m n : Mode) → saidBy (entryFor D (Given (leg v m ∷ leg D n ∷ []))) ≡ Given (leg v m ∷ leg D n ∷ [])
+    two v Adaptive Adaptive = refl
+    two v Adaptive Deterministic = refl
+    two v Deterministic Adaptive = refl
+    two v Deterministic Deterministic = refl
 
 pub says-refused : (d e : ℕ) → 5 < e → saidBy (entryFor d (Refused e)) ≡ Refused e
 unfolding saidBy entryFor
-says-refused d e h = rw (ne-eqb e 0 (omega arith), ne-eqb e 1 (omega arith), ne-eqb e 2 (omega arith), ne-eqb e 3 (omega arith), ne-eqb e 4 (omega arith), ne-eqb e 5 (omega arith))
+says-refused d (suc (suc (suc (suc (suc (suc e)))))) h = refl
+says-refused d zero h = absurd (omega arith)
+says-refused d (suc zero) h = absurd (omega arith)
+says-refused d (suc (suc zero)) h = absurd (omega arith)
+says-refused d (suc (suc (suc zero))) h = absurd (omega arith)
+says-refused d (suc (suc (suc (suc zero)))) h = absurd (omega arith)
+says-refused d (suc (suc (suc (suc (suc zero))))) h = absurd (omega arith)
 
-module _ (m : Shape) (S d : ℕ) (node : isNode m d ≡ true) (other : d ≡ S → ⊥) where
-  good-choice : (c : Choice) → Admits m S d c → (c ≡ Direct Adaptive → ⊥) → viaGood written m S (entryFor d (Says c)) ≡ true
-  unfolding viaGood entryFor kindOf viaNode viaKind plainKind isNode
-  good-choice (Direct Adaptive) a h = absurd (h refl)
-  good-choice (Direct Deterministic) a h = refl
-  good-choice (Via v Adaptive Adaptive) a h = rw (ne-eqb v S (a .1), ne-eqb v d (a .2), lt-ltb v (nodeCount m) (a .0), eq-eqb _ 0 (node-of m d node .sound))
-  good-choice (Via v Adaptive Deterministic) a h = rw (ne-eqb v S (a .1), ne-eqb v d (a .2), lt-ltb v (nodeCount m) (a .0), eq-eqb _ 0 (node-of m d node .sound))
-  good-choice (Via v Deterministic Adaptive) a h = rw (ne-eqb v S (a .1), ne-eqb v d (a .2), lt-ltb v (nodeCount m) (a .0), eq-eqb _ 0 (node-of m d node .sound))
-  good-choice (Via v Deterministic Deterministic) a h = rw (ne-eqb v S (a .1), ne-eqb v d (a .2), lt-ltb v (nodeCount m) (a .0), eq-eqb _ 0 (node-of m d node .sound))
+module _ (s : Shape) (S D : ℕ) (node : isNode s D ≡ true) (other : D ≡ S → ⊥) where
+  one-good : (m : Mode) → ((leg D m ∷ []) ≡ (leg D Adaptive ∷ []) → ⊥) → viaGood s S (entryFor D (Given (leg D m ∷ []))) ≡ true
+  unfolding viaGood entryFor viasOf kindOf kindFrom hasModes viaKind plainKind
+  one-good Adaptive h = absurd (h refl)
+  one-good Deterministic h = refl
+
+  two-good : (v : ℕ) (m n : Mode) → AdmitsIn s S D (leg v m ∷ leg D n ∷ []) → viaGood s S (entryFor D (Given (leg v m ∷ leg D n ∷ []))) ≡ true
+  unfolding viaGood entryFor viasOf targetsOf kindOf kindFrom hasModes viaKind plainKind isNode
+  two-good v m n a = go m n
+    where
+      apart : (S ≡ v → ⊥) × (v ≡ D → ⊥)
+      apart = let x = a .apart (λ e. other (sym e)) in (x .0 .0, x .1 .0 .0)
+
+      below : v < nodeCount s
+      below = a .inside .0
+
+      go : (m n : Mode) → viaGood s S (entryFor D (Given (leg v m ∷ leg D n ∷ []))) ≡ true
+      go Adaptive Adaptive = rw (ne-eqb v S (λ e. apart .0 (sym e)), ne-eqb v D (apart .1), lt-ltb v (nodeCount s) below, eq-eqb _ 0 (node-of s D node .sound))
+      go Adaptive Deterministic = rw (ne-eqb v S (λ e. apart .0 (sym e)), ne-eqb v D (apart .1), lt-ltb v (nodeCount s) below, eq-eqb _ 0 (node-of s D node .sound))
+      go Deterministic Adaptive = rw (ne-eqb v S (λ e. apart .0 (sym e)), ne-eqb v D (apart .1), lt-ltb v (nodeCount s) below, eq-eqb _ 0 (node-of s D node .sound))
+      go Deterministic Deterministic = rw (ne-eqb v S (λ e. apart .0 (sym e)), ne-eqb v D (apart .1), lt-ltb v (nodeCount s) below, eq-eqb _ 0 (node-of s D node .sound))
 
   -- Of an admitted choice that is not direct and adaptive, and of 10 and 11, the entry is good.
-  pub choice-good : (c : Choice) → Admits m S d c → (c ≡ Direct Adaptive → ⊥) → entryGood written m S (entryFor d (Says c)) ≡ true
+  pub choice-good : (c : Choice) → AdmitsIn s S D c → (c ≡ leg D Adaptive ∷ [] → ⊥) → entryGood s S (entryFor D (Given c)) ≡ true
   unfolding entryGood entryFor
-  choice-good c a h = rw (node, ne-eqb d S other) (good-choice c a h)
+  choice-good c a h =
+      rw (node, ne-eqb D S other)
+      (admitted-legs (λ c. (c ≡ leg D Adaptive ∷ [] → ⊥) → viaGood s S (entryFor D (Given c)) ≡ true) s S D one-good (λ v m n a _. two-good v m n a) c a h)
 
-  pub dead-good : entryGood written m S (entryFor d (Refused 10)) ≡ true
+  pub dead-good : entryGood s S (entryFor D (Refused deadEnd)) ≡ true
   unfolding entryGood entryFor viaGood viaKind plainKind
-  dead-good = rw (node, ne-eqb d S other)
+  dead-good = rw (node, ne-eqb D S other)
 
-  pub none-good : entryGood written m S (entryFor d (Refused 11)) ≡ true
+  pub none-good : entryGood s S (entryFor D (Refused noClearChoice)) ≡ true
   unfolding entryGood entryFor viaGood viaKind plainKind
-  none-good = rw (node, ne-eqb d S other)
+  none-good = rw (node, ne-eqb D S other)

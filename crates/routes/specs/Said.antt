@@ -1,39 +1,45 @@
--- What a sheet says of a destination: a choice, or the number of the refusal; and how an entry says it.
+-- What an entry says of its destination, and the entry that says it.
 use Prim.Native.Nat.{ℕ}
-use mathlib.Core.Bool.{cond}
-use lib.Dec.{eqb}
-use Rattle.machine.specs.declared.leg.Mode.the-variants.{Adaptive, Deterministic}
-use Rattle.choice.specs.Choice.{Choice, Direct, Via, routeOf, viaNode}
-use Rattle.routes.specs.declared.layout.Entry.{Entry}
+use mathlib.Core.List.{List, [], _∷_}
+use lib.ListN.{getD}
+use Rattle.machine.specs.declared.leg.Mode.{Mode}
+use Rattle.machine.specs.Torus.{leg}
 use Rattle.packet.specs.declared.route.Route.{Route}
-use Rattle.routes.specs.Kinds.{kindOf}
+use Rattle.packet.specs.New.{legsTo}
+use Rattle.choice.specs.declared.outcome.Outcome.{Outcome}
+use Rattle.choice.specs.Choice.{viasOf}
+use Rattle.choice.specs.Answer.{Answer, Given, Refused}
+use Rattle.routes.specs.declared.layout.Entry.{Entry}
+use Rattle.routes.specs.Kinds.{kinds, kindOf}
 
-pub data Said : Type 0 where
-  Says : Choice → Said
-  Refused : ℕ → Said
+-- By the modes of its kind; 10 and 11 are the number of the refusal.
+abbrev pub saidWith : List Mode → Entry → Answer
+saidWith [] e = Refused (e .kind)
+saidWith (m ∷ []) e = Given (leg (e .dest) m ∷ [])
+saidWith (m ∷ n ∷ ms) e = Given (leg (e .via) m ∷ leg (e .dest) n ∷ [])
 
--- By the entry's kind; 10 and 11 are the number of the refusal.
-unfoldable pub saidBy : Entry → Said
-saidBy e =
-    cond (eqb (e .kind) 0) (Says (Direct Adaptive))
-    (cond (eqb (e .kind) 1) (Says (Direct Deterministic))
-    (cond (eqb (e .kind) 2) (Says (Via (e .via) Adaptive Adaptive))
-    (cond (eqb (e .kind) 3) (Says (Via (e .via) Adaptive Deterministic))
-    (cond (eqb (e .kind) 4) (Says (Via (e .via) Deterministic Adaptive))
-    (cond (eqb (e .kind) 5) (Says (Via (e .via) Deterministic Deterministic))
-    (Refused (e .kind)))))))
+unfoldable pub saidBy : Entry → Answer
+saidBy e = saidWith (getD kinds (e .kind) []) e
 
 -- The entry that says it of the destination d. Via is 0 for kinds 1, 10, 11.
-unfoldable pub entryFor : ℕ → Said → Entry
-entryFor d (Says c) = record { dest = d; kind = kindOf c; via = viaNode c }
+abbrev pub viaField : List ℕ → ℕ
+viaField [] = 0
+viaField (v ∷ []) = v
+viaField (v ∷ w ∷ vs) = 0
+
+unfoldable pub entryFor : ℕ → Answer → Entry
+entryFor d (Given c) = record { dest = d; kind = kindOf c; via = viaField (viasOf c) }
 entryFor d (Refused e) = record { dest = d; kind = e; via = 0 }
 
--- Toward the code's enum, and from it.
-unfoldable pub told : Said → Route
-told (Says c) = routeOf c
-told (Refused e) = Route.Refused e
+-- An answer as the code's enum, with this length.
+unfoldable pub toldAs : ℕ → Answer → Outcome
+toldAs len (Given []) = Outcome.Refused 0
+toldAs len (Given (l ∷ [])) = Outcome.Given (Route.Direct (l .mode)) len
+toldAs len (Given (l ∷ m ∷ [])) = Outcome.Given (Route.Via (l .target) (l .mode) (m .mode)) len
+toldAs len (Given (l ∷ m ∷ n ∷ ls)) = Outcome.Refused 0
+toldAs len (Refused e) = Outcome.Refused e
 
-unfoldable pub heard : Route → Said
-heard (Route.Direct m) = Says (Direct m)
-heard (Route.Via v m n) = Says (Via v m n)
-heard (Route.Refused e) = Refused e
+-- And the enum, of the destination d, as an answer.
+unfoldable pub heard : ℕ → Outcome → Answer
+heard d (Outcome.Given r len) = Given (legsTo d r)
+heard d (Outcome.Refused e) = Refused e

@@ -1,17 +1,21 @@
 -- The code's own steps.
 use Prim.Native.Nat.{ℕ, _+_, _*_}
-use mathlib.Core.Bool.{Bool, true, false}
-use mathlib.Core.List.{List}
+use mathlib.Core.Bool.{Bool, true, false, cond}
+use mathlib.Core.List.{List, [], _∷_}
 use lib.ListN.{set}
 use lib.Dec.{ltb}
 use Rattle.sheet.specs.Bytes.{putWord}
+use Rattle.shape.specs.declared.shape.Shape.{Shape}
 use Rattle.machine.specs.declared.leg.Mode.the-variants.{Adaptive}
-use Rattle.choice.specs.Choice.{Direct}
+use Rattle.machine.specs.Torus.{leg}
+use Rattle.machine.specs.Node.{distanceAnswer}
+use Rattle.choice.specs.Answer.{Answer, Given}
 use Rattle.routes.specs.declared.layout.Entry.{Entry}
 use Rattle.routes.specs.declared.route.Found.{Found}
 use Rattle.routes.specs.declared.route.Found.the-variants.{At, Missing}
 use Rattle.routes.specs.Layout.{written, entrySize, sizeAfter, entriesAt, entryCount, entryAt, entriesOf}
-use Rattle.routes.specs.Said.{Said, Says, saidBy}
+use Rattle.routes.specs.Kinds.{viaKind}
+use Rattle.routes.specs.Said.{saidBy}
 use Rattle.routes.specs.Lookup.{find}
 
 abbrev pub pickFound : Bool → Found → Found → Found
@@ -23,9 +27,13 @@ unfoldable pub foundIn : List ℕ → ℕ → Found
 foundIn s d = let i = find (entriesOf s) d in pickFound (ltb i (entryCount s)) (At (entryAt s i)) Missing
 
 -- A destination not listed is direct and adaptive.
-unfoldable pub orDirect : Found → Said
-orDirect (At e) = saidBy e
-orDirect Missing = Says (Direct Adaptive)
+unfoldable pub orDirect : ℕ → Found → Answer
+orDirect d (At e) = saidBy e
+orDirect d Missing = Given (leg d Adaptive ∷ [])
+
+-- The length of an entry's route from the source S; of a refusal any number.
+unfoldable pub lengthBy : Shape → ℕ → Entry → ℕ
+lengthBy s S e = cond (viaKind (e .kind)) (distanceAnswer s S (e .via) + distanceAnswer s (e .via) (e .dest)) (distanceAnswer s S (e .dest))
 
 -- The bytes of a sheet with its head, or with entry number i, put in its place.
 unfoldable pub putHead : List ℕ → ℕ → ℕ → List ℕ

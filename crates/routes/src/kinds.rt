@@ -1,13 +1,20 @@
 // The kinds of an entry: 1 direct deterministic; 2, 3, 4, 5 by a via, both adaptive, adaptive then deterministic, deterministic then adaptive, both
 // deterministic; 10 dead destination; 11 no clear choice. 0, direct adaptive, is never listed.
 use crate::layout::Entry;
+use choice::Outcome;
 use logic::both;
 use logic::either;
 use machine::leg::Mode;
+use numbers::DEAD_END;
+use numbers::NO_CLEAR_CHOICE;
 use packet::Route;
 ghost use mathlib.Core.Path.{_≡_};
-ghost use Rattle.routes.specs.Kinds.{viaKind, plainKind, directKind, byViaKind};
-ghost use Rattle.routes.specs.Said.{saidBy, entryFor, told, heard};
+ghost use Prim.Native.Nat.{ℕ};
+ghost use Rattle.packet.specs.declared.route.Route.{Route};
+ghost use Rattle.packet.specs.New.{legsTo};
+ghost use Rattle.choice.specs.Answer.{Given};
+ghost use Rattle.routes.specs.Kinds.{kindOf, viaKind, plainKind};
+ghost use Rattle.routes.specs.Said.{saidBy, entryFor, toldAs, heard};
 
 pub fn has_via(kind: u8) -> bool
     ensures { λ r. ⌜ r ≡ viaKind kind ⌝ }
@@ -19,27 +26,31 @@ pub fn has_via(kind: u8) -> bool
 pub fn is_plain(kind: u8) -> bool
     ensures { λ r. ⌜ r ≡ plainKind kind ⌝ }
 {
-    either(kind == 1, either(kind == 10, kind == 11))
+    either(kind == 1, either(kind == DEAD_END, kind == NO_CLEAR_CHOICE))
 }
 
-pub fn route_by(entry: Entry) -> Route
-    ensures { λ r. ⌜ r ≡ told (saidBy entry) ⌝ }
+// What an entry says, with the length of its route.
+pub fn outcome_by(entry: Entry, length: u16) -> Outcome
+    ensures { λ r. ⌜ r ≡ toldAs length (saidBy entry) ⌝ }
 {
     let kind = entry.kind;
     let via = entry.via;
     match kind {
-        0 => Route::Direct(Mode::Adaptive),
-        1 => Route::Direct(Mode::Deterministic),
-        2 => Route::Via(via, Mode::Adaptive, Mode::Adaptive),
-        3 => Route::Via(via, Mode::Adaptive, Mode::Deterministic),
-        4 => Route::Via(via, Mode::Deterministic, Mode::Adaptive),
-        5 => Route::Via(via, Mode::Deterministic, Mode::Deterministic),
-        _ => Route::Refused(kind),
+        0 => Outcome::Given(Route::Direct(Mode::Adaptive), length),
+        1 => Outcome::Given(Route::Direct(Mode::Deterministic), length),
+        2 => Outcome::Given(Route::Via(via, Mode::Adaptive, Mode::Adaptive), length),
+        3 => Outcome::Given(Route::Via(via, Mode::Adaptive, Mode::Deterministic), length),
+        4 => Outcome::Given(Route::Via(via, Mode::Deterministic, Mode::Adaptive), length),
+        5 => Outcome::Given(
+            Route::Via(via, Mode::Deterministic, Mode::Deterministic),
+            length,
+        ),
+        _ => Outcome::Refused(kind),
     }
 }
 
 fn kind_direct(mode: Mode) -> u8
-    ensures { λ r. ⌜ r ≡ directKind mode ⌝ }
+    ensures { λ r. ⌜ ((d : ℕ) → r ≡ kindOf (legsTo d (Route.Direct mode))) ⌝ }
 {
     match mode {
         Mode::Adaptive => 0,
@@ -48,7 +59,7 @@ fn kind_direct(mode: Mode) -> u8
 }
 
 fn kind_via(first: Mode, second: Mode) -> u8
-    ensures { λ r. ⌜ r ≡ byViaKind first second ⌝ }
+    ensures { λ r. ⌜ ((d v : ℕ) → r ≡ kindOf (legsTo d (Route.Via v first second))) ⌝ }
 {
     match first {
         Mode::Adaptive => match second {
@@ -62,9 +73,8 @@ fn kind_via(first: Mode, second: Mode) -> u8
     }
 }
 
-// The entry of a destination.
-pub fn entry_for(dest: u16, route: Route) -> Entry
-    ensures { λ r. ⌜ r ≡ entryFor dest (heard route) ⌝ }
+fn entry_with(dest: u16, route: Route) -> Entry
+    ensures { λ r. ⌜ r ≡ entryFor dest (Given (legsTo dest route)) ⌝ }
 {
     match route {
         Route::Direct(mode) => Entry {
@@ -77,7 +87,16 @@ pub fn entry_for(dest: u16, route: Route) -> Entry
             kind: kind_via(first, second),
             via: via,
         },
-        Route::Refused(number) => Entry {
+    }
+}
+
+// The entry of a destination.
+pub fn entry_for(dest: u16, outcome: Outcome) -> Entry
+    ensures { λ r. ⌜ r ≡ entryFor dest (heard dest outcome) ⌝ }
+{
+    match outcome {
+        Outcome::Given(route, _) => entry_with(dest, route),
+        Outcome::Refused(number) => Entry {
             dest: dest,
             kind: number,
             via: 0,

@@ -1,17 +1,25 @@
 // What a sheet says of a destination. It answers from the sheet alone and never judges its routes against the faults.
-use crate::kinds::route_by;
+use crate::kinds::has_via;
+use crate::kinds::outcome_by;
 use crate::layout::Entry;
 use crate::layout::count_in;
 use crate::layout::entry_in;
+use crate::layout::source_in;
 use crate::lookup::find_entry;
 use crate::lookup::lookup_error;
+use choice::Outcome;
 use machine::leg::Mode;
+use machine::node::distance;
 use packet::Route;
+use plan::layout::shape_in;
+use shape::Shape;
 ghost use mathlib.Core.Path.{_≡_};
+ghost use Rattle.plan.specs.Layout.{shapeOf};
 ghost use Rattle.plan.specs.Checks.{large};
-ghost use Rattle.routes.specs.Said.{told};
+ghost use Rattle.choice.specs.Outcome.{told};
+ghost use Rattle.routes.specs.Layout.{source};
 ghost use Rattle.routes.specs.Says.{says};
-ghost use Rattle.routes.specs.Steps.{foundIn};
+ghost use Rattle.routes.specs.Steps.{foundIn, lengthBy};
 
 enum Found {
     At(Entry),
@@ -29,17 +37,32 @@ fn found_in(sheet: &[u8], dest: u16) -> Found
     }
 }
 
-// The route, or 10 or 11 for an entry of that kind, or the number with which the lookup is declined.
-pub fn route(plan: &[u8], sheet: &[u8], dest: u16) -> Route
-    ensures { λ r. ⌜ r ≡ told (says large (now (plan .entry)) (now (sheet .entry)) dest) ⌝ }
+// The length of an entry's route.
+fn length_by(shape: Shape, source: u16, e: Entry) -> u16
+    ensures { λ r. ⌜ r ≡ lengthBy shape source e ⌝ }
+{
+    if has_via(e.kind) {
+        let first = distance(shape, source, e.via) as u16;
+        let second = distance(shape, e.via, e.dest) as u16;
+        return first + second;
+    }
+    distance(shape, source, e.dest) as u16
+}
+
+// The route with its length, or 10 or 11 for an entry of that kind, or the number with which the lookup is declined.
+pub fn route(plan: &[u8], sheet: &[u8], dest: u16) -> Outcome
+    ensures { λ r. ⌜ r ≡ told (shapeOf (now (plan .entry))) (source (now (sheet .entry))) (says large (now (plan .entry)) (now (sheet .entry)) dest) ⌝ }
 {
     let error = lookup_error(plan, sheet, dest);
     if error != 0 {
-        return Route::Refused(error);
+        return Outcome::Refused(error);
     }
+    let shape = shape_in(plan);
+    let source = source_in(sheet);
     let found = found_in(sheet, dest);
     let Found::At(entry) = found else {
-        return Route::Direct(Mode::Adaptive);
+        let length = distance(shape, source, dest) as u16;
+        return Outcome::Given(Route::Direct(Mode::Adaptive), length);
     };
-    route_by(entry)
+    outcome_by(entry, length_by(shape, source, entry))
 }

@@ -180,9 +180,6 @@ pub useful-is : (len : ℕ) (ring : Bool) (p q : ℕ) (plus : Bool) → p < len 
 useful-is len true p q plus hp hq = ring-useful len p q plus hp hq
 useful-is len false p q plus hp hq = open-useful len p q plus hp hq
 
-pub ahead-below : (len p q : ℕ) → p < len → q < len → ahead len p q < len
-ahead-below len p q hp hq = ahead-is len p q hp hq .below
-
 -- At exactly half of a wrapped ring both directions are useful, and nowhere else.
 pub half-both : (len p q : ℕ) (plus : Bool) → p < len → q < len → 2 * ahead len p q ≡ len → axisUseful len true p q plus ≡ true
 half-both len p q plus hp hq e = rw (ring-useful len p q plus hp hq, ne-eqb (ahead len p q) 0 (λ z. omega arith)) (both plus)

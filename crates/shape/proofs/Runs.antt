@@ -4,7 +4,7 @@ use mathlib.Core.Bool.{Bool, true, false, false≢true, cond, not, _&&_}
 use mathlib.Core.Path.{_≡_, refl, sym, ap, _∙_}
 use mathlib.Core.Logic.{_⊎_, ⊎-elim}
 use native.Mathlib.Omega.{arith}
-use lib.Dec.{leb, ltb}
+use lib.Dec.{leb}
 use borrow.Author.Tests.{lt-ltb, le-ltb, le-leb, lt-leb, ne-eqb, eq-eqb, leb-true, ltb-true}
 use Rattle.theory.proofs.Cases.{by-le, by-order}
 use Rattle.shape.specs.Axis.{place, axisUseful}
@@ -14,11 +14,11 @@ use Rattle.shape.proofs.AxisLaws.{Ahead, ahead-is, plus-ahead, minus-ah
 ahead-one : (len p q u v : ℕ) → Ahead len p q u → Ahead len p q v → u ≡ v
 ahead-one len p q u v a b = by-le p q (λ h. omega (arith, a .up h, b .up h)) (λ h. omega (arith, a .round h, b .round h))
 
-ahead-of : (len p q u : ℕ) → p < len → q < len → Ahead len p q u → ahead len p q ≡ u
+pub ahead-of : (len p q u : ℕ) → p < len → q < len → Ahead len p q u → ahead len p q ≡ u
 ahead-of len p q u hp hq w = ahead-one len p q _ u (ahead-is len p q hp hq) w
 
 -- The hops going plus from q to p are those left of the ring.
-ahead-back : (len p q u : ℕ) → 0 < u → Ahead len p q u → Ahead len q p (len - u)
+pub ahead-back : (len p q u : ℕ) → 0 < u → Ahead len p q u → Ahead len q p (len - u)
 ahead-back len p q u k w =
     by-order p q
     (λ a. let e = w .up (omega arith) in let b = w .below in record { below = omega arith; up = λ h. absurd (omega arith); round = λ _. omega arith })
@@ -60,7 +60,7 @@ mirror len false p q true hp hq = rw (open-useful len q p false hq hp, open-usef
 mirror len false p q false hp hq = rw (open-useful len q p true hq hp, open-useful len p q false hp hq)
 
 -- ---- the place before q on the way from p, with the target moved there
-target-back : (len p q u : ℕ) → p < len → q < len → Ahead len p q (u + 1) → Ahead len p (place len q false) u
+pub target-back : (len p q u : ℕ) → p < len → q < len → Ahead len p q (u + 1) → Ahead len p (place len q false) u
 target-back len p q u hp hq w =
     by-le 1 q
     (λ a. rw (minus-in len q a) (by-le p q
@@ -70,7 +70,7 @@ target-back len p q u hp hq w =
     (λ b. let e = w .up b in absurd (omega arith))
     (λ b. let e = w .round b in record { below = omega (arith, w .below); up = λ _. omega arith; round = λ h. absurd (omega arith) })))
 
-target-on : (len p q u : ℕ) → p < len → q < len → u + 1 < len → Ahead len p q u → Ahead len p (place len q true) (u + 1)
+pub target-on : (len p q u : ℕ) → p < len → q < len → u + 1 < len → Ahead len p q u → Ahead len p (place len q true) (u + 1)
 target-on len p q u hp hq k w =
     by-le len (q + 1)
     (λ a. rw (plus-last len q a) (let e = w .up (omega arith) in record { below = k; up = λ h. absurd (omega arith); round = λ h. omega arith }))
@@ -78,7 +78,7 @@ target-on len p q u hp hq k w =
     (λ b. let e = w .up b in record { below = k; up = λ _. omega arith; round = λ h. absurd (omega arith) })
     (λ b. let e = w .round b in record { below = k; up = λ h. absurd (omega arith); round = λ _. omega arith })))
 
-target-whole : (len p q u : ℕ) → p < len → q < len → u + 1 ≡ len → Ahead len p q u → p ≡ place len q true
+pub target-whole : (len p q u : ℕ) → p < len → q < len → u + 1 ≡ len → Ahead len p q u → p ≡ place len q true
 target-whole len p q u hp hq k w =
     by-le len (q + 1)
     (λ a. rw (plus-last len q a) (let e = w .up (omega arith) in omega arith))

@@ -27,7 +27,6 @@ use Rattle.tables.specs.Table.{soundBy, cell, towardAnswer, outwardAnswe
 use Rattle.tables.specs.Fill.{answerOf, partOf, valueIn}
 use Rattle.tables.specs.Visit.{Bounds, within}
 use Rattle.tables.specs.Neighbours.{neighboursIn}
-use Rattle.tables.specs.FirstHop.{byFirstHop}
 use Rattle.tables.proofs.Visits.{In, inside-visits, visited-before, in-before}
 use Rattle.tables.proofs.Numbering.{byteOf, number-here, byte-of}
 use Rattle.tables.proofs.Filling.{Visiting, Filling, ended}

@@ -22,7 +22,7 @@ use Rattle.machine.proofs.Numbers.{inside}
 use Rattle.machine.proofs.ByCoords.{inside-at, neighbour-below}
 use Rattle.machine.proofs.Laws.{useful-of, useful-link, useful-lowers, distance-zero, distance-self, distance-step, first-useful, triangle}
 use Rattle.machine.proofs.Nodes.{Node, from-of, to-of}
-use Rattle.tables.specs.Table.{cell, towardAnswer}
+use Rattle.tables.specs.Table.{towardAnswer}
 use Rattle.tables.specs.declared.fill.Heading.the-variants.{Toward}
 use Rattle.tables.specs.Visit.{visitIn, visitsOf, Bounds, boundsOf, within}
 use Rattle.tables.specs.Fill.{answerOf, partOf}

@@ -1,18 +1,17 @@
 -- A node judged from those one hop nearer to the target has its cell.
-use Prim.Native.Nat.{ℕ, zero, suc, _+_, _/_, _%_, _<_}
+use Prim.Native.Nat.{ℕ, _+_, _/_, _%_, _<_}
 use mathlib.Core.Bool.{Bool, true, false, cond, _&&_}
 use mathlib.Core.List.{List}
 use mathlib.Core.Path.{_≡_, refl, sym, ap, _∙_}
 use native.Mathlib.Omega.{arith}
 use lib.ListN.{getD}
-use lib.Dec.{leb, eqb}
-use borrow.Author.Tests.{eqb-false}
+use lib.Dec.{eqb}
+use borrow.Author.Tests.{eqb-true, eqb-false}
 use Rattle.theory.specs.Clear.{every}
 use Rattle.theory.proofs.Bools.{eqb-same}
 use Rattle.theory.proofs.Cases.{test}
 use Rattle.theory.proofs.Clear.{clear-ahead}
 use Rattle.shape.specs.declared.shape.Shape.{Shape}
-use Rattle.shape.specs.declared.shape.Coords.{Coords}
 use Rattle.shape.specs.declared.shape.Dim.{Dim}
 use Rattle.shape.specs.declared.shape.Dim.the-variants.{X, Y, Z}
 use Rattle.shape.specs.Shape.{shapeError, extentOf, wrappedIn}
@@ -20,12 +19,12 @@ use Rattle.shape.proofs.AxisLaws.{axis-zero, axis-self}
 use Rattle.machine.specs.declared.leg.Mode.the-variants.{Adaptive, Deterministic}
 use Rattle.machine.specs.Number.{nodeCount, coordsOf}
 use Rattle.machine.specs.Hop.{plusDir, minusDir, dirOf, along, same, part, distance, neighbour, useful, rule, firstDirection}
-use Rattle.machine.specs.ByCoords.{goesAlong, towardAt, firstAt}
+use Rattle.machine.specs.ByCoords.{goesAlong, towardAt}
 use Rattle.machine.specs.Torus.{leg, torus, allowedBy}
 use Rattle.machine.proofs.Numbers.{inside}
-use Rattle.machine.proofs.ByCoords.{inside-at, plus-of, minus-of, first-at}
-use Rattle.machine.proofs.Laws.{first-useful}
-use Rattle.machine.proofs.Torus.{useful-named, torus-laws}
+use Rattle.machine.proofs.ByCoords.{inside-at, plus-of, minus-of, first-x, first-y, first-z, first-at}
+use Rattle.machine.proofs.Laws.{first-useful, same-node}
+use Rattle.machine.proofs.Torus.{torus-laws}
 use Rattle.tables.specs.declared.view.View.{View}
 use Rattle.tables.specs.declared.neighbours.Neighbours.{Neighbours}
 use Rattle.tables.specs.Table.{soundBit, soundBy, clearFrom, cell}
@@ -34,6 +33,7 @@ use Rattle.tables.specs.View.{viewOf}
 use Rattle.tables.specs.FirstHop.{adaptiveAlong, deterministicAlong, firstAdaptive, firstDeterministic, byFirstHop}
 use Rattle.tables.proofs.Cells.{cell-adaptive, cell-deterministic}
 use Rattle.tables.proofs.Numbering.{byteOf}
+use Rattle.tables.proofs.OneHop.{self-clear, det-ahead}
 
 -- ---- on tests
 and-right : (b : Bool) → (b && true) ≡ b
@@ -54,21 +54,6 @@ under false x y h = refl
 pub every-six : (G : ℕ → Bool) → every 6 G ≡ (G 5 && (G 4 && (G 3 && (G 2 && (G 1 && (G 0 && true))))))
 unfolding every
 every-six G = refl
-
--- Of one direction, and of none.
-every-one : (f : ℕ) (G : ℕ → Bool) → f < 6 → every 6 (λ d. cond (leb d 5 && eqb d f) (G d) true) ≡ G f
-unfolding every
-every-one zero G h = and-right (G 0)
-every-one (suc zero) G h = and-right (G 1)
-every-one (suc (suc zero)) G h = and-right (G 2)
-every-one (suc (suc (suc zero))) G h = and-right (G 3)
-every-one (suc (suc (suc (suc zero)))) G h = and-right (G 4)
-every-one (suc (suc (suc (suc (suc zero))))) G h = and-right (G 5)
-every-one (suc (suc (suc (suc (suc (suc f)))))) G h = absurd (omega arith)
-
-every-none : (G : ℕ → Bool) → every 6 (λ d. cond (leb d 5 && eqb d 6) (G d) true) ≡ true
-unfolding every
-every-none G = refl
 
 -- ---- the bits of a mask from a dimension's plus direction on
 abbrev pub linksOf : ℕ → Dim → ℕ
@@ -96,24 +81,6 @@ minus-bit mask Z = ap (λ k. eqb (k % 2) 0) (more mask)
   where
     more : (k : ℕ) → k / 16 / 2 ≡ k / 32
     more k = omega arith
-
--- ---- the direction of a deterministic leg, of two coordinates that differ
-module _ (s : Shape) (c t : Coords) where
-  first-x : eqb (c .x) (t .x) ≡ false → firstAt rule s c t ≡ towardAt rule s c t X
-  unfolding firstAt
-  first-x e = rw e
-
-  first-y : eqb (c .x) (t .x) ≡ true → eqb (c .y) (t .y) ≡ false → firstAt rule s c t ≡ towardAt rule s c t Y
-  unfolding firstAt
-  first-y e f = rw (e, f)
-
-  first-z : eqb (c .x) (t .x) ≡ true → eqb (c .y) (t .y) ≡ true → eqb (c .z) (t .z) ≡ false → firstAt rule s c t ≡ towardAt rule s c t Z
-  unfolding firstAt
-  first-z e f g = rw (e, f, g)
-
-  first-none : eqb (c .x) (t .x) ≡ true → eqb (c .y) (t .y) ≡ true → eqb (c .z) (t .z) ≡ true → firstAt rule s c t ≡ 6
-  unfolding firstAt
-  first-none e f g = rw (e, f, g)
 
 module _ (s : Shape) (h : shapeError s ≡ 0) (masks : List ℕ) (t : ℕ) (ht : t < nodeCount s) (n : ℕ) (hn : n < nodeCount s) where
   abbrev pub snd : ℕ → ℕ → Bool
@@ -149,22 +116,18 @@ module _ (s : Shape) (h : shapeError s ≡ 0) (masks : List ℕ) (t : ℕ) (ht :
   abbrev Free : ℕ → Bool
   Free d = cond (useful s n t d) (snd n d && clearFrom s snd Adaptive (neighbour s n d) t) true
 
-  abbrev Sole : ℕ → Bool
-  Sole d = snd n d && clearFrom s snd Deterministic (neighbour s n d) t
-
   adaptive-ahead : clearFrom s snd Adaptive n t ≡ every 6 Free
   unfolding allowedBy
   adaptive-ahead = clear-ahead (torus s) (torus-laws s h) snd (leg t Adaptive) ht n hn
 
-  deterministic-ahead : clearFrom s snd Deterministic n t ≡ every 6 (λ d. cond (leb d 5 && eqb d (firstDirection rule s n t)) (Sole d) true)
-  unfolding allowedBy
-  deterministic-ahead = clear-ahead (torus s) (torus-laws s h) snd (leg t Deterministic) ht n hn
-
-  deterministic-none : firstDirection rule s n t ≡ 6 → clearFrom s snd Deterministic n t ≡ true
-  deterministic-none e = deterministic-ahead ∙ rw e (every-none Sole)
-
-  deterministic-one : firstDirection rule s n t < 6 → clearFrom s snd Deterministic n t ≡ Sole (firstDirection rule s n t)
-  deterministic-one l = deterministic-ahead ∙ every-one (firstDirection rule s n t) Sole l
+  -- Where no dimension differs, it is the same node.
+  pub same-all : same s n t X ≡ true → same s n t Y ≡ true → same s n t Z ≡ true → n ≡ t
+  same-all x y z = same-node s h n t hn ht all
+    where
+      all : (d : Dim) → along s n d ≡ along s t d
+      all X = eqb-true _ _ x
+      all Y = eqb-true _ _ y
+      all Z = eqb-true _ _ z
 
   -- ---- the bytes around n are the cells where a hop is useful
   module _ (e : Neighbours) (ahead : (d : Dim) (plus : Bool) → useful s n t (dirOf d plus) ≡ true → byteOf e d plus ≡ cell s snd (neighbour s n (dirOf d plus)) t) where
@@ -200,11 +163,14 @@ module _ (s : Shape) (h : shapeError s ≡ 0) (masks : List ℕ) (t : ℕ) (ht :
         (λ b. rw b (one true (q ∙ rw b)))
         (λ b. rw b (one false (q ∙ rw b))))
       where
+        ne : n ≡ t → ⊥
+        ne z = eqb-false _ _ differ (ap (λ k. along s k d) z)
+
         u : useful s n t (firstDirection rule s n t) ≡ true
-        u = first-useful s h n t hn ht rule (λ z. eqb-false _ _ differ (ap (λ k. along s k d) z))
+        u = first-useful s h n t hn ht rule ne
 
         one : (plus : Bool) → firstDirection rule s n t ≡ dirOf d plus → (snd n (dirOf d plus) && deterministicIn (byteOf e d plus)) ≡ clearFrom s snd Deterministic n t
-        one plus r = ap (λ g. snd n (dirOf d plus) && g) (deterministic-byte d plus (rw r at u)) ∙ sym (deterministic-one (useful-named s h n t hn ht _ u) ∙ rw r)
+        one plus r = ap (λ g. snd n (dirOf d plus) && g) (deterministic-byte d plus (rw r at u)) ∙ sym (det-ahead s h snd n t hn ht ne ∙ rw r)
 
     deterministic-is : firstDeterministic (seen X) (seen Y) (seen Z) mask e ≡ clearFrom s snd Deterministic n t
     unfolding firstDeterministic
@@ -216,10 +182,10 @@ module _ (s : Shape) (h : shapeError s ≡ 0) (masks : List ℕ) (t : ℕ) (ht :
         (test (same s n t X)
         (λ x. test (same s n t Y)
         (λ y. test (same s n t Z)
-        (λ z. rw (x, y, z) (sym (deterministic-none (first ∙ first-none s c g x y z))))
-        (λ z. rw (x, y, z) (deterministic-along Z z (first ∙ first-z s c g x y z))))
-        (λ y. rw (x, y) (deterministic-along Y y (first ∙ first-y s c g x y))))
-        (λ x. rw x (deterministic-along X x (first ∙ first-x s c g x))))
+        (λ z. rw (x, y, z) (sym (ap (λ k. clearFrom s snd Deterministic k t) (same-all x y z) ∙ self-clear s h snd Deterministic t ht)))
+        (λ z. rw (x, y, z) (deterministic-along Z z (first ∙ first-z rule s c g (eqb-true _ _ x) (eqb-true _ _ y) (eqb-false _ _ z)))))
+        (λ y. rw (x, y) (deterministic-along Y y (first ∙ first-y rule s c g (eqb-true _ _ x) (eqb-false _ _ y)))))
+        (λ x. rw x (deterministic-along X x (first ∙ first-x rule s c g (eqb-false _ _ x)))))
 
     pub first-cell : (x y z : View) → x ≡ seen X → y ≡ seen Y → z ≡ seen Z → byFirstHop x y z mask e ≡ cell s snd n t
     unfolding byFirstHop cell

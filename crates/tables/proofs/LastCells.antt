@@ -16,7 +16,7 @@ use Rattle.machine.specs.Number.{nodeCount, coordsOf}
 use Rattle.machine.specs.Hop.{plusDir, minusDir, dirOf, opposite, along, same, neighbour, useful, rule}
 use Rattle.machine.specs.ByCoords.{goesAlong}
 use Rattle.machine.proofs.Directions.{direction}
-use Rattle.machine.proofs.Laws.{distance-symmetric, same-node}
+use Rattle.machine.proofs.Laws.{distance-symmetric}
 use Rattle.tables.specs.declared.view.View.{View}
 use Rattle.tables.specs.declared.neighbours.Neighbours.{Neighbours}
 use Rattle.tables.specs.Table.{soundBy, clearFrom, cell}
@@ -25,9 +25,10 @@ use Rattle.tables.specs.View.{viewOf}
 use Rattle.tables.specs.LastHop.{adaptiveFrom, deterministicFrom, lastAdaptive, lastDeterministic, byLastHop}
 use Rattle.tables.proofs.Cells.{cell-adaptive, cell-deterministic}
 use Rattle.tables.proofs.Numbering.{byteOf}
-use Rattle.tables.proofs.FirstCells.{shuffle, under, every-six, linksOf, plus-bit, minus-bit, seen, plus-is, minus-is, hops-are, none-is}
-use Rattle.tables.proofs.LastHop.{self-clear, lastTest, adaptive-last}
-use Rattle.tables.proofs.LastRun.{Later, way, way-useful, back-useful, det-last}
+use Rattle.tables.proofs.FirstCells.{shuffle, under, every-six, linksOf, plus-bit, minus-bit, seen, plus-is, minus-is, hops-are, none-is, same-all}
+use Rattle.tables.proofs.LastHop.{lastTest, adaptive-last}
+use Rattle.tables.proofs.OneHop.{self-clear}
+use Rattle.tables.proofs.LastRun.{Later, way-useful, back-useful, det-last}
 
 back-plus : (d : Dim) → opposite (plusDir d) ≡ minusDir d
 back-plus d = direction d true .back
@@ -113,12 +114,7 @@ module _ (s : Shape) (h : shapeError s ≡ 0) (masks : List ℕ) (t : ℕ) (ht :
         (λ z. rw z (deterministic-from Z z tt)))
       where
         there : same s n t X ≡ true → same s n t Y ≡ true → same s n t Z ≡ true → clearFrom s snd Deterministic t n ≡ true
-        there x y z = ap (clearFrom s snd Deterministic t) (same-node s h n t hn ht all) ∙ self-clear s h snd Deterministic t ht
-          where
-            all : (d : Dim) → coordOf (coordsOf s n) d ≡ coordOf (coordsOf s t) d
-            all X = eqb-true _ _ x
-            all Y = eqb-true _ _ y
-            all Z = eqb-true _ _ z
+        there x y z = ap (clearFrom s snd Deterministic t) (same-all s h masks t ht n hn x y z) ∙ self-clear s h snd Deterministic t ht
 
     pub last-cell : (x y z : View) → x ≡ view X → y ≡ view Y → z ≡ view Z → byLastHop x y z m e ≡ cell s snd t n
     unfolding byLastHop cell

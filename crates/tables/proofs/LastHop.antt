@@ -1,25 +1,25 @@
 -- A clear leg by its last hop: the walks to v are the walks to a node before v and the hop from there. It does not rest on links being dead both ways.
-use Prim.Native.Nat.{ℕ, zero, suc, _+_, _≤_, _<_}
+use Prim.Native.Nat.{ℕ, zero, suc, _<_}
 use native.Mathlib.Omega.{arith}
 use mathlib.Core.Path.{_≡_, refl, sym}
-use mathlib.Core.Bool.{Bool, true, cond, not, _&&_, and-eq-true-iff}
+use mathlib.Core.Bool.{Bool, true, cond, _&&_, and-eq-true-iff}
 use lib.Dec.{eqb}
 use borrow.Author.Tests.{eqb-true, eqb-false}
 use Rattle.theory.specs.Clear.{every}
 use Rattle.theory.proofs.Cases.{test}
-use Rattle.theory.proofs.Clear.{same-test, every-true, true-every, clear-on, empty-clear, clear-iff, clear-ahead}
+use Rattle.theory.proofs.Clear.{same-test, every-true, true-every}
 use Rattle.shape.specs.declared.shape.Shape.{Shape}
 use Rattle.shape.specs.Shape.{shapeError}
-use Rattle.machine.specs.declared.leg.Mode.{Mode}
 use Rattle.machine.specs.declared.leg.Mode.the-variants.{Adaptive}
 use Rattle.machine.specs.Number.{nodeCount}
-use Rattle.machine.specs.Hop.{opposite, distance, link, neighbour, useful, rule, firstDirection}
-use Rattle.machine.specs.Torus.{allowedBy, leg, torus}
+use Rattle.machine.specs.Hop.{opposite, distance, neighbour, useful, rule, firstDirection}
+use Rattle.machine.specs.Torus.{allowedBy}
 use Rattle.machine.proofs.ByCoords.{neighbour-below}
 use Rattle.machine.proofs.Directions.{opposite-twice}
 use Rattle.machine.proofs.Laws.{useful-of, useful-link, useful-lowers, distance-symmetric, distance-self, first-useful, low, link-back, neighbour-back, distance-step}
-use Rattle.machine.proofs.Torus.{torus-laws, useful-named}
+use Rattle.machine.proofs.Torus.{useful-named}
 use Rattle.tables.specs.Table.{clearFrom}
+use Rattle.tables.proofs.OneHop.{clear-hop, clear-from, self-clear}
 
 module _ (s : Shape) (h : shapeError s ≡ 0) where
   -- The hop back from the target of a hop is useful.
@@ -50,20 +50,6 @@ module _ (s : Shape) (h : shapeError s ≡ 0) where
       (useful-of s u v d lu (omega arith), useful-of s v (neighbour s u d) e lv (omega arith))
 
   module _ (sound : ℕ → ℕ → Bool) where
-    module _ (m : Mode) (u v : ℕ) (hu : u < nodeCount s) (hv : v < nodeCount s) where
-      pub clear-hop : (d : ℕ) → clearFrom s sound m u v ≡ true → allowedBy rule m s u v d ≡ true → (sound u d ≡ true) × (clearFrom s sound m (neighbour s u d) v ≡ true)
-      clear-hop d c a =
-          let on = clear-on (torus s) (torus-laws s h) sound (leg v m) u d a (clear-iff (torus s) (torus-laws s h) sound (leg v m) hv u hu .0 c) in
-          (on .0, clear-iff (torus s) (torus-laws s h) sound (leg v m) hv (neighbour s u d) (neighbour-below s h u hu d) .1 (on .1))
-
-      pub clear-from : ((d : ℕ) → allowedBy rule m s u v d ≡ true → (sound u d ≡ true) × (clearFrom s sound m (neighbour s u d) v ≡ true)) → clearFrom s sound m u v ≡ true
-      clear-from f =
-          rw (clear-ahead (torus s) (torus-laws s h) sound (leg v m) hv u hu)
-          (true-every 6 _ λ d lt. test (allowedBy rule m s u v d) (λ a. rw a (and-eq-true-iff (sound u d) _ .1 (f d a))) (λ a. rw a))
-
-    pub self-clear : (m : Mode) (v : ℕ) → v < nodeCount s → clearFrom s sound m v v ≡ true
-    self-clear m v hv = clear-iff (torus s) (torus-laws s h) sound (leg v m) hv v hv .1 (empty-clear (torus s) (torus-laws s h) sound (leg v m) v hv refl)
-
     -- The hop from the node that lies in direction e from v is sound, and the leg from u to that node is clear.
     abbrev LastFrom : ℕ → ℕ → ℕ → Type 0
     LastFrom u v e = (sound (neighbour s v e) (opposite e) ≡ true) × (clearFrom s sound Adaptive u (neighbour s v e) ≡ true)
@@ -86,18 +72,18 @@ module _ (s : Shape) (h : shapeError s ≡ 0) where
       last-hop : u ≡ neighbour s v e → LastFrom u v e
       last-hop t =
           let o = turned v e hv (rw t at b) in
-          (clear-hop Adaptive (neighbour s v e) v hw hv (opposite e) (rw t at c) (adaptive (neighbour s v e) v (opposite e) o) .0, rw (← t) (self-clear Adaptive u hu))
+          (clear-hop s h sound Adaptive (neighbour s v e) v hw hv (opposite e) (rw t at c) (adaptive (neighbour s v e) v (opposite e) o) .0, rw (← t) (self-clear s h sound Adaptive u hu))
 
       hop-on : (d : ℕ) → useful s u (neighbour s v e) d ≡ true → (sound u d ≡ true) × LastFrom (neighbour s u d) v e
       hop-on d a =
           let both = swap u v d e hu hv a b in
-          let on = clear-hop Adaptive u v hu hv d c (adaptive u v d (both .0)) in
+          let on = clear-hop s h sound Adaptive u v hu hv d c (adaptive u v d (both .0)) in
           (on .0, rest d (both .0) (on .1) (both .1))
 
       more-hops : (u ≡ neighbour s v e → ⊥) → LastFrom u v e
       more-hops ne =
           let some = hop-on (firstDirection rule s u (neighbour s v e)) (first-useful s h u (neighbour s v e) hu hw rule ne) in
-          (some .1 .0, clear-from Adaptive u (neighbour s v e) hu hw (λ d a. let x = hop-on d (of-adaptive u (neighbour s v e) d a) in (x .0, x .1 .1)))
+          (some .1 .0, clear-from s h sound Adaptive u (neighbour s v e) hu hw (λ d a. let x = hop-on d (of-adaptive u (neighbour s v e) d a) in (x .0, x .1 .1)))
 
       last-by : LastFrom u v e
       last-by = test (eqb u (neighbour s v e)) (λ t. last-hop (eqb-true u (neighbour s v e) t)) (λ t. more-hops (eqb-false u (neighbour s v e) t))
@@ -115,13 +101,13 @@ module _ (s : Shape) (h : shapeError s ≡ 0) where
       one-hop t =
           let l = useful-link s u v d a in
           let o = f (opposite d) (rw t at (turned u d hu (rw (sym t) at a))) .0 in
-          (rw (sym t, neighbour-back s h u d hu l, opposite-twice d (low s h u d hu l)) at o, rw t (self-clear Adaptive v hv))
+          (rw (sym t, neighbour-back s h u d hu l, opposite-twice d (low s h u d hu l)) at o, rw t (self-clear s h sound Adaptive v hv))
 
       hop-back : (e : ℕ) → useful s v (neighbour s u d) e ≡ true → (sound u d ≡ true) × LastFrom (neighbour s u d) v e
       hop-back e b =
           let both = swap v u e d hv hu b a in
           let g = f e (both .0) in
-          let on = clear-hop Adaptive u (neighbour s v e) hu (neighbour-below s h v hv e) d (g .1) (adaptive u (neighbour s v e) d (both .1)) in
+          let on = clear-hop s h sound Adaptive u (neighbour s v e) hu (neighbour-below s h v hv e) d (g .1) (adaptive u (neighbour s v e) d (both .1)) in
           (on .0, (g .0, on .1))
 
       hops-on : (v ≡ neighbour s u d → ⊥) → (sound u d ≡ true) × (clearFrom s sound Adaptive (neighbour s u d) v ≡ true)
@@ -133,9 +119,9 @@ module _ (s : Shape) (h : shapeError s ≡ 0) where
 
     of-last : (k u v : ℕ) → u < nodeCount s → v < nodeCount s → distance s u v ≡ k → ((e : ℕ) → useful s v u e ≡ true → LastFrom u v e) → clearFrom s sound Adaptive u v ≡ true
     of-last zero u v hu hv q f =
-        clear-from Adaptive u v hu hv (λ d a. let z = useful-lowers s u v d (of-adaptive u v d a) in absurd (omega arith))
+        clear-from s h sound Adaptive u v hu hv (λ d a. let z = useful-lowers s u v d (of-adaptive u v d a) in absurd (omega arith))
     of-last (suc k) u v hu hv q f =
-        clear-from Adaptive u v hu hv
+        clear-from s h sound Adaptive u v hu hv
         (λ d a.
         let b = of-adaptive u v d a in
         let z = useful-lowers s u v d b in

@@ -1,13 +1,11 @@
 -- A clear deterministic leg by its last hop: the walk to v is the walk to the node before v and the hop from there.
-use Prim.Native.Nat.{ℕ, zero, suc, _≤_, _<_}
+use Prim.Native.Nat.{ℕ, zero, suc, _<_}
 use native.Mathlib.Omega.{arith}
 use mathlib.Core.Path.{_≡_, refl, sym, ap, _∙_}
-use mathlib.Core.Bool.{Bool, true, false, not, _&&_, and-eq-true-iff}
-use lib.Dec.{leb, eqb}
-use borrow.Author.Tests.{eqb-true, eqb-false, eq-eqb, ne-eqb}
-use Rattle.theory.proofs.Bools.{and-true}
+use mathlib.Core.Bool.{Bool, true, false, not, _&&_}
+use lib.Dec.{eqb}
+use borrow.Author.Tests.{eqb-true, eqb-false}
 use Rattle.theory.proofs.Cases.{test}
-use Rattle.theory.proofs.Clear.{same-test}
 use Rattle.shape.specs.declared.shape.Shape.{Shape}
 use Rattle.shape.specs.declared.shape.Coords.{Coords}
 use Rattle.shape.specs.declared.shape.Dim.{Dim}
@@ -18,15 +16,13 @@ use Rattle.shape.proofs.Runs.{mirror, goes-useful, Run, Onward, onward}
 use Rattle.machine.specs.declared.leg.Mode.the-variants.{Deterministic}
 use Rattle.machine.specs.Number.{nodeCount, coordsOf, Inside}
 use Rattle.machine.specs.Hop.{dirOf, opposite, distance, neighbour, useful, rule, firstDirection}
-use Rattle.machine.specs.Torus.{allowedBy}
 use Rattle.machine.specs.ByCoords.{usefulAlong, movedAt, goesAlong, firstAt}
 use Rattle.machine.proofs.Directions.{direction}
 use Rattle.machine.proofs.Numbers.{inside}
-use Rattle.machine.proofs.ByCoords.{inside-at, neighbour-below, neighbour-coords, plus-of, minus-of, first-at}
-use Rattle.machine.proofs.Laws.{useful-lowers, useful-link, distance-self, distance-zero, same-node, first-useful, low, neighbour-back}
-use Rattle.machine.proofs.Torus.{first-allowed}
+use Rattle.machine.proofs.ByCoords.{inside-at, neighbour-below, neighbour-coords, plus-of, minus-of, first-x, first-y, first-z, first-at}
+use Rattle.machine.proofs.Laws.{useful-lowers, useful-link, distance-self, distance-zero, same-node, first-useful, neighbour-back}
 use Rattle.tables.specs.Table.{clearFrom}
-use Rattle.tables.proofs.LastHop.{clear-hop, clear-from, self-clear}
+use Rattle.tables.proofs.OneHop.{self-clear, det-ahead}
 
 opposite-way : (d : Dim) (plus : Bool) → opposite (dirOf d (not plus)) ≡ dirOf d plus
 opposite-way d true = direction d false .back
@@ -45,18 +41,6 @@ module _ (s : Shape) where
   moved-dir : (c : Coords) (d : Dim) (plus : Bool) → movedAt s c (dirOf d plus) ≡ put c d (place (extentOf s d) (coordOf c d) plus)
   unfolding movedAt
   moved-dir c d plus = rw (direction d plus .dim, direction d plus .way)
-
-  first-x : (c t : Coords) → (c .x ≡ t .x → ⊥) → firstAt rule s c t ≡ dirOf X (goesAlong rule s c t X)
-  unfolding firstAt
-  first-x c t ne = rw (ne-eqb (c .x) (t .x) ne)
-
-  first-y : (c t : Coords) → c .x ≡ t .x → (c .y ≡ t .y → ⊥) → firstAt rule s c t ≡ dirOf Y (goesAlong rule s c t Y)
-  unfolding firstAt
-  first-y c t e ne = rw (eq-eqb (c .x) (t .x) e, ne-eqb (c .y) (t .y) ne)
-
-  first-z : (c t : Coords) → c .x ≡ t .x → c .y ≡ t .y → (c .z ≡ t .z → ⊥) → firstAt rule s c t ≡ dirOf Z (goesAlong rule s c t Z)
-  unfolding firstAt
-  first-z c t e f ne = rw (eq-eqb (c .x) (t .x) e, eq-eqb (c .y) (t .y) f, ne-eqb (c .z) (t .z) ne)
 
   -- On the walk to t, whose last hop goes along the dimension d.
   record On (d : Dim) (plus : Bool) (t c : Coords) : Type 0 where
@@ -84,8 +68,8 @@ module _ (s : Shape) where
         let w = ahead-in X o ne in
         record {
           dir = dirOf X plus;
-          end = first-x c t (o .run .apart) ∙ ap (dirOf X) (o .run .way);
-          short = first-x c (before X plus t) ne ∙ ap (dirOf X) (w .same);
+          end = first-x rule s c t (o .run .apart) ∙ ap (dirOf X) (o .run .way);
+          short = first-x rule s c (before X plus t) ne ∙ ap (dirOf X) (w .same);
           on = rw (moved-dir c X plus) (o .later, w .next);
         }
 
@@ -94,8 +78,8 @@ module _ (s : Shape) where
         let w = ahead-in Y o ne in
         record {
           dir = dirOf Y plus;
-          end = first-y c t e (o .run .apart) ∙ ap (dirOf Y) (o .run .way);
-          short = first-y c (before Y plus t) e ne ∙ ap (dirOf Y) (w .same);
+          end = first-y rule s c t e (o .run .apart) ∙ ap (dirOf Y) (o .run .way);
+          short = first-y rule s c (before Y plus t) e ne ∙ ap (dirOf Y) (w .same);
           on = rw (moved-dir c Y plus) (o .later, w .next);
         }
 
@@ -104,8 +88,8 @@ module _ (s : Shape) where
         let w = ahead-in Z o ne in
         record {
           dir = dirOf Z plus;
-          end = first-z c t e f (o .run .apart) ∙ ap (dirOf Z) (o .run .way);
-          short = first-z c (before Z plus t) e f ne ∙ ap (dirOf Z) (w .same);
+          end = first-z rule s c t e f (o .run .apart) ∙ ap (dirOf Z) (o .run .way);
+          short = first-z rule s c (before Z plus t) e f ne ∙ ap (dirOf Z) (w .same);
           on = rw (moved-dir c Z plus) (tt, w .next);
         }
 
@@ -113,24 +97,24 @@ module _ (s : Shape) where
     y-by-x : (o : On Y plus t c) → (c .x ≡ t .x → ⊥) → Both Y plus t c
     y-by-x o ne = record {
       dir = dirOf X (goesAlong rule s c t X);
-      end = first-x c t ne;
-      short = first-x c (before Y plus t) ne;
+      end = first-x rule s c t ne;
+      short = first-x rule s c (before Y plus t) ne;
       on = rw (moved-dir c X (goesAlong rule s c t X)) (o .later, o .run);
     }
 
     z-by-x : (o : On Z plus t c) → (c .x ≡ t .x → ⊥) → Both Z plus t c
     z-by-x o ne = record {
       dir = dirOf X (goesAlong rule s c t X);
-      end = first-x c t ne;
-      short = first-x c (before Z plus t) ne;
+      end = first-x rule s c t ne;
+      short = first-x rule s c (before Z plus t) ne;
       on = rw (moved-dir c X (goesAlong rule s c t X)) (tt, o .run);
     }
 
     z-by-y : (o : On Z plus t c) → c .x ≡ t .x → (c .y ≡ t .y → ⊥) → Both Z plus t c
     z-by-y o e ne = record {
       dir = dirOf Y (goesAlong rule s c t Y);
-      end = first-y c t e ne;
-      short = first-y c (before Z plus t) e ne;
+      end = first-y rule s c t e ne;
+      short = first-y rule s c (before Z plus t) e ne;
       on = rw (moved-dir c Y (goesAlong rule s c t Y)) (tt, o .run);
     }
 
@@ -152,30 +136,16 @@ module _ (s : Shape) where
 
   -- At the place before t the walk goes along that dimension.
   last-first : (d : Dim) (plus : Bool) (t : Coords) → On d plus t (before d plus t) → firstAt rule s (before d plus t) t ≡ dirOf d plus
-  last-first X plus t o = first-x (before X plus t) t (o .run .apart) ∙ ap (dirOf X) (o .run .way)
-  last-first Y plus t o = first-y (before Y plus t) t refl (o .run .apart) ∙ ap (dirOf Y) (o .run .way)
-  last-first Z plus t o = first-z (before Z plus t) t refl refl (o .run .apart) ∙ ap (dirOf Z) (o .run .way)
+  last-first X plus t o = first-x rule s (before X plus t) t (o .run .apart) ∙ ap (dirOf X) (o .run .way)
+  last-first Y plus t o = first-y rule s (before Y plus t) t refl (o .run .apart) ∙ ap (dirOf Y) (o .run .way)
+  last-first Z plus t o = first-z rule s (before Z plus t) t refl refl (o .run .apart) ∙ ap (dirOf Z) (o .run .way)
 
 swap-and : (a b c : Bool) → (a && (b && c)) ≡ (b && (a && c))
 swap-and true b c = refl
 swap-and false true c = refl
 swap-and false false c = refl
 
-allowed-first : (s : Shape) (u v d : ℕ) → allowedBy rule Deterministic s u v d ≡ true → d ≡ firstDirection rule s u v
-unfolding allowedBy
-allowed-first s u v d a = eqb-true d _ (and-true (leb d 5) _ a .1)
-
 module _ (s : Shape) (h : shapeError s ≡ 0) (sound : ℕ → ℕ → Bool) where
-  det-ahead :
-      (u v : ℕ) → u < nodeCount s → v < nodeCount s → (u ≡ v → ⊥) →
-      clearFrom s sound Deterministic u v ≡ (sound u (firstDirection rule s u v) && clearFrom s sound Deterministic (neighbour s u (firstDirection rule s u v)) v)
-  det-ahead u v hu hv ne =
-      let b = first-useful s h u v hu hv rule ne in
-      let l = low s h u (firstDirection rule s u v) hu (useful-link s u v (firstDirection rule s u v) b) in
-      same-test _ _
-      (λ c. and-eq-true-iff _ _ .1 (clear-hop s h sound Deterministic u v hu hv (firstDirection rule s u v) c (first-allowed s h u v hu hv rule l)))
-      (λ c. clear-from s h sound Deterministic u v hu hv (λ d a. rw (allowed-first s u v d a) (and-eq-true-iff _ _ .0 c)))
-
   -- v, the dimension d and the way along it of the walk's last hop, and the node w before v.
   module _ (d : Dim) (plus : Bool) (v w : ℕ) (hv : v < nodeCount s) (hw : w < nodeCount s) (at : coordsOf s w ≡ before s d plus (coordsOf s v)) (to : neighbour s w (dirOf d plus) ≡ v) where
     abbrev OnWay : ℕ → Type 0
@@ -187,7 +157,7 @@ module _ (s : Shape) (h : shapeError s ≡ 0) (sound : ℕ → ℕ → Bool) whe
     last-hop : OnWay w → clearFrom s sound Deterministic w v ≡ (sound w (dirOf d plus) && clearFrom s sound Deterministic w w)
     last-hop o =
         let f : firstDirection rule s w v ≡ dirOf d plus = first-at s h w hw v rule ∙ rw at (last-first s d plus (coordsOf s v) (rw at at o)) in
-        det-ahead w v hw hv (apart w o) ∙ rw (f, to, self-clear s h sound Deterministic v hv, self-clear s h sound Deterministic w hw)
+        det-ahead s h sound w v hw hv (apart w o) ∙ rw (f, to, self-clear s h sound Deterministic v hv, self-clear s h sound Deterministic w hw)
 
     walk : (k u : ℕ) → u < nodeCount s → distance s u w ≡ k → OnWay u → clearFrom s sound Deterministic u v ≡ (sound w (dirOf d plus) && clearFrom s sound Deterministic u w)
     walk zero u hu q o = let e = distance-zero s h u w hu hw q in rw e (last-hop (rw e at o))
@@ -202,8 +172,8 @@ module _ (s : Shape) (h : shapeError s ≡ 0) (sound : ℕ → ℕ → Bool) whe
         let z = useful-lowers s u w x (rw fw at (first-useful s h u w hu hw rule ne)) in
         let on : OnWay (neighbour s u x) = record { within = inside s h (neighbour s u x) hx; later = rw m (b .on .0); run = rw m (b .on .1) } in
         let rest = walk k (neighbour s u x) hx (omega arith) on in
-        let av = det-ahead u v hu hv (apart u o) in
-        let aw = det-ahead u w hu hw ne in
+        let av = det-ahead s h sound u v hu hv (apart u o) in
+        let aw = det-ahead s h sound u w hu hw ne in
         rw fv at av ∙ rw rest (swap-and (sound u x) (sound w (dirOf d plus)) (clearFrom s sound Deterministic (neighbour s u x) w)) ∙ ap (λ c. sound w (dirOf d plus) && c) (sym (rw fw at aw))
 
   -- The hop back along a dimension where the coordinates differ, and the walk's own hop there.

@@ -3,6 +3,7 @@ pub mod Visits
 pub mod Cells
 pub mod Numbering
 pub mod Filling
+pub mod OneHop
 pub mod FirstCells
 pub mod LastHop
 pub mod LastRun

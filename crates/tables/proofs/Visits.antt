@@ -1,7 +1,7 @@
 -- The order in which the nodes are visited from a centre: by the numbers that their visit numbers would have as coordinates. Each node is visited once, and
 -- after the nodes to which a useful hop toward the centre leads. The visit may be bounded to the lower numbers of each dimension.
 use Prim.Native.Nat.{ℕ, suc, _+_, _*_, _/_, _≤_, _<_}
-use mathlib.Core.Bool.{Bool, true}
+use mathlib.Core.Bool.{true}
 use mathlib.Core.Path.{_≡_, refl, sym, ap, _∙_}
 use native.Mathlib.Nat.{mul-le-mul-left, mul-suc, mul-add, mod-lt}
 use native.Mathlib.Omega.{arith}
@@ -16,10 +16,9 @@ use Rattle.shape.specs.declared.shape.Dim.the-variants.{X, Y, Z}
 use Rattle.shape.specs.Shape.{shapeError, extentOf, coordOf, wrappedIn, put}
 use Rattle.shape.specs.Axis.{place}
 use Rattle.shape.proofs.Shapes.{sound}
-use Rattle.shape.proofs.AxisLaws.{place-below}
 use Rattle.machine.specs.Number.{nodeCount, numberOf, coordsOf, Inside}
 use Rattle.machine.specs.Hop.{dirDim, dirPlus, neighbour, useful}
-use Rattle.machine.specs.ByCoords.{movedAlong, movedAt, usefulAt}
+use Rattle.machine.specs.ByCoords.{movedAt, usefulAt}
 use Rattle.machine.proofs.Numbers.{number-below, coords-number, number-coords, inside, low-digit, high-digit}
 use Rattle.machine.proofs.ByCoords.{inside-at, neighbour-below, neighbour-coords, useful-at}
 use Rattle.tables.specs.Visit.{plusSide, further, visitedPlace, visitIn, visitsOf, Bounds}
@@ -47,11 +46,6 @@ nodeVisit s B t n = numberOf B (visitsOf s (coordsOf s t) (coordsOf s n))
 pub node-at : (s B : Shape) (t m : ℕ) → nodeAt s B t m ≡ numberOf s (placed s (coordsOf s t) (coordsOf B m))
 unfolding nodeAt
 node-at s B t m = refl
-
-pub inside-along : (s : Shape) (c : Coords) → Inside s c → (d : Dim) (plus : Bool) → Inside s (movedAlong s c d plus)
-inside-along s c i X plus = record { x = place-below (s .x) (c .x) plus (i .x); y = i .y; z = i .z }
-inside-along s c i Y plus = record { x = i .x; y = place-below (s .y) (c .y) plus (i .y); z = i .z }
-inside-along s c i Z plus = record { x = i .x; y = i .y; z = place-below (s .z) (c .z) plus (i .z) }
 
 -- A lower coordinate makes a lower number.
 number-put : (s : Shape) (c : Coords) (d : Dim) (v : ℕ) → 1 ≤ s .x → 1 ≤ s .y → v < coordOf c d → numberOf s (put c d v) < numberOf s c

@@ -1,23 +1,20 @@
-use Rattle.routes.proofs.Lookups.{refused, said}
-use Rattle.routes.specs.Steps.{orDirect}
-use Rattle.choice.specs.Choice.{routeOf}
-use Rattle.routes.specs.Said.{told}
-use Rattle.routes.specs.Lookup.{lookupError}
-use Rattle.routes.specs.declared.route.Found.the-variants.{At, Missing}
-use denote.Ref.{now}
-use mathlib.Core.Path.{_≡_, sym, _∙_}
+use mathlib.Core.Path.{sym, _∙_}
+use Rattle.routes.proofs.Lookups.{refused, said-found, said-direct}
 use borrow.Author.Needs.{needs}
 use Rattle.routes.proofs.route.route.Statement.{statement}
 use Rattle.routes.proofs.route.route.Tie as tie
-
-look-ok : (c : tie.Else1) → let a = c .before .before .before .before .args in lookupError (now (a .plan)) (now (a .sheet)) (a .dest) ≡ 0
-look-ok c = sym (c .before .lookup-error .ensures) ∙ c .if1 .left
 
 lookup-error-requires : tie.Need-lookup-error-requires
 lookup-error-requires c κs = search needs
 
 returns : tie.Need-returns
 returns c = refused _ _ _ _ (c .before .lookup-error .ensures) (c .if1 .taken)
+
+shape-in-requires : tie.Need-shape-in-requires
+shape-in-requires c κs = search needs
+
+source-in-requires : tie.Need-source-in-requires
+source-in-requires c κs = search needs
 
 found-in-requires : tie.Need-found-in-requires
 found-in-requires c κs = search needs
@@ -28,20 +25,23 @@ enum-known-found c = search needs
 enum-told : tie.Need-enum-told
 enum-told c = search needs
 
-returns-2 : tie.Need-returns-2
-unfolding told routeOf orDirect
-returns-2 c =
-    let f = c .before .before in
-    said _ _ _ (look-ok (f .before)) Missing (sym (c .enum-told .given .1) ∙ f .found-in .ensures)
+distance-requires : tie.Need-distance-requires
+distance-requires c κs = search needs
 
-route-by-requires : tie.Need-route-by-requires
-route-by-requires c κs = search needs
+cast-length : tie.Need-cast-length
+cast-length c = search needs
+
+returns-2 : tie.Need-returns-2
+returns-2 c = rw (c .distance .ensures .0, c .before .before .before .before .before .shape-in .ensures, c .before .before .before .before .source-in .ensures) (said-direct _ _ _ (sym (c .before .before .before .before .before .before .before .lookup-error .ensures) ∙ c .before .before .before .before .before .before .if1 .left) (sym (c .before .enum-told .given .1) ∙ c .before .before .before .found-in .ensures))
+
+length-by-requires : tie.Need-length-by-requires
+length-by-requires c κs = search needs
+
+outcome-by-requires : tie.Need-outcome-by-requires
+outcome-by-requires c κs = search needs
 
 returns-3 : tie.Need-returns-3
-unfolding orDirect
-returns-3 c =
-    let f = c .before .before .before .before in
-    c .route-by .ensures ∙ said _ _ _ (look-ok (f .before)) (At _) (sym (c .before .before .found .given .1) ∙ f .found-in .ensures)
+returns-3 c = rw (c .outcome-by .ensures, c .before .length-by .ensures, c .before .before .before .before .before .before .before .shape-in .ensures, c .before .before .before .before .before .before .source-in .ensures) (said-found _ _ _ (sym (c .before .before .before .before .before .before .before .before .before .lookup-error .ensures) ∙ c .before .before .before .before .before .before .before .before .if1 .left) _ (sym (c .before .before .before .found .given .1) ∙ c .before .before .before .before .before .found-in .ensures))
 
 pub route-spec : {M : Type 1} → statement M
 route-spec =
@@ -49,9 +49,14 @@ route-spec =
     (tie.spec
     lookup-error-requires
     returns
+    shape-in-requires
+    source-in-requires
     found-in-requires
     enum-known-found
     enum-told
+    distance-requires
+    cast-length
     returns-2
-    route-by-requires
+    length-by-requires
+    outcome-by-requires
     returns-3)
