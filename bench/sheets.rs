@@ -104,7 +104,7 @@ fn least(times: usize, mut f: impl FnMut() -> f64) -> f64 {
 fn pair_times(plan: &[u8], random: &mut Random) -> (f64, f64) {
     let pairs: Vec<(u16, u16)> = (0..200).map(|_| (random.below(NODES) as u16, random.below(NODES) as u16)).collect();
     let ours = |s: u16, d: u16| unsafe { nafthurm_pair(plan.as_ptr(), plan.len(), s, d) };
-    let plain = |s: u16, d: u16| fast::pair(plan, s as usize, d as usize);
+    let plain = |s: u16, d: u16| fast::pair(plan, s as usize, d as usize) as u16;
     assert!(pairs.iter().all(|&(s, d)| ours(s, d) == plain(s, d)), "the lengths differ");
     let time = |f: &dyn Fn(u16, u16) -> u16| {
         least(5, || {

@@ -21,6 +21,7 @@ use Rattle.machine.specs.Node.{isNode, arePair, distanceAnswer}
 use Rattle.machine.specs.Torus.{leg}
 use Rattle.machine.proofs.Nodes.{node-of}
 use Rattle.plan.specs.Layout.{shapeOf}
+use Rattle.plan.specs.Checks.{Limits}
 use Rattle.packet.specs.declared.route.Route.{Route}
 use Rattle.choice.specs.declared.outcome.Outcome.{Outcome}
 use Rattle.choice.specs.Answer.{Given, answered}
@@ -28,7 +29,7 @@ use Rattle.choice.specs.Outcome.{told}
 use Rattle.routes.specs.declared.layout.Entry.{Entry}
 use Rattle.routes.specs.declared.route.Found.{Found}
 use Rattle.routes.specs.declared.route.Found.the-variants.{At, Missing}
-use Rattle.routes.specs.Layout.{source, entryCount, entryAt, entriesOf}
+use Rattle.routes.specs.Layout.{Format, formatOf, source, entryCount, entriesAt, entrySize, entryAt, entriesOf}
 use Rattle.routes.specs.Kinds.{viaKind}
 use Rattle.routes.specs.Checks.{entryGood, routesGood, sheetError}
 use Rattle.routes.specs.Said.{saidBy, toldAs}
@@ -38,30 +39,30 @@ use Rattle.routes.specs.Steps.{pickFound, foundIn, orDirect, lengthBy}
 use Rattle.routes.proofs.Sheets.{Accepted, accepted}
 use Rattle.routes.proofs.Rising.{good-entry, each-good}
 
-module _ (p s : List ℕ) (d : ℕ) where
-  pub looked-up : lookupError p s d ≡ 0 → Accepted p s
+module _ (L : Limits) (p s : List ℕ) (d : ℕ) where
+  pub looked-up : lookupError L p s d ≡ 0 → Accepted L p s
   unfolding lookupError
-  looked-up h = accepted p s (then-zero (sheetError p s) _ h .0)
+  looked-up h = accepted L p s (then-zero (sheetError L p s) _ h .0)
 
-  pub declined-not-listed : (lookupError p s d ≡ 0 → ⊥) → isListed p s d ≡ false
+  pub declined-not-listed : (lookupError L p s d ≡ 0 → ⊥) → isListed L p s d ≡ false
   unfolding isListed
-  declined-not-listed h = rw (ne-eqb (lookupError p s d) 0 h)
+  declined-not-listed h = rw (ne-eqb (lookupError L p s d) 0 h)
 
-  pub not-listed : lookupError p s d ≡ 0 → entryCount s ≤ find (entriesOf s) d → isListed p s d ≡ false
+  pub not-listed : lookupError L p s d ≡ 0 → entryCount s ≤ find (entriesOf s) d → isListed L p s d ≡ false
   unfolding isListed
-  not-listed h k = rw (eq-eqb (lookupError p s d) 0 h, le-ltb (find (entriesOf s) d) (entryCount s) k)
+  not-listed h k = rw (eq-eqb (lookupError L p s d) 0 h, le-ltb (find (entriesOf s) d) (entryCount s) k)
 
-  pub listed : lookupError p s d ≡ 0 → find (entriesOf s) d < entryCount s → isListed p s d ≡ true
+  pub listed : lookupError L p s d ≡ 0 → find (entriesOf s) d < entryCount s → isListed L p s d ≡ true
   unfolding isListed
-  listed h k = rw (eq-eqb (lookupError p s d) 0 h, lt-ltb (find (entriesOf s) d) (entryCount s) k)
+  listed h k = rw (eq-eqb (lookupError L p s d) 0 h, lt-ltb (find (entriesOf s) d) (entryCount s) k)
 
 -- The part.
-module _ (p : List ℕ) (s r : RefT (List ℕ)) (d : ℕ) where
-  pub empty-part : isListed p (now s) d ≡ false → PartOf s r 0 0 → PartOf s r (partStart p (now s) d) (partLength p (now s) d)
+module _ (L : Limits) (p : List ℕ) (s r : RefT (List ℕ)) (d : ℕ) where
+  pub empty-part : isListed L p (now s) d ≡ false → PartOf s r 0 0 → PartOf s r (partStart L p (now s) d) (partLength L p (now s) d)
   unfolding partStart partLength
   empty-part h k = rw h k
 
-  pub entry-part : isListed p (now s) d ≡ true → PartOf s r (7 + 5 * find (entriesOf (now s)) d) 5 → PartOf s r (partStart p (now s) d) (partLength p (now s) d)
+  pub entry-part : isListed L p (now s) d ≡ true → PartOf s r (entriesAt + entrySize (formatOf (now s)) * find (entriesOf (now s)) d) (entrySize (formatOf (now s))) → PartOf s r (partStart L p (now s) d) (partLength L p (now s) d)
   unfolding partStart partLength
   entry-part h k = rw h k
 
@@ -122,9 +123,9 @@ module _ (m : Shape) (S : ℕ) (source : isNode m S ≡ true) where
   told-with d (suc (suc (suc (suc (suc zero))))) v hd hv = ap (λ n. Outcome.Given (Route.Via v Deterministic Deterministic) n) (two-legs v d hv hd)
   told-with d (suc (suc (suc (suc (suc (suc k)))))) v hd hv = refl
 
-  told-good : (e : Entry) → entryGood m S e ≡ true → toldAs (lengthBy m S e) (saidBy e) ≡ told m S (saidBy e)
-  told-good e h =
-      let g = good-entry m S e h in
+  told-good : (F : Format) (e : Entry) → entryGood F m S e ≡ true → toldAs (lengthBy m S e) (saidBy e) ≡ told m S (saidBy e)
+  told-good F e h =
+      let g = good-entry F m S e h in
       told-with (e .dest) (e .kind) (e .via) (is-node m S source (e .dest) (g .dest)) (is-node m S source (e .via) (g .via))
 
   told-direct : (d : ℕ) → isNode m d ≡ true → Outcome.Given (Route.Direct Adaptive) (distanceAnswer m S d) ≡ told m S (Given (leg d Adaptive ∷ []))
@@ -132,12 +133,12 @@ module _ (m : Shape) (S : ℕ) (source : isNode m S ≡ true) where
   told-direct d h = ap (λ n. Outcome.Given (Route.Direct Adaptive) n) (one-leg d h)
 
 -- What is found is good.
-abbrev FoundGood : Shape → ℕ → Found → Type 0
-FoundGood m S (At e) = entryGood m S e ≡ true
-FoundGood m S Missing = Unit {0}
+abbrev FoundGood : Format → Shape → ℕ → Found → Type 0
+FoundGood F m S (At e) = entryGood F m S e ≡ true
+FoundGood F m S Missing = Unit {0}
 
-module _ (p s : List ℕ) (d : ℕ) where
-  pub refused : (e : ℕ) → e ≡ lookupError p s d → (e ≡ 0 → ⊥) → Outcome.Refused e ≡ told (shapeOf p) (source s) (says p s d)
+module _ (L : Limits) (p s : List ℕ) (d : ℕ) where
+  pub refused : (e : ℕ) → e ≡ lookupError L p s d → (e ≡ 0 → ⊥) → Outcome.Refused e ≡ told (shapeOf p) (source s) (says L p s d)
   unfolding says told answered
   refused e h n = rw (← h) (go e n)
     where
@@ -145,7 +146,7 @@ module _ (p s : List ℕ) (d : ℕ) where
       go zero n = absurd (n refl)
       go (suc k) n = refl
 
-  module _ (h : lookupError p s d ≡ 0) where
+  module _ (h : lookupError L p s d ≡ 0) where
     abbrev m : Shape
     m = shapeOf p
 
@@ -154,31 +155,31 @@ module _ (p s : List ℕ) (d : ℕ) where
 
     source-node : isNode m S ≡ true
     unfolding routesGood
-    source-node = and-true (isNode m S) _ (looked-up p s d h .routes) .0
+    source-node = and-true (isNode m S) _ (looked-up L p s d h .routes) .0
 
     dest-node : isNode m d ≡ true
     unfolding lookupError
-    dest-node = not-false _ (declined-zero (not (isNode m d)) _ (then-zero (sheetError p s) _ h .1))
+    dest-node = not-false _ (declined-zero (not (isNode m d)) _ (then-zero (sheetError L p s) _ h .1))
 
-    found-good : (f : Found) → f ≡ foundIn s d → FoundGood m S f
+    found-good : (f : Found) → f ≡ foundIn s d → FoundGood (formatOf s) m S f
     unfolding foundIn routesGood entriesOf
     found-good f e = rw e (go (ltb i (entryCount s)) refl)
       where
         i : ℕ
         i = find (entriesOf s) d
 
-        go : (b : Bool) → ltb i (entryCount s) ≡ b → FoundGood m S (pickFound b (At (entryAt s i)) Missing)
-        go true t = each-good m S (entryAt s) (entryCount s) 0 0 (and-true (isNode m S) _ (looked-up p s d h .routes) .1) i (omega arith) (omega (arith, ltb-true i (entryCount s) t))
+        go : (b : Bool) → ltb i (entryCount s) ≡ b → FoundGood (formatOf s) m S (pickFound b (At (entryAt s i)) Missing)
+        go true t = each-good (formatOf s) m S (entryAt s) (entryCount s) 0 0 (and-true (isNode m S) _ (looked-up L p s d h .routes) .1) i (omega arith) (omega (arith, ltb-true i (entryCount s) t))
         go false t = tt
 
-    said : (f : Found) → f ≡ foundIn s d → orDirect d f ≡ says p s d
+    said : (f : Found) → f ≡ foundIn s d → orDirect d f ≡ says L p s d
     unfolding says answered
     said f e = rw (h, e, found-as s d)
 
-    pub said-found : (e : Entry) → At e ≡ foundIn s d → toldAs (lengthBy m S e) (saidBy e) ≡ told m S (says p s d)
+    pub said-found : (e : Entry) → At e ≡ foundIn s d → toldAs (lengthBy m S e) (saidBy e) ≡ told m S (says L p s d)
     unfolding orDirect
-    said-found e q = told-good m S source-node e (found-good (At e) q) ∙ ap (told m S) (said (At e) q)
+    said-found e q = told-good m S source-node (formatOf s) e (found-good (At e) q) ∙ ap (told m S) (said (At e) q)
 
-    pub said-direct : Missing ≡ foundIn s d → Outcome.Given (Route.Direct Adaptive) (distanceAnswer m S d) ≡ told m S (says p s d)
+    pub said-direct : Missing ≡ foundIn s d → Outcome.Given (Route.Direct Adaptive) (distanceAnswer m S d) ≡ told m S (says L p s d)
     unfolding orDirect
     said-direct q = told-direct m S source-node d dest-node ∙ ap (told m S) (said Missing q)
