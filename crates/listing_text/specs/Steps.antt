@@ -6,13 +6,12 @@ use mathlib.Core.List.{List, [], _∷_, _++_}
 use lib.ListN.{length, getD, set}
 use lib.Dec.{ltb}
 use Rattle.shape.specs.declared.shape.Shape.{Shape}
-use Rattle.machine.specs.declared.leg.Mode.the-variants.{Adaptive}
 use Rattle.machine.specs.Node.{countAnswer}
 use Rattle.plan.specs.Layout.{shapeOf, faultCount}
-use Rattle.planner.specs.declared.outcome.Outcome.{Outcome}
-use Rattle.planner.specs.Dest.{outcomeTo}
-use Rattle.choice.specs.Choice.{Direct, Via}
-use Rattle.routes.specs.Kinds.{kindOf}
+use Rattle.packet.specs.declared.route.Route.{Route}
+use Rattle.choice.specs.declared.outcome.Outcome.{Outcome}
+use Rattle.routes.specs.Said.{entryFor, heard}
+use Rattle.planner.specs.OneDestination.{outcomeTo}
 use Rattle.listing_text.specs.declared.field.Field.{Field}
 use Rattle.listing_text.specs.declared.field.Field.the-variants.{Number, Dash}
 use Rattle.listing_text.specs.declared.writing.Head.{Head}
@@ -33,19 +32,20 @@ unfoldable pub fieldText : Field → List ℕ
 fieldText (Number n) = decimal n
 fieldText Dash = dash
 
-unfoldable pub kindIn : Outcome → ℕ
-kindIn (Outcome.Direct m len) = kindOf (Direct m)
-kindIn (Outcome.Via v m n len) = kindOf (Via v m n)
-kindIn (Outcome.Refused e) = e
+-- The kind as in the entry of a sheet.
+abbrev pub kindIn : Outcome → ℕ
+kindIn o = entryFor 0 (heard 0 o) .kind
 
-unfoldable pub viaIn : Outcome → Field
-viaIn (Outcome.Direct m len) = Dash
-viaIn (Outcome.Via v m n len) = Number v
+abbrev pub viaBy : Route → Field
+viaBy (Route.Direct m) = Dash
+viaBy (Route.Via v m n) = Number v
+
+abbrev pub viaIn : Outcome → Field
+viaIn (Outcome.Given r len) = viaBy r
 viaIn (Outcome.Refused e) = Dash
 
-unfoldable pub lengthIn : Outcome → Field
-lengthIn (Outcome.Direct m len) = Number len
-lengthIn (Outcome.Via v m n len) = Number len
+abbrev pub lengthIn : Outcome → Field
+lengthIn (Outcome.Given r len) = Number len
 lengthIn (Outcome.Refused e) = Dash
 
 unfoldable pub outcomeLine : ℕ → Outcome → List ℕ
@@ -53,11 +53,11 @@ outcomeLine D o = line (decimal D ∷ decimal (kindIn o) ∷ fieldText (viaIn o)
 
 -- What an array of outcomes holds of no destination.
 abbrev pub noOutcome : Outcome
-noOutcome = Outcome.Direct Adaptive 0
+noOutcome = Outcome.Refused 0
 
 -- The outcomes of the first n destinations, and nothing past them. masks, dead: the dead links and nodes. from: the legs from the source.
-abbrev pub Planned : Shape → List ℕ → List ℕ → List ℕ → ℕ → ℕ → List Outcome → Type 0
-Planned s masks dead from S n os = (k : ℕ) → getD os k noOutcome ≡ cond (ltb k n) (outcomeTo s masks dead from S k) noOutcome
+abbrev pub Filled : Shape → List ℕ → List ℕ → List ℕ → ℕ → ℕ → List Outcome → Type 0
+Filled s masks dead from S n os = (k : ℕ) → getD os k noOutcome ≡ cond (ltb k n) (outcomeTo s masks dead from S k) noOutcome
 
 unfoldable pub outcomeLines : List Outcome → ℕ → List ℕ
 outcomeLines os zero = []

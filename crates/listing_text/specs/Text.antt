@@ -1,14 +1,18 @@
--- 'The listing program': its text, for its input.
+-- 'The listing program': its text, for its input. It is a program of the large caller.
 use Prim.Native.Nat.{ℕ, zero, suc}
 use mathlib.Core.List.{List, [], _∷_, _++_}
 use lib.ListN.{length, drop}
 use lib.Dec.{ltb}
+use Rattle.numbers.specs.Numbers.{planShort}
 use Rattle.theory.specs.Checks.{declined, _then_}
 use Rattle.sheet.specs.Bytes.{word}
+use Rattle.shape.specs.declared.shape.Shape.{Shape}
 use Rattle.machine.specs.Number.{nodeCount}
 use Rattle.plan.specs.Layout.{shapeOf, faultCount}
-use Rattle.choice.specs.Choice.{Direct, Via}
-use Rattle.choice.specs.Pair.{Answer, Route, Refused, pair}
+use Rattle.plan.specs.Checks.{large}
+use Rattle.choice.specs.Choice.{viasOf, lengthOf}
+use Rattle.choice.specs.Answer.{Answer, Given, Refused}
+use Rattle.choice.specs.Pair.{pair}
 use Rattle.routes.specs.Kinds.{kindOf}
 use Rattle.planner.specs.Sheet.{sourceError}
 use Rattle.listing_text.specs.Decimal.{decimal}
@@ -22,7 +26,7 @@ planIn i = drop 2 i
 
 -- After 1 to 8 the source is checked for 9, then 10. Under two bytes is 1.
 unfoldable pub listingError : List ℕ → ℕ
-listingError i = declined (ltb (length i) 2) 1 then sourceError (planIn i) (sourceIn i)
+listingError i = declined (ltb (length i) 2) planShort then sourceError large (planIn i) (sourceIn i)
 
 -- The bytes of a blank, of the newline that ends a line, and of `-`.
 abbrev pub blank : ℕ
@@ -46,28 +50,31 @@ headLine S nodes faults = line (decimal S ∷ decimal nodes ∷ decimal faults �
 
 -- Kind (0 for direct adaptive).
 unfoldable pub kindText : Answer → List ℕ
-kindText (Route c len) = decimal (kindOf c)
+kindText (Given c) = decimal (kindOf c)
 kindText (Refused e) = decimal e
 
 -- Via or `-` (kinds 0, 1, 10, 11).
+abbrev pub viasText : List ℕ → List ℕ
+viasText [] = dash
+viasText (v ∷ vs) = decimal v
+
 unfoldable pub viaText : Answer → List ℕ
-viaText (Route (Direct m) len) = dash
-viaText (Route (Via v m n) len) = decimal v
+viaText (Given c) = viasText (viasOf c)
 viaText (Refused e) = dash
 
--- Length or `-` (kinds 10 and 11).
-unfoldable pub lengthText : Answer → List ℕ
-lengthText (Route c len) = decimal len
-lengthText (Refused e) = dash
+-- Length, from the source S, or `-` (kinds 10 and 11).
+unfoldable pub lengthText : Shape → ℕ → Answer → List ℕ
+lengthText s S (Given c) = decimal (lengthOf s S c)
+lengthText s S (Refused e) = dash
 
 -- The line of the destination D, for which planning answers a.
-unfoldable pub destLine : ℕ → Answer → List ℕ
-destLine D a = line (decimal D ∷ kindText a ∷ viaText a ∷ lengthText a ∷ [])
+unfoldable pub destLine : Shape → ℕ → ℕ → Answer → List ℕ
+destLine s S D a = line (decimal D ∷ kindText a ∷ viaText a ∷ lengthText s S a ∷ [])
 
 -- A line for each node below n in rising order, the source included.
 unfoldable pub destLines : List ℕ → ℕ → ℕ → List ℕ
 destLines p S zero = []
-destLines p S (suc n) = destLines p S n ++ destLine n (pair p S n)
+destLines p S (suc n) = destLines p S n ++ destLine (shapeOf p) S n (pair large p S n)
 
 -- A refusal is the one line `refused` and the number.
 abbrev pub refusedWord : List ℕ

@@ -1,4 +1,5 @@
 // The checks of a listing; 0 where none declines.
+use numbers::PLAN_SHORT;
 use planner::sheets::source_error;
 use sheet::word_at;
 ghost use mathlib.Core.Path.{_≡_};
@@ -15,7 +16,7 @@ pub fn listing_error(input: &[u8]) -> u8
     ensures { λ r. ⌜ r ≡ listingError (now (input .entry)) ⌝ }
 {
     if input.len() < 2 {
-        return 1;
+        return PLAN_SHORT;
     }
     source_error(&input[2..], source_in(input))
 }

@@ -3,11 +3,11 @@ mod checks;
 mod decimal;
 mod field;
 mod header;
-pub mod input;
+mod input;
 mod line;
 mod outcomes;
 mod refusal;
-pub mod writing;
+mod writing;
 
 pub use input::INPUT_BYTES;
 pub use input::TEXT_BYTES;

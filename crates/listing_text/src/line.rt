@@ -1,28 +1,26 @@
 // The line of a destination: its number, then the kind, the via and the length of what planning answers for it.
 use crate::field::Field;
 use crate::field::put_field;
+use choice::Outcome;
 use packet::Route;
-use planner::outcome::Outcome;
 use routes::kinds::entry_for;
 ghost use mathlib.Core.Path.{_≡_};
 ghost use Prim.Native.Nat.{_+_, _≤_};
-ghost use Rattle.routes.specs.Said.{entryFor, heard};
-ghost use Rattle.listing_text.specs.Steps.{Put, kindIn, viaIn, lengthIn, outcomeLine};
-
-fn route_kind(route: Route) -> u8
-    ensures { λ r. ⌜ r ≡ entryFor 0 (heard route) .kind ⌝ }
-{
-    let entry = entry_for(0, route);
-    entry.kind
-}
+ghost use Rattle.listing_text.specs.Steps.{Put, kindIn, viaBy, viaIn, lengthIn, outcomeLine};
 
 fn kind_of(outcome: Outcome) -> u8
     ensures { λ r. ⌜ r ≡ kindIn outcome ⌝ }
 {
-    match outcome {
-        Outcome::Direct(mode, _) => route_kind(Route::Direct(mode)),
-        Outcome::Via(via, first, second, _) => route_kind(Route::Via(via, first, second)),
-        Outcome::Refused(number) => number,
+    let entry = entry_for(0, outcome);
+    entry.kind
+}
+
+fn via_by(route: Route) -> Field
+    ensures { λ r. ⌜ r ≡ viaBy route ⌝ }
+{
+    match route {
+        Route::Direct(_) => Field::Dash,
+        Route::Via(via, _, _) => Field::Number(via),
     }
 }
 
@@ -30,8 +28,7 @@ fn via_of(outcome: Outcome) -> Field
     ensures { λ r. ⌜ r ≡ viaIn outcome ⌝ }
 {
     match outcome {
-        Outcome::Direct(_, _) => Field::Dash,
-        Outcome::Via(via, _, _, _) => Field::Number(via),
+        Outcome::Given(route, _) => via_by(route),
         Outcome::Refused(_) => Field::Dash,
     }
 }
@@ -40,8 +37,7 @@ fn length_of(outcome: Outcome) -> Field
     ensures { λ r. ⌜ r ≡ lengthIn outcome ⌝ }
 {
     match outcome {
-        Outcome::Direct(_, length) => Field::Number(length as u16),
-        Outcome::Via(_, _, _, length) => Field::Number(length as u16),
+        Outcome::Given(_, length) => Field::Number(length),
         Outcome::Refused(_) => Field::Dash,
     }
 }

@@ -5,10 +5,11 @@ use crate::header::put_header;
 use crate::line::put_line;
 use crate::outcomes::outcomes_from;
 use crate::refusal::put_refusal;
+use choice::Outcome;
 use machine::node::count;
+use numbers::OUTPUT_SHORT;
 use plan::layout::count_in;
 use plan::layout::shape_in;
-use planner::outcome::Outcome;
 use sheet::output::Written;
 ghost use mathlib.Core.Path.{_≡_};
 ghost use Prim.Native.Nat.{_≤_};
@@ -65,7 +66,7 @@ fn write_text(out: &mut [u8], head: Head, outcomes: [Outcome; 4096]) -> Written
     let mut none = [0u8; 0];
     let size = put_text(&mut none, head, outcomes);
     if out.len() < size {
-        return Written::Refused(12);
+        return Written::Refused(OUTPUT_SHORT);
     }
     Written::Bytes(put_text(out, head, outcomes))
 }
@@ -77,7 +78,7 @@ fn write_refusal(out: &mut [u8], number: u8) -> Written
     let mut none = [0u8; 0];
     let size = put_refusal(&mut none, number);
     if out.len() < size {
-        return Written::Refused(12);
+        return Written::Refused(OUTPUT_SHORT);
     }
     Written::Bytes(put_refusal(out, number))
 }

@@ -2,7 +2,7 @@ pub mod Sheets
 pub mod Entries
 pub mod Finding
 pub mod Lookups
-pub mod Encoding
+pub mod Forms
 pub mod Writings
 pub mod Rising
 pub mod Listed

@@ -11,10 +11,10 @@ use Rattle.machine.specs.declared.leg.Mode.the-variants.{Adaptive}
 use Rattle.machine.specs.Node.{isNode}
 use Rattle.machine.specs.Torus.{leg}
 use Rattle.plan.specs.Layout.{shapeOf}
-use Rattle.plan.specs.Checks.{large, planError}
+use Rattle.plan.specs.Checks.{Limits, planError}
 use Rattle.choice.specs.Answer.{Given, answered}
 use Rattle.routes.specs.declared.layout.Entry.{Entry}
-use Rattle.routes.specs.Layout.{noEntry}
+use Rattle.routes.specs.Layout.{written, noEntry}
 use Rattle.routes.specs.Checks.{routesGood, sheetError}
 use Rattle.routes.specs.Said.{saidBy}
 use Rattle.routes.specs.Lookup.{find, lookupError}
@@ -67,16 +67,16 @@ find-unlisted (x ∷ es) d h =
     later x es d (h x (List·Memᴰ·head refl)) ∙ omega (arith, find-unlisted es d (λ e t. h e (List·Memᴰ·tail t)))
 
 -- The sheet of good routes is accepted, and says what its entries say.
-module _ (p : List ℕ) (S : ℕ) (es : List Entry) (plan : planError large p ≡ 0) (good : routesGood (shapeOf p) S es ≡ true) where
-  pub written-accepted : sheetError p (sheetBytes S es) ≡ 0
+module _ (L : Limits) (p : List ℕ) (S : ℕ) (es : List Entry) (plan : planError L p ≡ 0) (good : routesGood written (shapeOf p) S es ≡ true) where
+  pub written-accepted : sheetError L p (sheetBytes written S es) ≡ 0
   unfolding sheetError
   written-accepted =
-      let r = routed (shapeOf p) S es good in
+      let r = routed written (shapeOf p) S es good in
       rw (plan, sheet-good S es (shapeOf p) (r .source) (r .few) (r .fit), good)
 
-  pub written-says : (d : ℕ) → isNode (shapeOf p) d ≡ true → says p (sheetBytes S es) d ≡ saysOf es d
+  pub written-says : (d : ℕ) → isNode (shapeOf p) d ≡ true → says L p (sheetBytes written S es) d ≡ saysOf es d
   unfolding says lookupError answered
   written-says d n =
-      let r = routed (shapeOf p) S es good in
+      let r = routed written (shapeOf p) S es good in
       let few = r .few in
       rw (written-accepted, n, entries-read S es (omega arith) (r .fit))

@@ -25,6 +25,7 @@ use Rattle.packet.specs.declared.route.Route.{Route}
 use Rattle.choice.specs.declared.outcome.Outcome.{Outcome}
 use Rattle.choice.specs.Answer.{Given, answered}
 use Rattle.choice.specs.Outcome.{told}
+use Rattle.plan.specs.Checks.{Limits}
 use Rattle.routes.specs.declared.layout.Entry.{Entry}
 use Rattle.routes.specs.declared.route.Found.{Found}
 use Rattle.routes.specs.declared.route.Found.the-variants.{At, Missing}
@@ -38,30 +39,30 @@ use Rattle.routes.specs.Steps.{pickFound, foundIn, orDirect, lengthBy}
 use Rattle.routes.proofs.Sheets.{Accepted, accepted}
 use Rattle.routes.proofs.Rising.{good-entry, each-good}
 
-module _ (p s : List ℕ) (d : ℕ) where
-  pub looked-up : lookupError p s d ≡ 0 → Accepted p s
+module _ (L : Limits) (p s : List ℕ) (d : ℕ) where
+  pub looked-up : lookupError L p s d ≡ 0 → Accepted L p s
   unfolding lookupError
-  looked-up h = accepted p s (then-zero (sheetError p s) _ h .0)
+  looked-up h = accepted L p s (then-zero (sheetError L p s) _ h .0)
 
-  pub declined-not-listed : (lookupError p s d ≡ 0 → ⊥) → isListed p s d ≡ false
+  pub declined-not-listed : (lookupError L p s d ≡ 0 → ⊥) → isListed L p s d ≡ false
   unfolding isListed
-  declined-not-listed h = rw (ne-eqb (lookupError p s d) 0 h)
+  declined-not-listed h = rw (ne-eqb (lookupError L p s d) 0 h)
 
-  pub not-listed : lookupError p s d ≡ 0 → entryCount s ≤ find (entriesOf s) d → isListed p s d ≡ false
+  pub not-listed : lookupError L p s d ≡ 0 → entryCount s ≤ find (entriesOf s) d → isListed L p s d ≡ false
   unfolding isListed
-  not-listed h k = rw (eq-eqb (lookupError p s d) 0 h, le-ltb (find (entriesOf s) d) (entryCount s) k)
+  not-listed h k = rw (eq-eqb (lookupError L p s d) 0 h, le-ltb (find (entriesOf s) d) (entryCount s) k)
 
-  pub listed : lookupError p s d ≡ 0 → find (entriesOf s) d < entryCount s → isListed p s d ≡ true
+  pub listed : lookupError L p s d ≡ 0 → find (entriesOf s) d < entryCount s → isListed L p s d ≡ true
   unfolding isListed
-  listed h k = rw (eq-eqb (lookupError p s d) 0 h, lt-ltb (find (entriesOf s) d) (entryCount s) k)
+  listed h k = rw (eq-eqb (lookupError L p s d) 0 h, lt-ltb (find (entriesOf s) d) (entryCount s) k)
 
 -- The part.
-module _ (p : List ℕ) (s r : RefT (List ℕ)) (d : ℕ) where
-  pub empty-part : isListed p (now s) d ≡ false → PartOf s r 0 0 → PartOf s r (partStart p (now s) d) (partLength p (now s) d)
+module _ (L : Limits) (p : List ℕ) (s r : RefT (List ℕ)) (d : ℕ) where
+  pub empty-part : isListed L p (now s) d ≡ false → PartOf s r 0 0 → PartOf s r (partStart L p (now s) d) (partLength L p (now s) d)
   unfolding partStart partLength
   empty-part h k = rw h k
 
-  pub entry-part : isListed p (now s) d ≡ true → PartOf s r (7 + 5 * find (entriesOf (now s)) d) 5 → PartOf s r (partStart p (now s) d) (partLength p (now s) d)
+  pub entry-part : isListed L p (now s) d ≡ true → PartOf s r (entriesAt + entrySize (formatOf (now s)) * find (entriesOf (now s)) d) (entrySize (formatOf (now s))) → PartOf s r (partStart L p (now s) d) (partLength L p (now s) d)
   unfolding partStart partLength
   entry-part h k = rw h k
 
@@ -136,8 +137,8 @@ abbrev FoundGood : Shape → ℕ → Found → Type 0
 FoundGood m S (At e) = entryGood m S e ≡ true
 FoundGood m S Missing = Unit {0}
 
-module _ (p s : List ℕ) (d : ℕ) where
-  pub refused : (e : ℕ) → e ≡ lookupError p s d → (e ≡ 0 → ⊥) → Outcome.Refused e ≡ told (shapeOf p) (source s) (says p s d)
+module _ (L : Limits) (p s : List ℕ) (d : ℕ) where
+  pub refused : (e : ℕ) → e ≡ lookupError L p s d → (e ≡ 0 → ⊥) → Outcome.Refused e ≡ told (shapeOf p) (source s) (says L p s d)
   unfolding says told answered
   refused e h n = rw (← h) (go e n)
     where
@@ -145,7 +146,7 @@ module _ (p s : List ℕ) (d : ℕ) where
       go zero n = absurd (n refl)
       go (suc k) n = refl
 
-  module _ (h : lookupError p s d ≡ 0) where
+  module _ (h : lookupError L p s d ≡ 0) where
     abbrev m : Shape
     m = shapeOf p
 
@@ -158,7 +159,7 @@ module _ (p s : List ℕ) (d : ℕ) where
 
     dest-node : isNode m d ≡ true
     unfolding lookupError
-    dest-node = not-false _ (declined-zero (not (isNode m d)) _ (then-zero (sheetError p s) _ h .1))
+    dest-node = not-false _ (declined-zero (not (isNode m d)) _ (then-zero (sheetError L p s) _ h .1))
 
     found-good : (f : Found) → f ≡ foundIn s d → FoundGood m S f
     unfolding foundIn routesGood entriesOf
@@ -171,14 +172,14 @@ module _ (p s : List ℕ) (d : ℕ) where
         go true t = each-good m S (entryAt s) (entryCount s) 0 0 (and-true (isNode m S) _ (looked-up p s d h .routes) .1) i (omega arith) (omega (arith, ltb-true i (entryCount s) t))
         go false t = tt
 
-    said : (f : Found) → f ≡ foundIn s d → orDirect d f ≡ says p s d
+    said : (f : Found) → f ≡ foundIn s d → orDirect d f ≡ says L p s d
     unfolding says answered
     said f e = rw (h, e, found-as s d)
 
-    pub said-found : (e : Entry) → At e ≡ foundIn s d → toldAs (lengthBy m S e) (saidBy e) ≡ told m S (says p s d)
+    pub said-found : (e : Entry) → At e ≡ foundIn s d → toldAs (lengthBy m S e) (saidBy e) ≡ told m S (says L p s d)
     unfolding orDirect
     said-found e q = told-good m S source-node e (found-good (At e) q) ∙ ap (told m S) (said (At e) q)
 
-    pub said-direct : Missing ≡ foundIn s d → Outcome.Given (Route.Direct Adaptive) (distanceAnswer m S d) ≡ told m S (says p s d)
+    pub said-direct : Missing ≡ foundIn s d → Outcome.Given (Route.Direct Adaptive) (distanceAnswer m S d) ≡ told m S (says L p s d)
     unfolding orDirect
     said-direct q = told-direct m S source-node d dest-node ∙ ap (told m S) (said Missing q)

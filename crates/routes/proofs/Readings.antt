@@ -6,9 +6,10 @@ use mathlib.Core.List.{List}
 use lib.ListN.{length}
 use Rattle.sheet.proofs.Records.{from-length}
 use Rattle.plan.specs.Layout.{shapeOf}
+use Rattle.plan.specs.Checks.{Limits}
 use Rattle.plan.specs.declared.reading.Answer.the-variants.{Refused}
 use Rattle.routes.specs.declared.reading.Reading.{Reading}
-use Rattle.routes.specs.Layout.{source, entryCount, entryAt, entriesOf}
+use Rattle.routes.specs.Layout.{formatOf, source, entryCount, entryAt, entriesOf, mostEntries}
 use Rattle.routes.specs.Checks.{sheetError}
 use Rattle.routes.specs.Reading.{noRoutes, reading}
 use Rattle.routes.proofs.Sheets.{accepted}
@@ -19,12 +20,12 @@ unfolding entriesOf
 counted s = from-length (entryAt s) (entryCount s) 0
 
 -- An accepted sheet has at most 4,095 entries.
-pub few : (p s : List ℕ) → sheetError p s ≡ 0 → entryCount s ≤ 4095
-few p s h = omega (arith, routed (shapeOf p) (source s) (entriesOf s) (accepted p s h .routes) .few, counted s)
+pub few : (L : Limits) (p s : List ℕ) → sheetError L p s ≡ 0 → entryCount s ≤ mostEntries
+few L p s h = omega (arith, routed (formatOf s) (shapeOf p) (source s) (entriesOf s) (accepted L p s h .routes) .few, counted s)
 
 -- What is read.
-module _ (p s : List ℕ) (e : ℕ) (h : e ≡ sheetError p s) where
-  pub refused : (e ≡ 0 → ⊥) → _≡_ {A = Reading} (record { answer = Refused e; routes = noRoutes }) (reading (sheetError p s) s)
+module _ (L : Limits) (p s : List ℕ) (e : ℕ) (h : e ≡ sheetError L p s) where
+  pub refused : (e ≡ 0 → ⊥) → _≡_ {A = Reading} (record { answer = Refused e; routes = noRoutes }) (reading (sheetError L p s) s)
   unfolding reading
   refused n = rw (sym h) (go e n)
     where
@@ -32,5 +33,5 @@ module _ (p s : List ℕ) (e : ℕ) (h : e ≡ sheetError p s) where
       go zero n = absurd (n refl)
       go (suc k) n = refl
 
-  pub read-as : e ≡ 0 → (r : Reading) → r ≡ reading 0 s → r ≡ reading (sheetError p s) s
+  pub read-as : e ≡ 0 → (r : Reading) → r ≡ reading 0 s → r ≡ reading (sheetError L p s) s
   read-as z r q = q ∙ rw (sym h ∙ z)

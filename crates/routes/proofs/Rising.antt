@@ -16,7 +16,7 @@ use Rattle.machine.specs.Number.{nodeCount}
 use Rattle.machine.specs.Node.{isNode}
 use Rattle.machine.proofs.Nodes.{node-of}
 use Rattle.routes.specs.declared.layout.Entry.{Entry}
-use Rattle.routes.specs.Kinds.{viaKind, plainKind}
+use Rattle.routes.specs.Layout.{Format, mostEntries}
 use Rattle.routes.specs.Checks.{viaGood, entryGood, entriesGood, routesGood}
 use Rattle.routes.proofs.Entries.{cons}
 use Rattle.routes.proofs.Writings.{AllFit}
@@ -26,13 +26,13 @@ abbrev pub Rising : ℕ → List Entry → Type 0
 Rising least [] = Unit {0}
 Rising least (e ∷ es) = (least ≤ e .dest) × Rising (e .dest + 1) es
 
-module _ (m : Shape) (S : ℕ) where
+module _ (F : Format) (m : Shape) (S : ℕ) where
   pub record Good (e : Entry) : Type 0 where
     pub dest : e .dest < nodeCount m
     pub other : e .dest ≡ S → ⊥
     pub via : e .via < nodeCount m
 
-  pub good-entry : (e : Entry) → entryGood m S e ≡ true → Good e
+  pub good-entry : (e : Entry) → entryGood F m S e ≡ true → Good e
   unfolding entryGood viaGood
   good-entry e h =
       let p = and-true (isNode m (e .dest) && not (eqb (e .dest) S)) _ h in
@@ -41,36 +41,36 @@ module _ (m : Shape) (S : ℕ) where
       record {
         dest = d;
         other = eqb-false (e .dest) S (not-true _ (q .1));
-        via = test (viaKind (e .kind))
+        via = test (F .viaKind (e .kind))
             (λ t. node-of m (e .via) (and-true (isNode m (e .via)) _ (rw t at (p .1)) .0) .below)
-            (λ t. let z = eqb-true (e .via) 0 (and-true (plainKind (e .kind)) _ (rw t at (p .1)) .1) in omega arith);
+            (λ t. let z = eqb-true (e .via) 0 (and-true (F .plainKind (e .kind)) _ (rw t at (p .1)) .1) in omega arith);
       }
 
   -- Each of the entries is good.
-  pub each-good : (f : ℕ → Entry) (n i least : ℕ) → entriesGood m S least (listFrom f i n) ≡ true → (j : ℕ) → i ≤ j → j < i + n → entryGood m S (f j) ≡ true
+  pub each-good : (f : ℕ → Entry) (n i least : ℕ) → entriesGood F m S least (listFrom f i n) ≡ true → (j : ℕ) → i ≤ j → j < i + n → entryGood F m S (f j) ≡ true
   unfolding listFrom
   each-good f zero i least h j a b = absurd (omega arith)
   each-good f (suc n) i least h j a b =
-      let c = cons m S least (f i) _ h in
+      let c = cons F m S least (f i) _ h in
       by-order i j
       (λ k. each-good f n (suc i) (f i .dest + 1) (c .later) j (omega arith) (omega arith))
       (λ k. rw (← k) (c .here))
       (λ k. absurd (omega arith))
 
-  rising : (es : List Entry) (least : ℕ) → entriesGood m S least es ≡ true → Rising least es
+  rising : (es : List Entry) (least : ℕ) → entriesGood F m S least es ≡ true → Rising least es
   rising [] least h = tt
-  rising (e ∷ es) least h = let c = cons m S least e es h in (c .rises, rising es (e .dest + 1) (c .later))
+  rising (e ∷ es) least h = let c = cons F m S least e es h in (c .rises, rising es (e .dest + 1) (c .later))
 
-  fit : nodeCount m ≤ 4096 → (es : List Entry) (least : ℕ) → entriesGood m S least es ≡ true → AllFit es
+  fit : nodeCount m ≤ 4096 → (es : List Entry) (least : ℕ) → entriesGood F m S least es ≡ true → AllFit es
   fit b [] least h i k = absurd (omega arith)
-  fit b (e ∷ es) least h zero k = let g = good-entry e (cons m S least e es h .here) in record { dest = omega arith; via = omega arith }
-  fit b (e ∷ es) least h (suc i) k = fit b es (e .dest + 1) (cons m S least e es h .later) i (omega arith)
+  fit b (e ∷ es) least h zero k = let g = good-entry e (cons F m S least e es h .here) in record { dest = omega arith; via = omega arith }
+  fit b (e ∷ es) least h (suc i) k = fit b es (e .dest + 1) (cons F m S least e es h .later) i (omega arith)
 
   -- The nodes from least on, without the source, are enough for them.
-  room : S < nodeCount m → (es : List Entry) (least : ℕ) → least ≤ nodeCount m → entriesGood m S least es ≡ true → (length es + least ≤ nodeCount m) × (least ≤ S → length es + 1 + least ≤ nodeCount m)
+  room : S < nodeCount m → (es : List Entry) (least : ℕ) → least ≤ nodeCount m → entriesGood F m S least es ≡ true → (length es + least ≤ nodeCount m) × (least ≤ S → length es + 1 + least ≤ nodeCount m)
   room b [] least l h = (omega arith, λ k. omega arith)
   room b (e ∷ es) least l h =
-      let c = cons m S least e es h in
+      let c = cons F m S least e es h in
       let g = good-entry e (c .here) in
       let up = c .rises in
       let dest = g .dest in
@@ -83,16 +83,16 @@ module _ (m : Shape) (S : ℕ) where
 -- Routes that check 13 accepts.
 pub record Routed (m : Shape) (S : ℕ) (es : List Entry) : Type 0 where
   pub source : S < 65536
-  pub few : length es ≤ 4095
+  pub few : length es ≤ mostEntries
   pub fit : AllFit es
   pub rising : Rising 0 es
 
-pub routed : (m : Shape) (S : ℕ) (es : List Entry) → routesGood m S es ≡ true → Routed m S es
+pub routed : (F : Format) (m : Shape) (S : ℕ) (es : List Entry) → routesGood F m S es ≡ true → Routed m S es
 unfolding routesGood nodeCount
-routed m S es h =
+routed F m S es h =
     let p = and-true (isNode m S) _ h in
     let n = node-of m S (p .0) in
     let most = count-most m (n .sound) in
     let below = n .below in
-    let r = room m S below es 0 (omega arith) (p .1) .1 (omega arith) in
-    record { source = omega arith; few = omega arith; fit = fit m S most es 0 (p .1); rising = rising m S es 0 (p .1) }
+    let r = room F m S below es 0 (omega arith) (p .1) .1 (omega arith) in
+    record { source = omega arith; few = omega arith; fit = fit F m S most es 0 (p .1); rising = rising F m S es 0 (p .1) }

@@ -9,73 +9,86 @@ use Rattle.shape.specs.Shape.{shapeError, badExtents, badWraps}
 use Rattle.machine.specs.Number.{nodeCount}
 use Rattle.machine.specs.Node.{isNode}
 use Rattle.sheet.specs.Bytes.{AreBytes, listFrom}
+use Rattle.sheet.specs.Head.{version, lengthField, bytesAfter, lengthIs}
 use Rattle.sheet.specs.Output.{roomError, outAfter}
 use Rattle.sheet.proofs.Records.{are-bytes, from-at}
 use Rattle.sheet.proofs.Outputs.{same-bytes}
 use Rattle.plan.specs.declared.reading.Answer.the-variants.{Accepted}
-use Rattle.plan.specs.Layout.{version, lengthField, bytesAfter, shapeOf}
-use Rattle.plan.specs.Checks.{large, planError}
+use Rattle.plan.specs.Layout.{shapeOf}
+use Rattle.plan.specs.Checks.{Limits, large, planError}
 use Rattle.plan.specs.Worked.{W}
 use Rattle.plan.proofs.RoundTrips as Plan
 use Rattle.routes.specs.declared.layout.Entry.{Entry}
 use Rattle.routes.specs.declared.reading.Routes.{Routes}
-use Rattle.routes.specs.Layout.{source, entryCount, entryAt, entriesOf, noEntry}
+use Rattle.routes.specs.declared.reading.Reading.{Reading}
+use Rattle.routes.specs.Layout.{formatBy, written, source, entryCount, entryAt, entriesOf, noEntry}
 use Rattle.routes.specs.Kinds.{viaKind, plainKind}
 use Rattle.routes.specs.Checks.{headGood, viaGood, entryGood, entriesGood, routesGood, sheetGood, sheetError}
 use Rattle.routes.specs.Reading.{routesOf, reading}
 use Rattle.routes.specs.Writing.{writeError, sheetBytes, routeEntries, sheetOf}
 use Rattle.routes.specs.Value.{Fits, routesWith, cleared}
 use Rattle.routes.proofs.Sheets.{accepted}
-use Rattle.routes.proofs.Encoding.{entries-count}
-use Rattle.routes.proofs.Writings.{AllFit, source-read, entries-read, routes-read}
+use Rattle.routes.proofs.Writings.{AllFit, own-format, source-read, entries-read, routes-read, entries-count}
 use Rattle.routes.proofs.Rising.{routed}
 use Rattle.routes.proofs.Listed.{written-accepted}
 use Rattle.routes.proofs.Rewriting.{read-written}
 
--- The sheet written back.
-pub written-back : (p s o : List ℕ) → sheetError p s ≡ 0 → length s ≤ length o → take (length s) (outAfter (writeError p s o) s o) ≡ s
-written-back p s o h l = same-bytes (sheetError p s) s o h l
+module _ (L : Limits) (p : List ℕ) where
+  -- What the output holds of the sheet s after writing it, in its first bytes.
+  abbrev afterWriting : List ℕ → List ℕ → List ℕ
+  afterWriting s o = take (length s) (outAfter (writeError L p s o) s o)
 
--- The sheet of a source and entries that check 13 accepts, written after other checks that gave 0, then read.
-module _ (p : List ℕ) (S : ℕ) (es : List Entry) (plan : planError large p ≡ 0) (good : routesGood (shapeOf p) S es ≡ true) where
-  pub good-read : let s = sheetBytes S es in reading (sheetError p s) s ≡ record { answer = Accepted; routes = routesWith S es }
-  unfolding reading
-  good-read = let r = routed (shapeOf p) S es good in rw (written-accepted p S es plan good, routes-read S es (r .source) (r .few) (r .fit))
+  abbrev readFrom : List ℕ → Reading
+  readFrom s = reading (sheetError L p s) s
 
-  pub good-written-read : (e : ℕ) (o : List ℕ) → let s = sheetBytes S es in e ≡ 0 → length s ≤ length o → let w = take (length s) (outAfter (roomError e s o) s o) in reading (sheetError p w) w ≡ record { answer = Accepted; routes = routesWith S es }
-  good-written-read e o h l = rw (same-bytes e (sheetBytes S es) o h l) good-read
+  -- The sheet written back.
+  pub written-back : (s o : List ℕ) → sheetError L p s ≡ 0 → length s ≤ length o → afterWriting s o ≡ s
+  written-back s o h l = same-bytes (sheetError L p s) s o h l
 
--- Routes written, then read.
-module _ (r : Routes) (f : Fits r) where
-  all-fit : AllFit (routeEntries r)
-  unfolding routeEntries
-  all-fit i b = rw (from-at (λ k. getD (r .entries) k noEntry) (r .count) 0 i noEntry (omega (arith, entries-count r))) (f .entries (0 + i) (omega (arith, entries-count r)))
-
-  with-entries : routesWith (r .source) (routeEntries r) ≡ cleared r
-  unfolding routesWith cleared
-  with-entries = rw (entries-count r)
-
-  pub written-read : (p o : List ℕ) → sheetError p (sheetOf r) ≡ 0 → length (sheetOf r) ≤ length o → let w = take (length (sheetOf r)) (outAfter (writeError p (sheetOf r) o) (sheetOf r) o) in reading (sheetError p w) w ≡ record { answer = Accepted; routes = cleared r }
-  unfolding sheetOf
-  written-read p o h l =
-      let S = r .source in
-      let es = routeEntries r in
-      let a = accepted p (sheetOf r) h in
-      let good : routesGood (shapeOf p) S es ≡ true = rw (source-read S es (f .source), entries-read S es (omega (arith, entries-count r, f .count)) all-fit) at (a .routes) in
-      good-written-read p S es (a .plan) good (sheetError p (sheetOf r)) o h l ∙ rw with-entries
-
--- A sheet read, then written. What is read fits (`read-fits` of Rewriting), and its sheet is accepted.
-module _ (p s : List ℕ) (bytes : AreBytes s) (h : sheetError p s ≡ 0) where
-  pub read-accepted : sheetError p (sheetOf (routesOf s)) ≡ 0
-  read-accepted = rw (read-written s bytes p h) h
-
-  module _ (o : List ℕ) (l : length s ≤ length o) where
-    pub read-then-written : let r = reading (sheetError p s) s .routes in take (length s) (outAfter (writeError p (sheetOf r) o) (sheetOf r) o) ≡ s
+  -- The sheet of a source and entries that check 13 accepts, written after other checks that gave 0, then read.
+  module _ (S : ℕ) (es : List Entry) (plan : planError L p ≡ 0) (good : routesGood written (shapeOf p) S es ≡ true) where
+    pub good-read : readFrom (sheetBytes written S es) ≡ record { answer = Accepted; routes = routesWith S es }
     unfolding reading
-    read-then-written = rw (h, read-written s bytes p h) (written-back p s o h l)
+    good-read = let r = routed written (shapeOf p) S es good in rw (written-accepted L p S es plan good, routes-read S es (r .source) (r .few) (r .fit))
 
-    pub read-again : let r = reading (sheetError p s) s .routes in let w = take (length s) (outAfter (writeError p (sheetOf r) o) (sheetOf r) o) in reading (sheetError p w) w ≡ reading (sheetError p s) s
-    read-again = rw read-then-written
+    pub good-written-read : (e : ℕ) (o : List ℕ) → let s = sheetBytes written S es in e ≡ 0 → length s ≤ length o → readFrom (take (length s) (outAfter (roomError e s o) s o)) ≡ record { answer = Accepted; routes = routesWith S es }
+    good-written-read e o h l = rw (same-bytes e (sheetBytes written S es) o h l) good-read
+
+  -- Routes written, then read.
+  module _ (r : Routes) (f : Fits r) where
+    all-fit : AllFit (routeEntries r)
+    unfolding routeEntries
+    all-fit i b = rw (from-at (λ k. getD (r .entries) k noEntry) (r .count) 0 i noEntry (omega (arith, entries-count r))) (f .entries (0 + i) (omega (arith, entries-count r)))
+
+    with-entries : routesWith (r .source) (routeEntries r) ≡ cleared r
+    unfolding routesWith cleared
+    with-entries = rw (entries-count r)
+
+    pub written-read : (o : List ℕ) → sheetError L p (sheetOf r) ≡ 0 → length (sheetOf r) ≤ length o → readFrom (afterWriting (sheetOf r) o) ≡ record { answer = Accepted; routes = cleared r }
+    unfolding sheetOf
+    written-read o h l =
+        let S = r .source in
+        let es = routeEntries r in
+        let a = accepted L p (sheetOf r) h in
+        let good : routesGood written (shapeOf p) S es ≡ true = rw (own-format S es, source-read S es (f .source), entries-read S es (omega (arith, entries-count r, f .count)) all-fit) at (a .routes) in
+        good-written-read S es (a .plan) good (sheetError L p (sheetOf r)) o h l ∙ rw with-entries
+
+  -- A sheet read, then written. What is read fits (`read-fits` of Rewriting), and its sheet is accepted.
+  module _ (s : List ℕ) (bytes : AreBytes s) (h : sheetError L p s ≡ 0) where
+    pub read-accepted : sheetError L p (sheetOf (routesOf s)) ≡ 0
+    read-accepted = rw (read-written s bytes L p h) h
+
+    module _ (o : List ℕ) (l : length s ≤ length o) where
+      -- The sheet of what is read, written.
+      abbrev rewritten : List ℕ
+      rewritten = let w = sheetOf (readFrom s .routes) in take (length s) (outAfter (writeError L p w o) w o)
+
+      pub read-then-written : rewritten ≡ s
+      unfolding reading
+      read-then-written = rw (h, read-written s bytes L p h) (written-back s o h l)
+
+      pub read-again : readFrom rewritten ≡ readFrom s
+      read-again = rw read-then-written
 
 -- Machine W's route sheet for source 0 is such a sheet.
 abbrev pub sheetW : List ℕ
@@ -84,6 +97,6 @@ sheetW = 1 ∷ 0 ∷ 44 ∷ 0 ∷ 0 ∷ 0 ∷ 8 ∷ 0 ∷ 1 ∷ 3 ∷ 0 ∷ 4 �
 pub w-bytes : AreBytes sheetW
 w-bytes = are-bytes sheetW refl
 
-pub w-accepted : sheetError W sheetW ≡ 0
-unfolding sheetError sheetGood headGood routesGood entriesGood entryGood viaGood viaKind plainKind version lengthField bytesAfter shapeOf source entryCount entryAt entriesOf listFrom shapeError badExtents badWraps isNode nodeCount
+pub w-accepted : sheetError large W sheetW ≡ 0
+unfolding sheetError sheetGood headGood routesGood entriesGood entryGood viaGood viaKind plainKind formatBy version lengthField bytesAfter lengthIs shapeOf source entryCount entryAt entriesOf listFrom shapeError badExtents badWraps isNode nodeCount
 w-accepted = rw Plan.w-accepted

@@ -20,6 +20,7 @@ use Rattle.packet.specs.New.{legsTo}
 use Rattle.choice.specs.Choice.{Choice, AdmitsIn, viasOf, targetsOf}
 use Rattle.choice.specs.Answer.{Answer, Given, Refused}
 use Rattle.choice.specs.Outcome.{told}
+use Rattle.routes.specs.Layout.{written}
 use Rattle.routes.specs.Kinds.{hasModes, kindFrom, kindOf, viaKind, plainKind}
 use Rattle.routes.specs.Said.{saidBy, entryFor, heard}
 use Rattle.routes.specs.Checks.{viaGood, entryGood}

@@ -1,5 +1,5 @@
 -- Laws of check 13: what an accepted sheet is.
-use Prim.Native.Nat.{ℕ, zero, suc, _+_, _*_, _-_, _≤_}
+use Prim.Native.Nat.{ℕ, zero, suc, _+_, _*_, _≤_}
 use native.Mathlib.Omega.{arith}
 use mathlib.Core.Path.{_≡_, refl}
 use mathlib.Core.Bool.{Bool, true, false, not, cond, _&&_}
@@ -10,9 +10,11 @@ use borrow.Author.Tests.{leb-true, eqb-true, ne-eqb, not-false}
 use Rattle.theory.specs.Checks.{declined, _then_}
 use Rattle.theory.proofs.Checks.{then-zero, declined-zero}
 use Rattle.theory.proofs.Bools.{and-true}
-use Rattle.plan.specs.Layout.{version, lengthField, bytesAfter, shapeOf}
-use Rattle.plan.specs.Checks.{large, planError}
-use Rattle.routes.specs.Layout.{source, entryCount, entriesOf, sizeAfter}
+use Rattle.sheet.specs.Head.{version, lengthField, lengthIs}
+use Rattle.sheet.proofs.Heads.{length-field, length-sheet}
+use Rattle.plan.specs.Layout.{shapeOf}
+use Rattle.plan.specs.Checks.{Limits, planError}
+use Rattle.routes.specs.Layout.{Format, formatOf, source, entryCount, entriesAt, entrySize, entriesOf, sizeAfter}
 use Rattle.routes.specs.Checks.{headGood, routesGood, sheetGood, sheetError}
 
 -- A check after others, as a choice.
@@ -22,33 +24,36 @@ checked zero false n = refl
 checked (suc e) b n = rw (ne-eqb (suc e) 0 (omega arith))
 
 -- What a good head says.
-pub record Head (s : List ℕ) : Type 0 where
-  pub long : 7 ≤ length s
-  pub version : version s ≡ 1
-  pub field : lengthField s ≡ sizeAfter (entryCount s)
-  pub sized : length s ≡ 7 + 5 * entryCount s
+pub record Head (F : Format) (s : List ℕ) : Type 0 where
+  pub long : entriesAt ≤ length s
+  pub version : version s ≡ F .version
+  pub field : lengthField s ≡ sizeAfter F (entryCount s)
+  pub sized : length s ≡ entriesAt + entrySize F * entryCount s
 
-pub head-of : (s : List ℕ) → headGood s ≡ true → Head s
-unfolding headGood bytesAfter
-head-of s h =
-    let p = and-true (leb 7 (length s) && eqb (version s) 1 && eqb (lengthField s) (length s - 3)) _ h in
-    let q = and-true (leb 7 (length s) && eqb (version s) 1) _ (p .0) in
-    let r = and-true (leb 7 (length s)) _ (q .0) in
-    let long = leb-true 7 (length s) (r .0) in
-    let e₁ = eqb-true (lengthField s) (length s - 3) (q .1) in
-    let e₂ = eqb-true (lengthField s) (sizeAfter (entryCount s)) (p .1) in
-    record { long = long; version = eqb-true (version s) 1 (r .1); field = e₂; sized = omega arith }
+pub head-of : (F : Format) (s : List ℕ) → headGood F s ≡ true → Head F s
+unfolding headGood
+head-of F s h =
+    let n = sizeAfter F (entryCount s) in
+    let p = and-true (leb entriesAt (length s) && eqb (version s) (F .version)) _ h in
+    let q = and-true (leb entriesAt (length s)) _ (p .0) in
+    let long = leb-true entriesAt (length s) (q .0) in
+    record {
+      long = long;
+      version = eqb-true (version s) (F .version) (q .1);
+      field = length-field s n (p .1);
+      sized = omega (arith, length-sheet s n (p .1) (omega arith));
+    }
 
 -- A sheet that checks 1 to 8 and 13 accept.
-pub record Accepted (p s : List ℕ) : Type 0 where
-  pub plan : planError large p ≡ 0
-  pub head : Head s
-  pub routes : routesGood (shapeOf p) (source s) (entriesOf s) ≡ true
+pub record Accepted (L : Limits) (p s : List ℕ) : Type 0 where
+  pub plan : planError L p ≡ 0
+  pub head : Head (formatOf s) s
+  pub routes : routesGood (formatOf s) (shapeOf p) (source s) (entriesOf s) ≡ true
 
-pub accepted : (p s : List ℕ) → sheetError p s ≡ 0 → Accepted p s
+pub accepted : (L : Limits) (p s : List ℕ) → sheetError L p s ≡ 0 → Accepted L p s
 unfolding sheetError sheetGood
-accepted p s h =
-    let q = then-zero (planError large p) _ h in
+accepted L p s h =
+    let q = then-zero (planError L p) _ h in
     let good = not-false _ (declined-zero (not (sheetGood (shapeOf p) s)) 12 (q .1)) in
-    let r = and-true (headGood s) _ good in
-    record { plan = q .0; head = head-of s (r .0); routes = r .1 }
+    let r = and-true (headGood (formatOf s) s) _ good in
+    record { plan = q .0; head = head-of (formatOf s) s (r .0); routes = r .1 }

@@ -12,26 +12,25 @@ use logic::both;
 use logic::pick;
 use logic::pick_bool;
 use machine::node::is_node;
-use plan::layout::bytes_after;
-use plan::layout::length_in;
+use numbers::WRONG_ROUTE_SHEET;
 use plan::layout::shape_in;
-use plan::layout::version_in;
 use shape::Shape;
+use sheet::head::length_is;
+use sheet::head::version_in;
 ghost use mathlib.Core.Path.{_≡_};
-ghost use Rattle.routes.specs.Layout.{entriesOf};
+ghost use Rattle.plan.specs.Checks.{large};
+ghost use Rattle.routes.specs.Layout.{formatOf, written, entriesOf};
 ghost use Rattle.routes.specs.Checks.{headGood, viaGood, entryGood, entriesGood, sheetGood, sheetError};
 
 fn head_good(sheet: &[u8]) -> bool
-    ensures { λ r. ⌜ r ≡ headGood (now (sheet .entry)) ⌝ }
+    ensures { λ r. ⌜ r ≡ headGood (formatOf (now (sheet .entry))) (now (sheet .entry)) ⌝ }
 {
-    let field = length_in(sheet);
-    let long = both(ENTRIES_AT <= sheet.len(), version_in(sheet) == VERSION);
-    let lent = both(long, field == bytes_after(sheet));
-    both(lent, field == size_after(count_in(sheet)))
+    let known = both(ENTRIES_AT <= sheet.len(), version_in(sheet) == VERSION);
+    both(known, length_is(sheet, size_after(count_in(sheet))))
 }
 
 fn via_good(shape: Shape, source: u16, e: Entry) -> bool
-    ensures { λ r. ⌜ r ≡ viaGood shape source e ⌝ }
+    ensures { λ r. ⌜ r ≡ viaGood written shape source e ⌝ }
 {
     let other = both(e.via != source, e.via != e.dest);
     pick_bool(
@@ -42,14 +41,14 @@ fn via_good(shape: Shape, source: u16, e: Entry) -> bool
 }
 
 fn entry_good(shape: Shape, source: u16, e: Entry) -> bool
-    ensures { λ r. ⌜ r ≡ entryGood shape source e ⌝ }
+    ensures { λ r. ⌜ r ≡ entryGood written shape source e ⌝ }
 {
     let dest = both(is_node(shape, e.dest), e.dest != source);
     both(dest, via_good(shape, source, e))
 }
 
 fn entries_good(sheet: &[u8], shape: Shape, source: u16) -> bool
-    ensures { λ r. ⌜ r ≡ entriesGood shape source 0 (entriesOf (now (sheet .entry))) ⌝ }
+    ensures { λ r. ⌜ r ≡ entriesGood (formatOf (now (sheet .entry))) shape source 0 (entriesOf (now (sheet .entry))) ⌝ }
 {
     let count = count_in(sheet);
     let mut least: u32 = 0;
@@ -81,9 +80,9 @@ fn sheet_good(shape: Shape, sheet: &[u8]) -> bool
 
 // The number of the first check that declines the sheet under the plan; 0 where none does.
 pub fn check(plan: &[u8], sheet: &[u8]) -> u8
-    ensures { λ r. ⌜ r ≡ sheetError (now (plan .entry)) (now (sheet .entry)) ⌝ }
+    ensures { λ r. ⌜ r ≡ sheetError large (now (plan .entry)) (now (sheet .entry)) ⌝ }
 {
     let error = plan::check(plan);
-    let wrong = pick(sheet_good(shape_in(plan), sheet), 0, 13);
+    let wrong = pick(sheet_good(shape_in(plan), sheet), 0, WRONG_ROUTE_SHEET);
     pick(error == 0, wrong, error)
 }

@@ -1,5 +1,6 @@
 // The bytes of a route sheet, of at most 4,095 entries.
 use crate::layout::ENTRIES_AT;
+use crate::layout::ENTRY_SIZE;
 use crate::layout::Entry;
 use crate::layout::VERSION;
 use crate::layout::size_after;
@@ -9,11 +10,12 @@ use sheet::put_word;
 ghost use mathlib.Core.Path.{_≡_};
 ghost use Prim.Native.Nat.{_+_, _*_, _≤_};
 ghost use lib.ListN.{length, take};
+ghost use Rattle.routes.specs.Layout.{written, entriesAt, entrySize, mostEntries};
 ghost use Rattle.routes.specs.Steps.{putHead, putEntry};
 ghost use Rattle.routes.specs.Writing.{sheetOf};
 
 fn put_head(bytes: &mut [u8], source: u16, count: u16)
-    requires { ⌜ count ≤ 4095 ⌝ }
+    requires { ⌜ count ≤ mostEntries ⌝ }
     ensures { λ _. ⌜ now (bytes .exit) ≡ putHead (now (bytes .entry)) source count ⌝ }
 {
     put_byte(bytes, 0, VERSION);
@@ -25,7 +27,7 @@ fn put_head(bytes: &mut [u8], source: u16, count: u16)
 fn put_entry(bytes: &mut [u8], i: u16, e: Entry)
     ensures { λ _. ⌜ now (bytes .exit) ≡ putEntry (now (bytes .entry)) i e ⌝ }
 {
-    let at = ENTRIES_AT + 5 * (i as usize);
+    let at = ENTRIES_AT + ENTRY_SIZE * (i as usize);
     put_word(bytes, at, e.dest);
     put_byte(bytes, at + 2, e.kind);
     put_word(bytes, at + 3, e.via);
@@ -33,9 +35,9 @@ fn put_entry(bytes: &mut [u8], i: u16, e: Entry)
 
 // The sheet at the front of `bytes`.
 pub fn encode(routes: Routes, bytes: &mut [u8])
-    requires { ⌜ routes .count ≤ 4095 ⌝ }
-    requires { ⌜ 7 + 5 * routes .count ≤ length (now bytes) ⌝ }
-    ensures { λ _. ⌜ take (7 + 5 * routes .count) (now (bytes .exit)) ≡ sheetOf routes ⌝ }
+    requires { ⌜ routes .count ≤ mostEntries ⌝ }
+    requires { ⌜ entriesAt + entrySize written * routes .count ≤ length (now bytes) ⌝ }
+    ensures { λ _. ⌜ take (entriesAt + entrySize written * routes .count) (now (bytes .exit)) ≡ sheetOf routes ⌝ }
 {
     let count = routes.count;
     let entries = routes.entries;

@@ -1,6 +1,7 @@
 // Looking up a destination: its entry as the very five bytes of the lent sheet.
 use crate::checks::check;
 use crate::layout::ENTRIES_AT;
+use crate::layout::ENTRY_SIZE;
 use crate::layout::count_in;
 use crate::layout::entry_in;
 use logic::pick;
@@ -8,12 +9,13 @@ use machine::node::is_node;
 use numbers::NODE_OUTSIDE;
 use plan::layout::shape_in;
 ghost use mathlib.Core.Path.{_≡_};
+ghost use Rattle.plan.specs.Checks.{large};
 ghost use Rattle.routes.specs.Layout.{entriesOf};
 ghost use Rattle.routes.specs.Lookup.{find, lookupError, PartOf, partStart, partLength};
 
 // Checks 1 to 8, 13, then 9.
 pub fn lookup_error(plan: &[u8], sheet: &[u8], dest: u16) -> u8
-    ensures { λ r. ⌜ r ≡ lookupError (now (plan .entry)) (now (sheet .entry)) dest ⌝ }
+    ensures { λ r. ⌜ r ≡ lookupError large (now (plan .entry)) (now (sheet .entry)) dest ⌝ }
 {
     let error = check(plan, sheet);
     let outside = pick(is_node(shape_in(plan), dest), 0, NODE_OUTSIDE);
@@ -38,15 +40,15 @@ pub fn find_entry(sheet: &[u8], dest: u16) -> u16
 
 // The empty part at the sheet's start where the destination is not listed or the lookup is declined.
 pub fn lookup<'a>(plan: &[u8], sheet: &'a [u8], dest: u16) -> &'a [u8]
-    ensures { λ r. ⌜ PartOf (sheet .entry) r (partStart (now (plan .entry)) (now (sheet .entry)) dest) (partLength (now (plan .entry)) (now (sheet .entry)) dest) ⌝ }
+    ensures { λ r. ⌜ PartOf (sheet .entry) r (partStart large (now (plan .entry)) (now (sheet .entry)) dest) (partLength large (now (plan .entry)) (now (sheet .entry)) dest) ⌝ }
 {
     if lookup_error(plan, sheet, dest) != 0 {
         return &sheet[..0];
     }
     let i = find_entry(sheet, dest);
     if i < count_in(sheet) {
-        let at = ENTRIES_AT + 5 * (i as usize);
-        let end = at + 5;
+        let at = ENTRIES_AT + ENTRY_SIZE * (i as usize);
+        let end = at + ENTRY_SIZE;
         &sheet[at..end]
     } else {
         &sheet[..0]

@@ -7,7 +7,8 @@ use crate::layout::source_in;
 use plan::Answer;
 ghost use mathlib.Core.Path.{_≡_};
 ghost use Prim.Native.Nat.{_≤_};
-ghost use Rattle.routes.specs.Layout.{entryCount};
+ghost use Rattle.plan.specs.Checks.{large};
+ghost use Rattle.routes.specs.Layout.{entryCount, mostEntries};
 ghost use Rattle.routes.specs.Checks.{sheetError};
 ghost use Rattle.routes.specs.Reading.{entryArray, reading};
 
@@ -25,7 +26,7 @@ pub struct Reading {
 
 // The entries of an accepted sheet, and zeros past them.
 fn entries_in(sheet: &[u8]) -> [Entry; 4095]
-    requires { ⌜ entryCount (now sheet) ≤ 4095 ⌝ }
+    requires { ⌜ entryCount (now sheet) ≤ mostEntries ⌝ }
     ensures { λ r. ⌜ r ≡ entryArray (now (sheet .entry)) ⌝ }
 {
     let count = count_in(sheet) as usize;
@@ -43,7 +44,7 @@ fn entries_in(sheet: &[u8]) -> [Entry; 4095]
 }
 
 pub fn read(plan: &[u8], sheet: &[u8]) -> Reading
-    ensures { λ r. ⌜ r ≡ reading (sheetError (now (plan .entry)) (now (sheet .entry))) (now (sheet .entry)) ⌝ }
+    ensures { λ r. ⌜ r ≡ reading (sheetError large (now (plan .entry)) (now (sheet .entry))) (now (sheet .entry)) ⌝ }
 {
     let error = check(plan, sheet);
     if error != 0 {

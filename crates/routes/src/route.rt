@@ -15,6 +15,7 @@ use plan::layout::shape_in;
 use shape::Shape;
 ghost use mathlib.Core.Path.{_≡_};
 ghost use Rattle.plan.specs.Layout.{shapeOf};
+ghost use Rattle.plan.specs.Checks.{large};
 ghost use Rattle.choice.specs.Outcome.{told};
 ghost use Rattle.routes.specs.Layout.{source};
 ghost use Rattle.routes.specs.Says.{says};
@@ -50,7 +51,7 @@ fn length_by(shape: Shape, source: u16, e: Entry) -> u16
 
 // The route with its length, or 10 or 11 for an entry of that kind, or the number with which the lookup is declined.
 pub fn route(plan: &[u8], sheet: &[u8], dest: u16) -> Outcome
-    ensures { λ r. ⌜ r ≡ told (shapeOf (now (plan .entry))) (source (now (sheet .entry))) (says (now (plan .entry)) (now (sheet .entry)) dest) ⌝ }
+    ensures { λ r. ⌜ r ≡ told (shapeOf (now (plan .entry))) (source (now (sheet .entry))) (says large (now (plan .entry)) (now (sheet .entry)) dest) ⌝ }
 {
     let error = lookup_error(plan, sheet, dest);
     if error != 0 {

@@ -1,3 +1,4 @@
+use Rattle.routes.specs.Layout.{formatBy, written}
 use Rattle.routes.proofs.Entries.{Checking, begin, refused, refused-order, onward, ended}
 use borrow.Author.Tests.{not-true, not-false}
 use mathlib.Core.Path.{sym, _∙_}
@@ -7,7 +8,7 @@ use Rattle.routes.proofs.checks.entries_good.Statement.{statement}
 use Rattle.routes.proofs.checks.entries_good.Tie as tie
 
 abbrev Inv-loop : tie.InvT-loop
-Inv-loop sheet shape source count least₀ i₀ least i = Checking sheet shape source count least i
+Inv-loop sheet shape source count least₀ i₀ least i = Checking written sheet shape source count least i
 
 abbrev μ-loop : tie.MeasureT-loop
 μ-loop sheet shape source count least₀ i₀ least i = count - i
@@ -16,7 +17,7 @@ count-in-requires : tie.Need-count-in-requires Inv-loop μ-loop
 count-in-requires c κs = tt
 
 loop-holds : tie.Need-loop-holds Inv-loop μ-loop
-loop-holds c = begin _ _ _ _ (c .count-in .ensures)
+loop-holds c = begin _ _ _ _ _ (c .count-in .ensures)
 
 entry-in-requires : tie.Need-entry-in-requires Inv-loop μ-loop
 entry-in-requires c κs = tt
@@ -25,13 +26,15 @@ cast-dest : tie.Need-cast-dest Inv-loop μ-loop
 cast-dest c = omega arith
 
 returns : tie.Need-returns Inv-loop μ-loop
-returns c = refused-order _ _ _ _ _ _ (c .before .before .before .before .loop .inv) _ (c .before .before .entry-in .ensures) (c .before .before .before .loop-test .taken) (c .if1 .taken)
+unfolding formatBy
+returns c = refused-order _ _ _ _ _ _ _ (c .before .before .before .before .loop .inv) _ (c .before .before .entry-in .ensures) (c .before .before .before .loop-test .taken) (c .if1 .taken)
 
 entry-good-requires : tie.Need-entry-good-requires Inv-loop μ-loop
 entry-good-requires c κs = tt
 
 returns-2 : tie.Need-returns-2 Inv-loop μ-loop
-returns-2 c = refused _ _ _ _ _ _ (c .before .before .before .before .before .before .loop .inv) _ (c .before .before .before .before .entry-in .ensures) (c .before .before .before .before .before .loop-test .taken) (c .before .before .if1 .left) (sym (c .before .entry-good .ensures) ∙ not-true _ (c .if2 .taken))
+unfolding formatBy
+returns-2 c = refused _ _ _ _ _ _ _ (c .before .before .before .before .before .before .loop .inv) _ (c .before .before .before .before .entry-in .ensures) (c .before .before .before .before .before .loop-test .taken) (c .before .before .if1 .left) (sym (c .before .entry-good .ensures) ∙ not-true _ (c .if2 .taken))
 
 add-least : tie.Need-add-least Inv-loop μ-loop
 add-least c = omega arith
@@ -43,10 +46,11 @@ loop-less : tie.Need-loop-less Inv-loop μ-loop
 loop-less c = omega arith
 
 loop-again : tie.Need-loop-again Inv-loop μ-loop
-loop-again c = onward _ _ _ _ _ _ (c .before .before .before .before .before .before .loop .inv) _ (c .before .before .before .before .entry-in .ensures) (c .before .before .before .before .before .loop-test .taken) (c .before .before .if1 .left) (sym (c .before .entry-good .ensures) ∙ not-false _ (c .if2 .left)) (omega arith)
+loop-again c = onward _ _ _ _ _ _ _ (c .before .before .before .before .before .before .loop .inv) _ (c .before .before .before .before .entry-in .ensures) (c .before .before .before .before .before .loop-test .taken) (c .before .before .if1 .left) (sym (c .before .entry-good .ensures) ∙ not-false _ (c .if2 .left)) (omega arith)
 
 returns-3 : tie.Need-returns-3 Inv-loop μ-loop
-returns-3 c = ended _ _ _ _ _ _ (c .before .loop .inv) (c .loop-test .left)
+unfolding formatBy
+returns-3 c = ended _ _ _ _ _ _ _ (c .before .loop .inv) (c .loop-test .left)
 
 pub entries-good-spec : {M : Type 1} → statement M
 entries-good-spec =

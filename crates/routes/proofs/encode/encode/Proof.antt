@@ -1,13 +1,16 @@
-use lib.ListN.{length}
-use mathlib.Core.Path.{refl, ap, _∙_}
-use Rattle.routes.proofs.Encoding.{Encoding, begin, onward, ended, whole, head-length}
+use Prim.Native.Nat.{_-_, _≤_}
 use native.Mathlib.Omega.{arith}
-use Prim.Native.Nat.{_-_}
+use mathlib.Core.Path.{_≡_, refl, ap, _∙_}
+use lib.ListN.{length, getD}
+use Rattle.sheet.proofs.Encoding.{begin, ended}
+use Rattle.routes.specs.Layout.{written, entriesAt, entryForm, noEntry, mostEntries}
+use Rattle.routes.proofs.Forms.{lawful-written, head-length, Encoded, entry-put}
+use Rattle.routes.proofs.Writings.{whole}
 use Rattle.routes.proofs.encode.encode.Statement.{statement}
 use Rattle.routes.proofs.encode.encode.Tie as tie
 
 abbrev Inv-loop : tie.InvT-loop
-Inv-loop bytes₀ count entries i₀ bytes i = Encoding count entries bytes₀ bytes i
+Inv-loop bytes₀ count entries i₀ bytes i = (count ≤ mostEntries) × Encoded count (λ k. getD entries k noEntry) bytes₀ bytes i
 
 abbrev μ-loop : tie.MeasureT-loop
 μ-loop bytes₀ count entries i₀ bytes i = count - i
@@ -16,7 +19,7 @@ put-head-requires : tie.Need-put-head-requires Inv-loop μ-loop
 put-head-requires c κs = omega arith
 
 loop-holds : tie.Need-loop-holds Inv-loop μ-loop
-loop-holds c = begin _ _ _ _ _ (c .before .before .put-head .ensures) (omega arith) (omega arith)
+loop-holds c = (omega arith, begin (entryForm written) (lawful-written .long) entriesAt _ _ _ (omega (arith, ap length (c .before .before .put-head .ensures), head-length _ _ _)))
 
 cast-put-entry : tie.Need-cast-put-entry Inv-loop μ-loop
 cast-put-entry c = omega arith
@@ -37,13 +40,13 @@ loop-less : tie.Need-loop-less Inv-loop μ-loop
 loop-less c = omega arith
 
 loop-again : tie.Need-loop-again Inv-loop μ-loop
-loop-again c = onward _ _ _ _ _ (c .before .before .before .before .before .before .loop .inv) _ _ refl (c .before .before .put-entry .ensures) (c .before .before .before .before .before .loop-test .taken)
+loop-again c = let inv = c .before .before .before .before .before .before .loop .inv in (inv .0, entry-put _ _ _ _ _ (inv .1) _ _ refl (c .before .before .put-entry .ensures) (c .before .before .before .before .before .loop-test .taken))
 
 same-length : tie.Need-same-length Inv-loop μ-loop
-same-length c = c .before .loop .inv .long ∙ ap length (c .before .before .before .before .put-head .ensures) ∙ head-length _ _ _
+same-length c = c .before .loop .inv .1 .long ∙ ap length (c .before .before .before .before .put-head .ensures) ∙ head-length _ _ _
 
 returns : tie.Need-returns Inv-loop μ-loop
-returns c = whole _ _ _ _ (c .before .before .before .before .put-head .ensures) (omega arith) (ended _ _ _ _ _ (c .before .loop .inv) (c .loop-test .left))
+returns c = whole _ _ _ _ (c .before .before .before .before .put-head .ensures) (omega arith) (ended (entryForm written) (lawful-written .long) entriesAt _ _ _ _ _ (c .before .loop .inv .1) (c .loop-test .left))
 
 pub encode-spec : {M : Type 1} → statement M
 encode-spec =

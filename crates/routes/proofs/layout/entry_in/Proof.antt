@@ -1,4 +1,4 @@
-use Rattle.routes.specs.Layout.{entryAt}
+use Rattle.routes.specs.Layout.{formatBy, entryAt}
 use borrow.Author.Needs.{needs}
 use Rattle.routes.proofs.layout.entry_in.Statement.{statement}
 use Rattle.routes.proofs.layout.entry_in.Tie as tie
@@ -31,7 +31,7 @@ cast-t10 : tie.Need-cast-t10
 cast-t10 c = search needs
 
 returns : tie.Need-returns
-unfolding entryAt
+unfolding entryAt formatBy
 returns c = cc
 
 pub entry-in-spec : {M : Type 1} → statement M

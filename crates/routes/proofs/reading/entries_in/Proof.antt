@@ -2,13 +2,13 @@ use native.Mathlib.Omega.{arith}
 use Prim.Native.Nat.{_-_}
 use mathlib.Core.Path.{_≡_}
 use Rattle.sheet.proofs.Fill.{Filling, begin, onward, ended}
-use Rattle.routes.specs.Layout.{entryCount, entryAt, entriesOf, noEntry}
+use Rattle.routes.specs.Layout.{entryCount, entryAt, entriesOf, noEntry, mostEntries}
 use Rattle.routes.specs.Reading.{entryArray}
 use Rattle.routes.proofs.reading.entries_in.Statement.{statement}
 use Rattle.routes.proofs.reading.entries_in.Tie as tie
 
 abbrev Inv-loop : tie.InvT-loop
-Inv-loop sheet count entries₀ i₀ entries i = (count ≡ entryCount sheet) × Filling noEntry (entryAt sheet) 4095 count entries i
+Inv-loop sheet count entries₀ i₀ entries i = (count ≡ entryCount sheet) × Filling noEntry (entryAt sheet) mostEntries count entries i
 
 abbrev μ-loop : tie.MeasureT-loop
 μ-loop sheet count entries₀ i₀ entries i = count - i
@@ -20,7 +20,7 @@ cast-count : tie.Need-cast-count Inv-loop μ-loop
 cast-count c = omega arith
 
 loop-holds : tie.Need-loop-holds Inv-loop μ-loop
-loop-holds c = (c .count-in .ensures, begin noEntry _ 4095 _ (omega (arith, c .count-in .ensures, c .before .before .pre)))
+loop-holds c = (c .count-in .ensures, begin noEntry _ mostEntries _ (omega (arith, c .count-in .ensures, c .before .before .pre)))
 
 cast-entry-in : tie.Need-cast-entry-in Inv-loop μ-loop
 cast-entry-in c = omega arith
@@ -41,11 +41,11 @@ loop-less : tie.Need-loop-less Inv-loop μ-loop
 loop-less c = omega arith
 
 loop-again : tie.Need-loop-again Inv-loop μ-loop
-loop-again c = let inv = c .before .before .loop .inv in (inv .0, onward noEntry _ 4095 _ _ _ (inv .1) _ (c .entry-in .ensures) (c .before .loop-test .taken))
+loop-again c = let inv = c .before .before .loop .inv in (inv .0, onward noEntry _ mostEntries _ _ _ (inv .1) _ (c .entry-in .ensures) (c .before .loop-test .taken))
 
 returns : tie.Need-returns Inv-loop μ-loop
 unfolding entryArray entriesOf
-returns c = let inv = c .before .loop .inv in rw (← inv .0) (ended noEntry _ 4095 _ _ _ (inv .1) (c .loop-test .left))
+returns c = let inv = c .before .loop .inv in rw (← inv .0) (ended noEntry _ mostEntries _ _ _ (inv .1) (c .loop-test .left))
 
 pub entries-in-spec : {M : Type 1} → statement M
 entries-in-spec =

@@ -9,10 +9,10 @@ check-requires : tie.Need-check-requires
 check-requires c κs = search needs
 
 returns : tie.Need-returns
-returns c = refused _ _ _ (c .before .check .ensures) (c .if1 .taken)
+returns c = refused _ _ _ _ (c .before .check .ensures) (c .if1 .taken)
 
 entries-in-requires : tie.Need-entries-in-requires
-entries-in-requires c κs = few _ _ (sym (c .before .check .ensures) ∙ c .if1 .left)
+entries-in-requires c κs = few _ _ _ (sym (c .before .check .ensures) ∙ c .if1 .left)
 
 source-in-requires : tie.Need-source-in-requires
 source-in-requires c κs = search needs
@@ -22,7 +22,7 @@ count-in-requires c κs = search needs
 
 returns-2 : tie.Need-returns-2
 unfolding reading routesOf
-returns-2 c = read-as _ _ _ (c .before .before .before .before .check .ensures) (c .before .before .before .if1 .left) _ (cc)
+returns-2 c = read-as _ _ _ _ (c .before .before .before .before .check .ensures) (c .before .before .before .if1 .left) _ (cc)
 
 pub read-spec : {M : Type 1} → statement M
 read-spec =

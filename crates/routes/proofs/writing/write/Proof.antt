@@ -1,5 +1,6 @@
 use mathlib.Core.Path.{_≡_}
 use lib.ListN.{length, length-map}
+use Rattle.routes.specs.Layout.{mostEntries}
 use Rattle.routes.proofs.Many.{too-many}
 use Rattle.sheet.proofs.Outputs.{refused}
 use native.Mathlib.Omega.{arith}
@@ -17,8 +18,8 @@ pick-requires c κs = search needs
 returns : tie.Need-returns
 returns c =
     let start = c .before .before .before .before .before in
-    let long : length (start .args .routes .entries) ≡ 4095 = simp length-map at (start .good .1 .0 .1 .1 .1 .1 .0 .1 .0 .1) in
-    let t = too-many (start .args .routes) long (c .before .before .if1 .taken) (omega arith) _ _ _ _ (c .before .check .ensures) (c .pick .ensures) in
+    let long : length (start .args .routes .entries) ≡ mostEntries = simp length-map at (start .good .1 .0 .1 .1 .1 .1 .0 .1 .0 .1) in
+    let t = too-many (start .args .routes) long (c .before .before .if1 .taken) (omega arith) _ _ _ _ _ (c .before .check .ensures) (c .pick .ensures) in
     refused _ _ _ _ (t .0) (t .1)
 
 slice-aggregate-encode : tie.Need-slice-aggregate-encode

@@ -1,0 +1,84 @@
+-- What is said of packets holds of those that cross: a form stands for the very packet of the definition.
+use Prim.Native.Nat.{ℕ}
+use mathlib.Core.Path.{_≡_, refl}
+use mathlib.Core.List.{List, [], _∷_}
+use lib.Dec.{eqb}
+use Rattle.numbers.specs.Numbers.{wrongPacket}
+use Rattle.theory.specs.Checks.{_then_}
+use Rattle.theory.specs.Packet.{step, tried, mayGo, walk, goes, arrived}
+use Rattle.theory.proofs.Cases.{test}
+use Rattle.shape.specs.declared.shape.Shape.{Shape}
+use Rattle.shape.specs.Shape.{shapeError}
+use Rattle.machine.specs.declared.leg.Mode.{Mode}
+use Rattle.machine.specs.declared.leg.Mode.the-variants.{Adaptive, Deterministic}
+use Rattle.machine.specs.Torus.{torus, leg}
+use Rattle.packet.specs.declared.packet.Packet.{Packet}
+use Rattle.packet.specs.Packet.{packetWith, badPacket, packetError, hopped, stored}
+use Rattle.packet.specs.New.{legsTo, newPacket}
+use Rattle.packet.specs.Answers as Answers
+use Rattle.packet.specs.Answers.{toldWalk}
+use Rattle.choice.specs.declared.outcome.Outcome.{Outcome}
+use Rattle.choice.specs.Choice.{Choice, AdmitsIn, viasOf}
+use Rattle.choice.specs.Answer.{Given, answered}
+use Rattle.choice.specs.Outcome.{told}
+use Rattle.routes.specs.Kinds.{hasModes, kindFrom, kindOf}
+use Rattle.routes.specs.Said.{saidBy, entryFor, toldAs, heard}
+use Rattle.routes.proofs.Saying.{admitted-legs}
+use Rattle.nafthurm.specs.declared.forms.PacketForm.{PacketForm}
+use Rattle.nafthurm.specs.Forms.{packetOf, packetFor, steppedFor, walkedFor, routeFor, outcomeIn, packetIn, madeFor}
+
+-- The packet that a step or a walk hands back has the legs that were lent.
+module _ (s : Shape) where
+  step-legs : (q : Packet) (d : ℕ) → step (torus s) (stored s) q d .packet .legs ≡ q .legs
+  unfolding step tried hopped
+  step-legs q d =
+      test (eqb (packetError s q) 0)
+      (λ e. rw e (test (mayGo (torus s) (stored s) q d) (λ h. rw h refl) (λ h. rw h refl)))
+      (λ e. rw e refl)
+
+  goes-legs : (q : Packet) (ds : List ℕ) → goes (torus s) (stored s) q ds .packet .legs ≡ q .legs
+  unfolding goes hopped
+  goes-legs q [] = test (arrived (torus s) (stored s) q) (λ e. rw e refl) (λ e. rw e refl)
+  goes-legs q (d ∷ ds) =
+      test (arrived (torus s) (stored s) q)
+      (λ e. rw e refl)
+      (λ e. rw e (test (mayGo (torus s) (stored s) q d) (λ h. rw h (goes-legs (hopped s q d) ds)) (λ h. rw h refl)))
+
+  walk-legs : (q : Packet) (ds : List ℕ) → walk (torus s) (stored s) q ds .packet .legs ≡ q .legs
+  unfolding walk
+  walk-legs q ds = test (eqb (packetError s q) 0) (λ e. rw e (goes-legs q ds)) (λ e. rw e refl)
+
+packet-kept : (f : PacketForm) (q : Packet) → q .legs ≡ packetOf f .legs → packetOf (packetFor f q) ≡ q
+unfolding packetOf
+packet-kept f q h = rw (← h) refl
+
+-- So the packets of a list of calls are those of the definitions.
+module _ (s : Shape) (f : PacketForm) where
+  pub stepped-is : (d : ℕ) → packetOf (steppedFor f (Answers.told (step (torus s) (stored s) (packetOf f) d)) .packet) ≡ step (torus s) (stored s) (packetOf f) d .packet
+  unfolding steppedFor Answers.told
+  stepped-is d = packet-kept f (step (torus s) (stored s) (packetOf f) d .packet) (step-legs s (packetOf f) d)
+
+  pub walked-is : (ds : List ℕ) → packetOf (walkedFor f (toldWalk (walk (torus s) (stored s) (packetOf f) ds)) .packet) ≡ walk (torus s) (stored s) (packetOf f) ds .packet
+  unfolding walkedFor toldWalk
+  walked-is ds = packet-kept f (walk (torus s) (stored s) (packetOf f) ds .packet) (walk-legs s (packetOf f) ds)
+
+-- The packet made of a route that a call gave is the new packet of that route.
+pub new-is :
+    (s : Shape) (S D : ℕ) (c : Choice) → AdmitsIn s S D c →
+    packetOf (madeFor (packetIn S D (outcomeIn D (routeFor (told s S (Given c)))))) ≡ newPacket S c
+unfolding packetOf madeFor packetIn newPacket legsTo outcomeIn answered routeFor told toldAs heard entryFor saidBy viasOf kindOf kindFrom hasModes
+new-is s S D c a = admitted-legs (λ c. packetOf (madeFor (packetIn S D (outcomeIn D (routeFor (told s S (Given c)))))) ≡ newPacket S c) s S D one (λ v m n _. two v m n) c a
+  where
+    one : (m : Mode) → packetOf (madeFor (packetIn S D (outcomeIn D (routeFor (told s S (Given (leg D m ∷ []))))))) ≡ newPacket S (leg D m ∷ [])
+    one Adaptive = refl
+    one Deterministic = refl
+    two : (v : ℕ) (m n : Mode) → packetOf (madeFor (packetIn S D (outcomeIn D (routeFor (told s S (Given (leg v m ∷ leg D n ∷ []))))))) ≡ newPacket S (leg v m ∷ leg D n ∷ [])
+    two v Adaptive Adaptive = refl
+    two v Adaptive Deterministic = refl
+    two v Deterministic Adaptive = refl
+    two v Deterministic Deterministic = refl
+
+-- Of a refusal it is declined by every call: 5 or 6 of the shape, else 14.
+pub new-refused : (s : Shape) (S D e : ℕ) → packetError s (packetIn S D (Outcome.Refused e)) ≡ (shapeError s then wrongPacket)
+unfolding packetIn packetWith packetError badPacket
+new-refused s S D e = refl

@@ -1,0 +1,103 @@
+-- The values that cross, as the proved calls' own: numbers in place of enums.
+use Prim.Native.Nat.{ℕ}
+use mathlib.Core.Bool.{cond}
+use mathlib.Core.List.{[], _∷_}
+use lib.ListN.{getD, replicate}
+use lib.Dec.{eqb}
+use Rattle.shape.specs.declared.shape.Shape.{Shape}
+use Rattle.machine.specs.declared.leg.Leg.{Leg}
+use Rattle.machine.specs.declared.leg.Mode.{Mode}
+use Rattle.machine.specs.declared.leg.Mode.the-variants.{Adaptive, Deterministic}
+use Rattle.machine.specs.Torus.{leg}
+use Rattle.packet.specs.declared.packet.Packet.{Packet}
+use Rattle.packet.specs.declared.stepper.Stepped.{Stepped}
+use Rattle.packet.specs.declared.stepper.Ending.{Ending}
+use Rattle.packet.specs.declared.stepper.Walked.{Walked}
+use Rattle.packet.specs.Packet.{mostLegs, noLeg, packetWith}
+use Rattle.packet.specs.New.{legsTo, newPacket}
+use Rattle.packet.specs.Answers.{answerNumber, endingNumber}
+use Rattle.choice.specs.declared.outcome.Outcome.{Outcome}
+use Rattle.choice.specs.Choice.{det}
+use Rattle.choice.specs.Answer.{answered}
+use Rattle.choice.specs.Outcome.{outcomeNumber}
+use Rattle.sheet.specs.declared.output.Written.{Written}
+use Rattle.routes.specs.Said.{saidBy, entryFor, toldAs, heard}
+use Rattle.nafthurm.specs.declared.forms.ShapeForm.{ShapeForm}
+use Rattle.nafthurm.specs.declared.forms.LegForm.{LegForm}
+use Rattle.nafthurm.specs.declared.forms.PacketForm.{PacketForm}
+use Rattle.nafthurm.specs.declared.forms.SteppedForm.{SteppedForm}
+use Rattle.nafthurm.specs.declared.forms.WalkedForm.{WalkedForm}
+use Rattle.nafthurm.specs.declared.forms.WrittenForm.{WrittenForm}
+use Rattle.nafthurm.specs.declared.forms.PartForm.{PartForm}
+use Rattle.nafthurm.specs.declared.forms.RouteForm.{RouteForm}
+use Rattle.nafthurm.specs.declared.forms.PlannedForm.{PlannedForm}
+
+unfoldable pub shapeOf : ShapeForm → Shape
+shapeOf f = record { x = f .x; y = f .y; z = f .z; wrap = f .wrap }
+
+unfoldable pub shapeFor : Shape → ShapeForm
+shapeFor s = record { x = s .x; y = s .y; z = s .z; wrap = s .wrap }
+
+-- 0 adaptive; any other byte deterministic.
+abbrev pub modeOf : ℕ → Mode
+modeOf m = cond (eqb m 0) Adaptive Deterministic
+
+abbrev pub legOf : LegForm → Leg
+legOf l = record { target = l .target; mode = modeOf (l .mode) }
+
+abbrev pub noForm : LegForm
+noForm = record { target = 0; mode = 0 }
+
+unfoldable pub packetOf : PacketForm → Packet
+packetOf q = record { node = q .node; legs = legOf (getD (q .legs) 0 noForm) ∷ legOf (getD (q .legs) 1 noForm) ∷ []; left = q .left }
+
+-- A packet that a call returns or leaves has the array of legs that was lent.
+abbrev pub packetFor : PacketForm → Packet → PacketForm
+packetFor lent q = record { node = q .node; legs = lent .legs; left = q .left }
+
+unfoldable pub steppedFor : PacketForm → Stepped → SteppedForm
+steppedFor lent w = record { packet = packetFor lent (w .packet); number = answerNumber (w .answer) }
+
+abbrev pub endingFor : Ending → ℕ
+endingFor Ending.Arrived = 0
+endingFor Ending.NotAllowed = 1
+endingFor Ending.UsedUp = 2
+endingFor (Ending.Refused e) = 3
+
+unfoldable pub walkedFor : PacketForm → Walked → WalkedForm
+walkedFor lent w = record { packet = packetFor lent (w .packet); number = endingNumber (w .ending); ending = endingFor (w .ending); hops = w .hops }
+
+unfoldable pub writtenFor : Written → WrittenForm
+writtenFor (Written.Bytes n) = record { number = 0; size = n }
+writtenFor (Written.Refused e) = record { number = e; size = 0 }
+
+abbrev pub partFor : ℕ → ℕ → PartForm
+partFor at len = record { start = at; size = len }
+
+-- The kind and the via as in the entry of a sheet; the kind of a refusal is its number.
+unfoldable pub routeFor : Outcome → RouteForm
+routeFor o = record { number = outcomeNumber o; kind = entryFor 0 (heard 0 o) .kind; via = entryFor 0 (heard 0 o) .via }
+
+-- The length, 0 for a refusal.
+abbrev pub lengthFor : Outcome → ℕ
+lengthFor (Outcome.Given r len) = len
+lengthFor (Outcome.Refused e) = 0
+
+unfoldable pub plannedFor : Outcome → PlannedForm
+plannedFor o = record { route = routeFor o; length = lengthFor o }
+
+-- The route to D that a form says, and the number of a refusal where it has one. A form says no length.
+unfoldable pub outcomeIn : ℕ → RouteForm → Outcome
+outcomeIn D f = toldAs 0 (answered (f .number) (saidBy (record { dest = D; kind = f .kind; via = f .via })))
+
+-- The new packet of a route from S to D; of a refusal a packet that every call declines.
+unfoldable pub packetIn : ℕ → ℕ → Outcome → Packet
+packetIn S D (Outcome.Given r len) = newPacket S (legsTo D r)
+packetIn S D (Outcome.Refused e) = packetWith S (replicate mostLegs (leg D Adaptive)) 255
+
+-- A packet that was made here, and not lent.
+abbrev pub legFor : Leg → LegForm
+legFor l = record { target = l .target; mode = det (l .mode) }
+
+unfoldable pub madeFor : Packet → PacketForm
+madeFor q = record { node = q .node; legs = legFor (getD (q .legs) 0 noLeg) ∷ legFor (getD (q .legs) 1 noLeg) ∷ []; left = q .left }
