@@ -5,7 +5,7 @@ use std::process::{Command, Stdio};
 use std::time::Instant;
 
 extern "C" {
-    fn nafthurm_pair(plan: *const u8, plan_len: usize, source: u16, dest: u16) -> u8;
+    fn nafthurm_pair(plan: *const u8, plan_len: usize, source: u16, dest: u16) -> u16;
     fn nafthurm_sheet(plan: *const u8, plan_len: usize, source: u16, out: *mut u8, out_len: usize) -> usize;
 }
 
@@ -100,9 +100,9 @@ fn least(times: usize, mut f: impl FnMut() -> f64) -> f64 {
 fn pair_times(plan: &[u8], random: &mut Random) -> (f64, f64) {
     let pairs: Vec<(u16, u16)> = (0..200).map(|_| (random.below(NODES) as u16, random.below(NODES) as u16)).collect();
     let ours = |s: u16, d: u16| unsafe { nafthurm_pair(plan.as_ptr(), plan.len(), s, d) };
-    let plain = |s: u16, d: u16| fast::pair(plan, s as usize, d as usize);
+    let plain = |s: u16, d: u16| fast::pair(plan, s as usize, d as usize) as u16;
     assert!(pairs.iter().all(|&(s, d)| ours(s, d) == plain(s, d)), "the lengths differ");
-    let time = |f: &dyn Fn(u16, u16) -> u8| {
+    let time = |f: &dyn Fn(u16, u16) -> u16| {
         least(5, || {
             let start = Instant::now();
             for &(s, d) in &pairs {

@@ -21,9 +21,9 @@ module _ (p : List ℕ) (S : ℕ) where
   last-turn : left p S ≡ [] → Turns p S []
   last-turn h = last {r = record { size = 0; next = S }} {o = []} {t = []} (record { none = λ _. (h, refl, refl); one = λ n. absurd (n refl) }) refl
 
-  sheet-turn : sourceError p S ≡ 0 → left p S ≡ plannedSheet p S ∷ left p (S + 1) → Turns p (S + 1) (left p (S + 1)) → Turns p S (left p S)
+  sheet-turn : sourceError large p S ≡ 0 → left p S ≡ plannedSheet large p S ∷ left p (S + 1) → Turns p (S + 1) (left p (S + 1)) → Turns p S (left p S)
   sheet-turn ok h ts =
-      let s = plannedSheet p S in
+      let s = plannedSheet large p S in
       let some : length s ≡ 0 → ⊥ = λ z. omega (arith, sheet-long p S ok) in
       let whole : take (length s) s ≡ s = take-length s in
       let g : Turned p S (record { size = length s; next = S + 1 }) s s = record { none = λ z. absurd (some z); one = λ _. (rw whole h, omega arith, refl) } in
@@ -42,12 +42,12 @@ turns-from p a (suc n) S e =
     let l : S < all = omega arith in
     let next = turns-from p a n (S + 1) (omega arith) in
     let later = left-accepted p (S + 1) a in
-    test (eqb (sourceError p S) 0)
+    test (eqb (sourceError large p S) 0)
     (λ t.
-    let ok = eqb-true (sourceError p S) 0 t in
-    sheet-turn p S ok (left-accepted p S a ∙ from-sound p S all l ok ∙ ap (λ s. plannedSheet p S ∷ s) (sym later)) next)
+    let ok = eqb-true (sourceError large p S) 0 t in
+    sheet-turn p S ok (left-accepted p S a ∙ from-sound p S all l ok ∙ ap (λ s. plannedSheet large p S ∷ s) (sym later)) next)
     (λ t.
-    let same : left p S ≡ left p (S + 1) = left-accepted p S a ∙ from-dead p S all l (eqb-false (sourceError p S) 0 t) ∙ sym later in
+    let same : left p S ≡ left p (S + 1) = left-accepted p S a ∙ from-dead p S all l (eqb-false (sourceError large p S) 0 t) ∙ sym later in
     rw same (later-turn p S (left p (S + 1)) same next))
 
 -- Of every plan, accepted or not.

@@ -13,6 +13,7 @@ use Rattle.sheet.specs.Output.{roomError, written, outAfter}
 use Rattle.sheet.proofs.Inputs.{read-whole}
 use Rattle.sheet.proofs.Outputs.{size-written, not-refused, front-written, rest-written}
 use Rattle.plan.specs.Layout.{shapeOf}
+use Rattle.plan.specs.Checks.{large}
 use Rattle.routes.specs.Layout.{entryCount}
 use Rattle.routes.proofs.Sheets.{accepted}
 use Rattle.routes.proofs.Readings.{few}
@@ -25,14 +26,14 @@ use Rattle.all_sheets.specs.Turn.{Turned, Turns, last, turn}
 use Rattle.all_sheets.proofs.Left.{left-decided, none-left, first-left}
 
 -- The longest sheet has 4,095 entries.
-module _ (p : List ℕ) (S : ℕ) (ok : sourceError p S ≡ 0) where
-  pub sheet-long : 7 ≤ length (plannedSheet p S)
-  sheet-long = accepted p (plannedSheet p S) (sheet-accepted p S (source-of p S ok)) .head .long
+module _ (p : List ℕ) (S : ℕ) (ok : sourceError large p S ≡ 0) where
+  pub sheet-long : 7 ≤ length (plannedSheet large p S)
+  sheet-long = accepted large p (plannedSheet large p S) (sheet-accepted large p S (source-of large p S ok)) .head .long
 
-  sheet-fits : length (plannedSheet p S) ≤ 20482
+  sheet-fits : length (plannedSheet large p S) ≤ 20482
   sheet-fits =
-      let good = sheet-accepted p S (source-of p S ok) in
-      omega (arith, accepted p (plannedSheet p S) good .head .sized, few p (plannedSheet p S) good)
+      let good = sheet-accepted large p S (source-of large p S ok) in
+      omega (arith, accepted large p (plannedSheet large p S) good .head .sized, few large p (plannedSheet large p S) good)
 
 module _ (p : List ℕ) (from all S : ℕ) (count : all ≡ countAnswer (shapeOf p)) (g : NextSource p from all S) where
   turned-none : all ≤ S → (o : List ℕ) → Turned p from (record { size = 0; next = from }) o o
@@ -40,9 +41,9 @@ module _ (p : List ℕ) (from all S : ℕ) (count : all ≡ countAnswer (shapeOf
 
   module _
       (l : S < all) (o t : List ℕ) (w : Written) (h : 20482 ≤ length o)
-      (made : (w ≡ written (roomError (sourceError p S) (plannedSheet p S) o) (plannedSheet p S)) × (t ≡ outAfter (roomError (sourceError p S) (plannedSheet p S) o) (plannedSheet p S) o)) where
+      (made : (w ≡ written (roomError (sourceError large p S) (plannedSheet large p S) o) (plannedSheet large p S)) × (t ≡ outAfter (roomError (sourceError large p S) (plannedSheet large p S) o) (plannedSheet large p S) o)) where
     abbrev s : List ℕ
-    s = plannedSheet p S
+    s = plannedSheet large p S
 
     fits : length s ≤ length o
     fits = omega (arith, sheet-fits p S (g .sound l))
@@ -50,15 +51,15 @@ module _ (p : List ℕ) (from all S : ℕ) (count : all ≡ countAnswer (shapeOf
     turned-one : (k : ℕ) → w ≡ Bytes k → Turned p from (record { size = k; next = S + 1 }) o t
     turned-one k e =
         let ok = g .sound l in
-        let size = size-written (sourceError p S) s o ok fits w t made k e in
-        let front : take k t ≡ s = rw size (front-written (sourceError p S) s o ok fits w t made) in
+        let size = size-written (sourceError large p S) s o ok fits w t made k e in
+        let front : take k t ≡ s = rw size (front-written (sourceError large p S) s o ok fits w t made) in
         record {
           none = λ z. absurd (omega (arith, z, size, sheet-long p S ok));
-          one = λ n. (first-left p from all S count g l ∙ ap (λ x. x ∷ left p (S + 1)) (sym front), omega (arith, g .onward), rw size (rest-written (sourceError p S) s o ok fits w t made));
+          one = λ n. (first-left p from all S count g l ∙ ap (λ x. x ∷ left p (S + 1)) (sym front), omega (arith, g .onward), rw size (rest-written (sourceError large p S) s o ok fits w t made));
         }
 
     no-refusal : (e : ℕ) → w ≡ Refused e → ⊥
-    no-refusal e q = not-refused (sourceError p S) s o (g .sound l) fits w t made e q
+    no-refusal e q = not-refused (sourceError large p S) s o (g .sound l) fits w t made e q
 
 -- ---- of the whole input
 turned-whole :
@@ -88,7 +89,7 @@ module _
 
   module _
       (l : S < all) (o t : List ℕ) (w : Written) (h : 20482 ≤ length o)
-      (made : (w ≡ written (roomError (sourceError p S) (plannedSheet p S) o) (plannedSheet p S)) × (t ≡ outAfter (roomError (sourceError p S) (plannedSheet p S) o) (plannedSheet p S) o)) where
+      (made : (w ≡ written (roomError (sourceError large p S) (plannedSheet large p S) o) (plannedSheet large p S)) × (t ≡ outAfter (roomError (sourceError large p S) (plannedSheet large p S) o) (plannedSheet large p S) o)) where
     pub one-turned : (k n next : ℕ) → w ≡ Bytes k → n ≡ k → next ≡ S + 1 → (Turned (take size plan) from (record { size = n; next = next }) o t) × ((whole : List ℕ) → ReadInto whole plan size → Turned whole from (record { size = n; next = next }) o t)
     one-turned k n next e en es = rw (en, es) (both (record { size = k; next = S + 1 }) o t (turned-one p from all S counted g l o t w h made k e))
 

@@ -2,6 +2,7 @@
 use Prim.Native.Nat.{ℕ, _-_, _≤_, _<_}
 use mathlib.Core.Path.{_≡_}
 use mathlib.Core.List.{List}
+use Rattle.plan.specs.Checks.{large}
 use Rattle.planner.specs.Sheet.{sourceError}
 use Rattle.all_sheets.specs.All.{sheetsFrom}
 
@@ -9,4 +10,4 @@ use Rattle.all_sheets.specs.All.{sheetsFrom}
 pub record NextSource (p : List ℕ) (from all r : ℕ) : Type 0 where
   pub onward : from ≤ r
   pub sheets : sheetsFrom p from (all - from) ≡ sheetsFrom p r (all - r)
-  pub sound : r < all → sourceError p r ≡ 0
+  pub sound : r < all → sourceError large p r ≡ 0

@@ -1,8 +1,8 @@
 // What the bench calls from Rust.
+use choice::Outcome;
 use machine::leg::Mode;
 use packet::Packet;
 use packet::Route;
-use planner::outcome::Outcome;
 use planner::pair::pair;
 use planner::sheets::write_sheet;
 use shape::Shape;
@@ -39,10 +39,9 @@ pub extern "C" fn nafthurm_walk(
 
 // The route's length; 255 where there is none.
 #[no_mangle]
-pub extern "C" fn nafthurm_pair(plan: &[u8], source: u16, dest: u16) -> u8 {
+pub extern "C" fn nafthurm_pair(plan: &[u8], source: u16, dest: u16) -> u16 {
     match pair(plan, source, dest) {
-        Outcome::Direct(_, length) => length,
-        Outcome::Via(_, _, _, length) => length,
+        Outcome::Given(_, length) => length,
         Outcome::Refused(_) => 255,
     }
 }

@@ -21,6 +21,10 @@ use Rattle.machine.specs.Node.{isNode, arePair, distanceAnswer}
 use Rattle.machine.specs.Torus.{leg}
 use Rattle.machine.proofs.Nodes.{node-of}
 use Rattle.plan.specs.Layout.{shapeOf}
+<<<<<<< HEAD
+=======
+use Rattle.plan.specs.Checks.{Limits}
+>>>>>>> f3eae581fb374262f724a7b802cc14814be88055
 use Rattle.packet.specs.declared.route.Route.{Route}
 use Rattle.choice.specs.declared.outcome.Outcome.{Outcome}
 use Rattle.choice.specs.Answer.{Given, answered}
@@ -29,7 +33,11 @@ use Rattle.plan.specs.Checks.{Limits}
 use Rattle.routes.specs.declared.layout.Entry.{Entry}
 use Rattle.routes.specs.declared.route.Found.{Found}
 use Rattle.routes.specs.declared.route.Found.the-variants.{At, Missing}
+<<<<<<< HEAD
 use Rattle.routes.specs.Layout.{source, entryCount, entryAt, entriesOf}
+=======
+use Rattle.routes.specs.Layout.{Format, formatOf, source, entryCount, entriesAt, entrySize, entryAt, entriesOf}
+>>>>>>> f3eae581fb374262f724a7b802cc14814be88055
 use Rattle.routes.specs.Kinds.{viaKind}
 use Rattle.routes.specs.Checks.{entryGood, routesGood, sheetError}
 use Rattle.routes.specs.Said.{saidBy, toldAs}
@@ -123,9 +131,9 @@ module _ (m : Shape) (S : ℕ) (source : isNode m S ≡ true) where
   told-with d (suc (suc (suc (suc (suc zero))))) v hd hv = ap (λ n. Outcome.Given (Route.Via v Deterministic Deterministic) n) (two-legs v d hv hd)
   told-with d (suc (suc (suc (suc (suc (suc k)))))) v hd hv = refl
 
-  told-good : (e : Entry) → entryGood m S e ≡ true → toldAs (lengthBy m S e) (saidBy e) ≡ told m S (saidBy e)
-  told-good e h =
-      let g = good-entry m S e h in
+  told-good : (F : Format) (e : Entry) → entryGood F m S e ≡ true → toldAs (lengthBy m S e) (saidBy e) ≡ told m S (saidBy e)
+  told-good F e h =
+      let g = good-entry F m S e h in
       told-with (e .dest) (e .kind) (e .via) (is-node m S source (e .dest) (g .dest)) (is-node m S source (e .via) (g .via))
 
   told-direct : (d : ℕ) → isNode m d ≡ true → Outcome.Given (Route.Direct Adaptive) (distanceAnswer m S d) ≡ told m S (Given (leg d Adaptive ∷ []))
@@ -133,9 +141,9 @@ module _ (m : Shape) (S : ℕ) (source : isNode m S ≡ true) where
   told-direct d h = ap (λ n. Outcome.Given (Route.Direct Adaptive) n) (one-leg d h)
 
 -- What is found is good.
-abbrev FoundGood : Shape → ℕ → Found → Type 0
-FoundGood m S (At e) = entryGood m S e ≡ true
-FoundGood m S Missing = Unit {0}
+abbrev FoundGood : Format → Shape → ℕ → Found → Type 0
+FoundGood F m S (At e) = entryGood F m S e ≡ true
+FoundGood F m S Missing = Unit {0}
 
 module _ (L : Limits) (p s : List ℕ) (d : ℕ) where
   pub refused : (e : ℕ) → e ≡ lookupError L p s d → (e ≡ 0 → ⊥) → Outcome.Refused e ≡ told (shapeOf p) (source s) (says L p s d)
@@ -155,21 +163,21 @@ module _ (L : Limits) (p s : List ℕ) (d : ℕ) where
 
     source-node : isNode m S ≡ true
     unfolding routesGood
-    source-node = and-true (isNode m S) _ (looked-up p s d h .routes) .0
+    source-node = and-true (isNode m S) _ (looked-up L p s d h .routes) .0
 
     dest-node : isNode m d ≡ true
     unfolding lookupError
     dest-node = not-false _ (declined-zero (not (isNode m d)) _ (then-zero (sheetError L p s) _ h .1))
 
-    found-good : (f : Found) → f ≡ foundIn s d → FoundGood m S f
+    found-good : (f : Found) → f ≡ foundIn s d → FoundGood (formatOf s) m S f
     unfolding foundIn routesGood entriesOf
     found-good f e = rw e (go (ltb i (entryCount s)) refl)
       where
         i : ℕ
         i = find (entriesOf s) d
 
-        go : (b : Bool) → ltb i (entryCount s) ≡ b → FoundGood m S (pickFound b (At (entryAt s i)) Missing)
-        go true t = each-good m S (entryAt s) (entryCount s) 0 0 (and-true (isNode m S) _ (looked-up p s d h .routes) .1) i (omega arith) (omega (arith, ltb-true i (entryCount s) t))
+        go : (b : Bool) → ltb i (entryCount s) ≡ b → FoundGood (formatOf s) m S (pickFound b (At (entryAt s i)) Missing)
+        go true t = each-good (formatOf s) m S (entryAt s) (entryCount s) 0 0 (and-true (isNode m S) _ (looked-up L p s d h .routes) .1) i (omega arith) (omega (arith, ltb-true i (entryCount s) t))
         go false t = tt
 
     said : (f : Found) → f ≡ foundIn s d → orDirect d f ≡ says L p s d
@@ -178,7 +186,7 @@ module _ (L : Limits) (p s : List ℕ) (d : ℕ) where
 
     pub said-found : (e : Entry) → At e ≡ foundIn s d → toldAs (lengthBy m S e) (saidBy e) ≡ told m S (says L p s d)
     unfolding orDirect
-    said-found e q = told-good m S source-node e (found-good (At e) q) ∙ ap (told m S) (said (At e) q)
+    said-found e q = told-good m S source-node (formatOf s) e (found-good (At e) q) ∙ ap (told m S) (said (At e) q)
 
     pub said-direct : Missing ≡ foundIn s d → Outcome.Given (Route.Direct Adaptive) (distanceAnswer m S d) ≡ told m S (says L p s d)
     unfolding orDirect

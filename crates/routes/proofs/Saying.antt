@@ -20,9 +20,9 @@ use Rattle.packet.specs.New.{legsTo}
 use Rattle.choice.specs.Choice.{Choice, AdmitsIn, viasOf, targetsOf}
 use Rattle.choice.specs.Answer.{Answer, Given, Refused}
 use Rattle.choice.specs.Outcome.{told}
-use Rattle.routes.specs.Layout.{written}
 use Rattle.routes.specs.Kinds.{hasModes, kindFrom, kindOf, viaKind, plainKind}
 use Rattle.routes.specs.Said.{saidBy, entryFor, heard}
+use Rattle.routes.specs.Layout.{written}
 use Rattle.routes.specs.Checks.{viaGood, entryGood}
 
 -- The entry of an answer, from the code's enum of it.
@@ -86,12 +86,12 @@ says-refused d (suc (suc (suc (suc zero)))) h = absurd (omega arith)
 says-refused d (suc (suc (suc (suc (suc zero))))) h = absurd (omega arith)
 
 module _ (s : Shape) (S D : ℕ) (node : isNode s D ≡ true) (other : D ≡ S → ⊥) where
-  one-good : (m : Mode) → ((leg D m ∷ []) ≡ (leg D Adaptive ∷ []) → ⊥) → viaGood s S (entryFor D (Given (leg D m ∷ []))) ≡ true
+  one-good : (m : Mode) → ((leg D m ∷ []) ≡ (leg D Adaptive ∷ []) → ⊥) → viaGood written s S (entryFor D (Given (leg D m ∷ []))) ≡ true
   unfolding viaGood entryFor viasOf kindOf kindFrom hasModes viaKind plainKind
   one-good Adaptive h = absurd (h refl)
   one-good Deterministic h = refl
 
-  two-good : (v : ℕ) (m n : Mode) → AdmitsIn s S D (leg v m ∷ leg D n ∷ []) → viaGood s S (entryFor D (Given (leg v m ∷ leg D n ∷ []))) ≡ true
+  two-good : (v : ℕ) (m n : Mode) → AdmitsIn s S D (leg v m ∷ leg D n ∷ []) → viaGood written s S (entryFor D (Given (leg v m ∷ leg D n ∷ []))) ≡ true
   unfolding viaGood entryFor viasOf targetsOf kindOf kindFrom hasModes viaKind plainKind isNode
   two-good v m n a = go m n
     where
@@ -101,23 +101,23 @@ module _ (s : Shape) (S D : ℕ) (node : isNode s D ≡ true) (other : D ≡ S �
       below : v < nodeCount s
       below = a .inside .0
 
-      go : (m n : Mode) → viaGood s S (entryFor D (Given (leg v m ∷ leg D n ∷ []))) ≡ true
+      go : (m n : Mode) → viaGood written s S (entryFor D (Given (leg v m ∷ leg D n ∷ []))) ≡ true
       go Adaptive Adaptive = rw (ne-eqb v S (λ e. apart .0 (sym e)), ne-eqb v D (apart .1), lt-ltb v (nodeCount s) below, eq-eqb _ 0 (node-of s D node .sound))
       go Adaptive Deterministic = rw (ne-eqb v S (λ e. apart .0 (sym e)), ne-eqb v D (apart .1), lt-ltb v (nodeCount s) below, eq-eqb _ 0 (node-of s D node .sound))
       go Deterministic Adaptive = rw (ne-eqb v S (λ e. apart .0 (sym e)), ne-eqb v D (apart .1), lt-ltb v (nodeCount s) below, eq-eqb _ 0 (node-of s D node .sound))
       go Deterministic Deterministic = rw (ne-eqb v S (λ e. apart .0 (sym e)), ne-eqb v D (apart .1), lt-ltb v (nodeCount s) below, eq-eqb _ 0 (node-of s D node .sound))
 
   -- Of an admitted choice that is not direct and adaptive, and of 10 and 11, the entry is good.
-  pub choice-good : (c : Choice) → AdmitsIn s S D c → (c ≡ leg D Adaptive ∷ [] → ⊥) → entryGood s S (entryFor D (Given c)) ≡ true
+  pub choice-good : (c : Choice) → AdmitsIn s S D c → (c ≡ leg D Adaptive ∷ [] → ⊥) → entryGood written s S (entryFor D (Given c)) ≡ true
   unfolding entryGood entryFor
   choice-good c a h =
       rw (node, ne-eqb D S other)
       (admitted-legs (λ c. (c ≡ leg D Adaptive ∷ [] → ⊥) → viaGood s S (entryFor D (Given c)) ≡ true) s S D one-good (λ v m n a _. two-good v m n a) c a h)
 
-  pub dead-good : entryGood s S (entryFor D (Refused deadEnd)) ≡ true
+  pub dead-good : entryGood written s S (entryFor D (Refused deadEnd)) ≡ true
   unfolding entryGood entryFor viaGood viaKind plainKind
   dead-good = rw (node, ne-eqb D S other)
 
-  pub none-good : entryGood s S (entryFor D (Refused noClearChoice)) ≡ true
+  pub none-good : entryGood written s S (entryFor D (Refused noClearChoice)) ≡ true
   unfolding entryGood entryFor viaGood viaKind plainKind
   none-good = rw (node, ne-eqb D S other)

@@ -3,6 +3,7 @@ use Prim.Native.Nat.{ℕ, _+_, min}
 use mathlib.Core.Bool.{cond}
 use mathlib.Core.List.{List, [], _∷_}
 use lib.Dec.{eqb}
+use Rattle.numbers.specs.Numbers.{noClearChoice}
 use Rattle.routes.specs.declared.layout.Entry.{Entry}
 use Rattle.routes.specs.Layout.{entryCount, entriesOf}
 use Rattle.sheets.specs.declared.tally.Tally.{Tally}
@@ -13,7 +14,7 @@ plus a b = min (a + b) 4294967295
 
 -- Kind 11 is no clear choice.
 abbrev pub isWithout : ℕ → ℕ
-isWithout kind = cond (eqb kind 11) 1 0
+isWithout kind = cond (eqb kind noClearChoice) 1 0
 
 unfoldable pub withoutIn : List Entry → ℕ
 withoutIn [] = 0

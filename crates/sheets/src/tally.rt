@@ -1,4 +1,5 @@
 // What was written: sheets, their entries, and among these the pairs without a clear choice.
+use numbers::NO_CLEAR_CHOICE;
 use routes::layout::count_in;
 use routes::layout::entry_in;
 ghost use mathlib.Core.Path.{_≡_};
@@ -35,7 +36,7 @@ fn sum(a: u32, b: u32) -> u32
 fn is_without(kind: u8) -> u32
     ensures { λ r. ⌜ r ≡ isWithout kind ⌝ }
 {
-    if kind == 11 { 1 } else { 0 }
+    if kind == NO_CLEAR_CHOICE { 1 } else { 0 }
 }
 
 fn without_in(sheet: &[u8]) -> u32
