@@ -23,11 +23,10 @@ use Rattle.plan.specs.Layout.{shapeOf, faultsOf}
 use Rattle.plan.specs.Checks.{Limits, planError}
 use Rattle.dead.specs.Dead.{deadNode}
 use Rattle.dead.proofs.Table.{is-node}
-use Rattle.tables.proofs.LastHop.{self-clear}
 use Rattle.choice.specs.Choice.{Choice, AdmitsIn, det}
 use Rattle.choice.specs.Answer.{Answer, Given, Refused, answered}
 use Rattle.choice.specs.Pair.{soundIn, routeIn, pairError, chosen, pair}
-use Rattle.choice.proofs.AtTorus.{direct-first}
+use Rattle.choice.proofs.AtTorus.{empty-adaptive, direct-first}
 use Rattle.choice.proofs.Demand.{pair-chosen, found-planned, demand}
 use Rattle.routes.specs.declared.layout.Entry.{Entry}
 use Rattle.routes.specs.Layout.{written}
@@ -130,7 +129,7 @@ module _ (L : Limits) (p : List ℕ) (S : ℕ) (s : Source L p S) where
   unfolding lists
   self-unlisted =
       let k = node-of (shapeOf p) S (s .node) in
-      let clear = self-clear (shapeOf p) (k .sound) (soundIn p) Adaptive S (k .below) in
+      let clear = empty-adaptive (shapeOf p) (k .sound) (soundIn p) S S (k .below) (k .below) in
       let route : routeIn p S S ≡ some (leg S Adaptive ∷ []) = direct-first (shapeOf p) (k .sound) (soundIn p) S S (k .below) (k .below) clear in
       rw (pair-alive S (s .node) (s .alive), route)
 
