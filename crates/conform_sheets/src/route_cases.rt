@@ -12,6 +12,7 @@ use conform_fields::sheets::read_plan;
 use conform_fields::sheets::read_room;
 use conform_fields::sheets::read_routes;
 use routes::layout::ENTRIES_AT;
+use routes::layout::ENTRY_SIZE;
 use routes::layout::source_in;
 use routes::lookup::find_entry;
 use routes::lookup::lookup;
@@ -32,8 +33,8 @@ fn put_part(out: &mut [u8], at: usize, sheet: &[u8], dest: u16, entry: &[u8]) ->
     if entry.len() == 0 {
         return put::bytes(out, at, b"part=0:0");
     }
-    let start = ENTRIES_AT + 5 * (find_entry(sheet, dest) as usize);
-    let end = start + 5;
+    let start = ENTRIES_AT + ENTRY_SIZE * (find_entry(sheet, dest) as usize);
+    let end = start + ENTRY_SIZE;
     if !same(part(sheet, start, end), entry) {
         return put::bytes(out, at, b"part=?");
     }
