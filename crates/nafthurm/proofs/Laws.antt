@@ -72,6 +72,7 @@ new-is s S D c a = admitted-legs (λ c. packetOf (madeFor (packetIn S D (outcome
     one : (m : Mode) → packetOf (madeFor (packetIn S D (outcomeIn D (routeFor (told s S (Given (leg D m ∷ []))))))) ≡ newPacket S (leg D m ∷ [])
     one Adaptive = refl
     one Deterministic = refl
+
     two : (v : ℕ) (m n : Mode) → packetOf (madeFor (packetIn S D (outcomeIn D (routeFor (told s S (Given (leg v m ∷ leg D n ∷ []))))))) ≡ newPacket S (leg v m ∷ leg D n ∷ [])
     two v Adaptive Adaptive = refl
     two v Adaptive Deterministic = refl

@@ -106,5 +106,8 @@ pub fn decode(n: u32) -> Outcome
         return Outcome::Given(Route::Direct(mode(first == 0)), length);
     }
     let via = (n % VIAS / NODE) as u16;
-    Outcome::Given(Route::Via(via, mode(first == 0), mode(dets == first)), length)
+    Outcome::Given(
+        Route::Via(via, mode(first == 0), mode(dets == first)),
+        length,
+    )
 }

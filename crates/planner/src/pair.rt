@@ -27,7 +27,11 @@ fn pair_error(plan: &[u8], source: u16, dest: u16) -> u8
     let shape = shape_in(plan);
     let known = both(is_node(shape, source), is_node(shape, dest));
     let dead = either(is_dead_node(plan, source), is_dead_node(plan, dest));
-    pick(error != 0, error, pick(known, pick(dead, DEAD_END, 0), NODE_OUTSIDE))
+    pick(
+        error != 0,
+        error,
+        pick(known, pick(dead, DEAD_END, 0), NODE_OUTSIDE),
+    )
 }
 
 pub fn pair(plan: &[u8], source: u16, dest: u16) -> Outcome

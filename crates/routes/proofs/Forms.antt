@@ -69,6 +69,9 @@ entry-row l i e =
 pub head-length : (l : List ℕ) (S n : ℕ) → length (putHead l S n) ≡ length l
 head-length l S n = ap length (head-row l S n) ∙ length-sets l 0 (headBytes written S n)
 
+pub head-room : (l head : List ℕ) (S n k : ℕ) → head ≡ putHead l S n → k ≤ length l → k ≤ length head
+head-room l head S n k e h = omega (arith, ap length e, head-length l S n)
+
 pub head-take : (l : List ℕ) (S n : ℕ) → entriesAt ≤ length l → take entriesAt (putHead l S n) ≡ headBytes written S n
 unfolding headBytes
 head-take l S n h = rw (head-row l S n, sets-eq (headBytes written S n) l 0 (omega arith))

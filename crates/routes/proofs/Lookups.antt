@@ -21,23 +21,15 @@ use Rattle.machine.specs.Node.{isNode, arePair, distanceAnswer}
 use Rattle.machine.specs.Torus.{leg}
 use Rattle.machine.proofs.Nodes.{node-of}
 use Rattle.plan.specs.Layout.{shapeOf}
-<<<<<<< HEAD
-=======
 use Rattle.plan.specs.Checks.{Limits}
->>>>>>> f3eae581fb374262f724a7b802cc14814be88055
 use Rattle.packet.specs.declared.route.Route.{Route}
 use Rattle.choice.specs.declared.outcome.Outcome.{Outcome}
 use Rattle.choice.specs.Answer.{Given, answered}
 use Rattle.choice.specs.Outcome.{told}
-use Rattle.plan.specs.Checks.{Limits}
 use Rattle.routes.specs.declared.layout.Entry.{Entry}
 use Rattle.routes.specs.declared.route.Found.{Found}
 use Rattle.routes.specs.declared.route.Found.the-variants.{At, Missing}
-<<<<<<< HEAD
-use Rattle.routes.specs.Layout.{source, entryCount, entryAt, entriesOf}
-=======
 use Rattle.routes.specs.Layout.{Format, formatOf, source, entryCount, entriesAt, entrySize, entryAt, entriesOf}
->>>>>>> f3eae581fb374262f724a7b802cc14814be88055
 use Rattle.routes.specs.Kinds.{viaKind}
 use Rattle.routes.specs.Checks.{entryGood, routesGood, sheetError}
 use Rattle.routes.specs.Said.{saidBy, toldAs}

@@ -112,7 +112,7 @@ module _ (s : Shape) (S D : ℕ) (node : isNode s D ≡ true) (other : D ≡ S �
   unfolding entryGood entryFor
   choice-good c a h =
       rw (node, ne-eqb D S other)
-      (admitted-legs (λ c. (c ≡ leg D Adaptive ∷ [] → ⊥) → viaGood s S (entryFor D (Given c)) ≡ true) s S D one-good (λ v m n a _. two-good v m n a) c a h)
+      (admitted-legs (λ c. (c ≡ leg D Adaptive ∷ [] → ⊥) → viaGood written s S (entryFor D (Given c)) ≡ true) s S D one-good (λ v m n a _. two-good v m n a) c a h)
 
   pub dead-good : entryGood written s S (entryFor D (Refused deadEnd)) ≡ true
   unfolding entryGood entryFor viaGood viaKind plainKind

@@ -45,5 +45,10 @@ pub fn write(plan: &[u8], routes: Routes, out: &mut [u8]) -> Written
     }
     let mut bytes = [0u8; 20482];
     encode(routes, &mut bytes);
-    write_front(plan, &bytes, ENTRIES_AT + ENTRY_SIZE * (count as usize), out)
+    write_front(
+        plan,
+        &bytes,
+        ENTRIES_AT + ENTRY_SIZE * (count as usize),
+        out,
+    )
 }

@@ -4,7 +4,7 @@ use mathlib.Core.Path.{_≡_, refl, ap, _∙_}
 use lib.ListN.{length, getD}
 use Rattle.sheet.proofs.Encoding.{begin, ended}
 use Rattle.routes.specs.Layout.{written, entriesAt, entryForm, noEntry, mostEntries}
-use Rattle.routes.proofs.Forms.{lawful-written, head-length, Encoded, entry-put}
+use Rattle.routes.proofs.Forms.{lawful-written, head-length, head-room, Encoded, entry-put}
 use Rattle.routes.proofs.Writings.{whole}
 use Rattle.routes.proofs.encode.encode.Statement.{statement}
 use Rattle.routes.proofs.encode.encode.Tie as tie
@@ -19,7 +19,7 @@ put-head-requires : tie.Need-put-head-requires Inv-loop μ-loop
 put-head-requires c κs = omega arith
 
 loop-holds : tie.Need-loop-holds Inv-loop μ-loop
-loop-holds c = (omega arith, begin (entryForm written) (lawful-written .long) entriesAt _ _ _ (omega (arith, ap length (c .before .before .put-head .ensures), head-length _ _ _)))
+loop-holds c = (omega arith, begin (entryForm written) (lawful-written .long) entriesAt _ _ _ (head-room _ _ _ _ _ (c .before .before .put-head .ensures) (omega arith)))
 
 cast-put-entry : tie.Need-cast-put-entry Inv-loop μ-loop
 cast-put-entry c = omega arith

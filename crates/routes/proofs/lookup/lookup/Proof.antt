@@ -53,12 +53,14 @@ part-result-start : tie.Need-part-result-start
 part-result-start c = search needs
 
 part-result-end : tie.Need-part-result-end
+unfolding formatBy
 part-result-end c = omega (arith, looked-up _ _ _ _ (look-ok (c .before .before .before)) .head .sized)
 
 slice-aggregate-result-2 : tie.Need-slice-aggregate-result-2
 slice-aggregate-result-2 c = search needs
 
 returns-2 : tie.Need-returns-2
+unfolding formatBy
 returns-2 c =
     let f = c .before .before .before in
     entry-part _ _ _ _ _ (listed _ _ _ _ (look-ok (f .before)) (omega arith))
