@@ -37,7 +37,8 @@ pub admits-inside : (s : Shape) (S D : ℕ) → D < nodeCount s → (c : Choice)
 admits-inside s S D hD c a = below-inside s c (below-targets (nodeCount s) S c (rw (a .ends) hD) (a .inside))
 
 module _ (s : Shape) (h : shapeError s ≡ 0) (sound : ℕ → ℕ → Bool) (S D : ℕ) (hS : S < nodeCount s) (hD : D < nodeCount s) where
-  empty-adaptive : clear (torus s) sound (leg S Adaptive) S ≡ true
+  -- An empty leg is clear.
+  pub empty-adaptive : clear (torus s) sound (leg S Adaptive) S ≡ true
   empty-adaptive = clear-iff (torus s) (torus-laws s h) sound (leg S Adaptive) hS S hS .1 (empty-clear (torus s) (torus-laws s h) sound (leg S Adaptive) S hS refl)
 
   -- The first clear choice with at most k + 1 vias: the first of those with at most k, and of those to any node with the better leg from there behind.

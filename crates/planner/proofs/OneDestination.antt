@@ -227,8 +227,8 @@ pub record Ready (p : List ℕ) (S : ℕ) (s : Shape) (masks dead from : List �
   pub source : isNode (shapeOf p) S ≡ true
   pub alive : deadNode (faultsOf p) S ≡ false
   pub shape : s ≡ shapeOf p
-  pub links : (n : ℕ) → getD masks n 0 ≡ maskAnswer p n
-  pub nodes : (n : ℕ) → getD dead n 0 ≡ bitOf (nodeAnswer p n)
+  pub links : (n : ℕ) → getD masks n 0 ≡ maskAnswer large p n
+  pub nodes : (n : ℕ) → getD dead n 0 ≡ bitOf (nodeAnswer large p n)
   pub legs : (n : ℕ) → getD from n 0 ≡ outwardAnswer s masks S n
 
 module _ (p : List ℕ) (S : ℕ) (s : Shape) (masks dead from : List ℕ) (r : Ready p S s masks dead from) (D : ℕ) (node : isNode (shapeOf p) D ≡ true) where

@@ -37,7 +37,7 @@ even-odd k = test (eqb (k % 2) 1)
     (λ e. rw e (ne-eqb (k % 2) 0 (λ z. omega (arith, eqb-true (k % 2) 1 e))))
     (λ e. rw e (eq-eqb (k % 2) 0 (omega (arith, borrow.Author.Tests.eqb-false (k % 2) 1 e))))
 
-module _ (p masks : List ℕ) (ok : planError large p ≡ 0) (are : (n : ℕ) → getD masks n 0 ≡ maskAnswer p n) where
+module _ (p masks : List ℕ) (ok : planError large p ≡ 0) (are : (n : ℕ) → getD masks n 0 ≡ maskAnswer large p n) where
   -- A link is sound by the masks where it is sound in the plan.
   pub sound-by : (n d : ℕ) → Node (shapeOf p) n → link (shapeOf p) n d ≡ true → soundBy masks n d ≡ soundIn p n d
   unfolding soundBit sound isPlan
@@ -62,8 +62,8 @@ pub pair-error :
     e ≡ planError large p →
     a ≡ isNode s S →
     b ≡ isNode s D →
-    c ≡ nodeAnswer p S →
-    d ≡ nodeAnswer p D →
+    c ≡ nodeAnswer large p S →
+    d ≡ nodeAnswer large p D →
     cond (not (eqb e 0)) e (cond (a && b) (cond (c || d) deadEnd 0) nodeOutside) ≡ pairError large p S D
 unfolding pairError isPlan
 pair-error p s S D zero a b c d es ee ea eb ec ed =
@@ -98,7 +98,7 @@ unfolding pair answered told
 refused-pair p S D zero q ne = absurd (ne refl)
 refused-pair p S D (suc e) q ne = rw (sym q)
 
-module _ (p masks : List ℕ) (S D : ℕ) (A : Accepted p S D) (are : (n : ℕ) → getD masks n 0 ≡ maskAnswer p n) where
+module _ (p masks : List ℕ) (S D : ℕ) (A : Accepted p S D) (are : (n : ℕ) → getD masks n 0 ≡ maskAnswer large p n) where
   from-node : Node (shapeOf p) S
   from-node = node-of (shapeOf p) S (A .source)
 
@@ -138,7 +138,7 @@ module _ (p : List ℕ) (s : Shape) (S D e : ℕ) (es : s ≡ shapeOf p) (ee : e
 
   pub paired :
       (masks from toward : List ℕ) (count : ℕ) (r : Outcome) →
-      ((n : ℕ) → getD masks n 0 ≡ maskAnswer p n) →
+      ((n : ℕ) → getD masks n 0 ≡ maskAnswer large p n) →
       ((n : ℕ) → getD from n 0 ≡ outwardAnswer s masks S n) →
       ((n : ℕ) → getD toward n 0 ≡ towardAnswer s masks D n) →
       count ≡ countAnswer s →

@@ -9,6 +9,7 @@ use lib.ListN.{length, getD, set, length-set, replicate}
 use lib.Seq.{getD-set-same, getD-set-other}
 use lib.Dec.{eqb}
 use borrow.Author.Tests.{eq-eqb, ne-eqb, lt-ltb}
+use Rattle.numbers.specs.Numbers.{nodeOutside, deadEnd}
 use Rattle.theory.specs.Checks.{declined, _then_}
 use Rattle.theory.proofs.Cases.{by-order}
 use Rattle.sheet.specs.declared.output.Written.{Written}
@@ -16,6 +17,7 @@ use Rattle.sheet.specs.Bytes.{listFrom}
 use Rattle.sheet.specs.Output.{roomError, written, outAfter}
 use Rattle.sheet.proofs.Records.{from-same}
 use Rattle.shape.specs.declared.shape.Shape.{Shape}
+use Rattle.machine.specs.declared.leg.Mode.{Mode}
 use Rattle.machine.specs.declared.leg.Mode.the-variants.{Adaptive, Deterministic}
 use Rattle.machine.specs.Number.{nodeCount}
 use Rattle.machine.specs.Node.{isNode, countAnswer}
@@ -26,35 +28,35 @@ use Rattle.plan.specs.Reading.{isPlan}
 use Rattle.dead.specs.Dead.{deadNode, bitOf, maskAnswer, nodeAnswer}
 use Rattle.dead.proofs.Table.{is-node}
 use Rattle.tables.specs.Table.{outwardAnswer}
-use Rattle.choice.specs.Choice.{Direct, Via, routeOf}
-use Rattle.choice.specs.Pair as Pair
-use Rattle.choice.specs.Pair.{Answer, pair}
-use Rattle.routes.specs.declared.layout.Entry.{Entry}
 use Rattle.packet.specs.declared.route.Route.{Route}
+use Rattle.choice.specs.declared.outcome.Outcome.{Outcome}
+use Rattle.choice.specs.Choice.{det}
+use Rattle.choice.specs.Answer.{Answer, Given, Refused}
+use Rattle.choice.specs.Outcome.{told}
+use Rattle.choice.specs.Pair.{pair}
+use Rattle.routes.specs.declared.layout.Entry.{Entry}
 use Rattle.routes.specs.declared.reading.Routes.{Routes}
+use Rattle.routes.specs.Layout as Layout
 use Rattle.routes.specs.Layout.{noEntry}
-use Rattle.routes.specs.Said as Said
-use Rattle.routes.specs.Said.{Said, Says, Refused, entryFor, heard}
+use Rattle.routes.specs.Said.{entryFor, heard}
 use Rattle.routes.specs.Writing.{sheetBytes, routeEntries, sheetOf, writeError}
-use Rattle.routes.proofs.Saying.{heard-told}
-use Rattle.planner.specs.declared.outcome.Outcome.{Outcome}
-use Rattle.planner.specs.Outcome.{told, routeFrom}
+use Rattle.routes.proofs.Saying.{entry-told}
 use Rattle.planner.specs.OneDestination.{outcomeTo}
-use Rattle.planner.specs.Sheet.{sourceError, saidOf, lists, entriesFrom, plannedSheet}
+use Rattle.planner.specs.Sheet.{sourceError, lists, entriesFrom, plannedSheet}
 use Rattle.planner.specs.Steps.{isListed, pickEntry, counted, lastAt}
 use Rattle.planner.proofs.Planned.{nodes-most}
 use Rattle.planner.proofs.OneDestination.{Ready, dest-planned}
 use Rattle.planner.proofs.Planning.{Source, source-of, self-unlisted, sheet-accepted}
 
 -- ---- the checks
-checks : (a b : Bool) → cond a (cond b 10 0) 9 ≡ (declined (not a) 9 then declined b 10 then 0)
+checks : (a b : Bool) → cond a (cond b deadEnd 0) nodeOutside ≡ (declined (not a) nodeOutside then declined b deadEnd then 0)
 checks true true = refl
 checks true false = refl
 checks false b = refl
 
 pub source-error :
-    (p : List ℕ) (s : Shape) (S e : ℕ) (a b : Bool) → s ≡ shapeOf p → e ≡ planError large p → a ≡ isNode s S → b ≡ nodeAnswer p S →
-    cond (not (eqb e 0)) e (cond a (cond b 10 0) 9) ≡ sourceError p S
+    (p : List ℕ) (s : Shape) (S e : ℕ) (a b : Bool) → s ≡ shapeOf p → e ≡ planError large p → a ≡ isNode s S → b ≡ nodeAnswer large p S →
+    cond (not (eqb e 0)) e (cond a (cond b deadEnd 0) nodeOutside) ≡ sourceError large p S
 unfolding sourceError isPlan
 source-error p s S zero a b es ee ea eb =
     let z : planError large p ≡ 0 = sym ee in
@@ -63,18 +65,18 @@ source-error p s S zero a b es ee ea eb =
 source-error p s S (suc e) a b es ee ea eb = rw (sym ee, ne-eqb (suc e) 0 (λ z. omega arith))
 
 -- ---- a destination's entry
-said-route : (a : Answer) → routeFrom (told a) ≡ Said.told (saidOf a)
-unfolding routeFrom told saidOf Said.told routeOf
-said-route (Pair.Route (Direct m) len) = refl
-said-route (Pair.Route (Via v m n) len) = refl
-said-route (Pair.Refused n) = refl
+listed-mode : (m : Mode) (len : ℕ) → isListed (Outcome.Given (Route.Direct m) len) ≡ not (eqb (det m) 0)
+unfolding isListed
+listed-mode Adaptive len = refl
+listed-mode Deterministic len = refl
 
-said-listed : (x : Said) → isListed (Said.told x) ≡ lists x
-unfolding isListed Said.told routeOf lists
-said-listed (Says (Direct Adaptive)) = refl
-said-listed (Says (Direct Deterministic)) = refl
-said-listed (Says (Via v m n)) = refl
-said-listed (Refused n) = refl
+told-listed : (s : Shape) (S : ℕ) (a : Answer) → isListed (told s S a) ≡ lists a
+unfolding isListed told lists
+told-listed s S (Given []) = refl
+told-listed s S (Given (l ∷ [])) = listed-mode (l .mode) _
+told-listed s S (Given (l ∷ m ∷ [])) = refl
+told-listed s S (Given (l ∷ m ∷ n ∷ ls)) = refl
+told-listed s S (Refused n) = refl
 
 -- ---- lists built at their end
 from-last : (f : ℕ → Entry) (n i : ℕ) → listFrom f i (n + 1) ≡ listFrom f i n ++ (f (i + n) ∷ [])
@@ -107,16 +109,16 @@ pub record Listing (p : List ℕ) (S : ℕ) (entries : List Entry) (listed d : �
   pub within : d ≤ nodeCount (shapeOf p)
   pub few : listed ≤ d
   pub past : S < d → listed + 1 ≤ d
-  pub sum : first entries listed ++ entriesFrom p S d (nodeCount (shapeOf p) - d) ≡ entriesFrom p S 0 (nodeCount (shapeOf p))
+  pub sum : first entries listed ++ entriesFrom large p S d (nodeCount (shapeOf p) - d) ≡ entriesFrom large p S 0 (nodeCount (shapeOf p))
 
 module _ (p : List ℕ) (S : ℕ) where
   pub begin : Listing p S (replicate 4095 noEntry) 0 0
   unfolding listFrom
   begin = record { long = refl; within = omega arith; few = omega arith; past = λ h. omega arith; sum = let z : nodeCount (shapeOf p) - 0 ≡ nodeCount (shapeOf p) = omega arith in rw z }
 
-  module _ (s : Source p S) (entries : List Entry) (listed d : ℕ) (g : Listing p S entries listed d) (l : d < nodeCount (shapeOf p)) where
-    abbrev x : Said
-    x = saidOf (pair p S d)
+  module _ (s : Source large p S) (entries : List Entry) (listed d : ℕ) (g : Listing p S entries listed d) (l : d < nodeCount (shapeOf p)) where
+    abbrev x : Answer
+    x = pair large p S d
 
     most : nodeCount (shapeOf p) ≤ 4096
     most = nodes-most (shapeOf p) (node-of (shapeOf p) S (s .node) .sound)
@@ -124,7 +126,7 @@ module _ (p : List ℕ) (S : ℕ) where
     pub bound : listed ≤ 4096
     bound = omega (arith, most, g .few)
 
-    rest : entriesFrom p S d (nodeCount (shapeOf p) - d) ≡ cond (lists x) (entryFor d x ∷ entriesFrom p S (d + 1) (nodeCount (shapeOf p) - (d + 1))) (entriesFrom p S (d + 1) (nodeCount (shapeOf p) - (d + 1)))
+    rest : entriesFrom large p S d (nodeCount (shapeOf p) - d) ≡ cond (lists x) (entryFor d x ∷ entriesFrom large p S (d + 1) (nodeCount (shapeOf p) - (d + 1))) (entriesFrom large p S (d + 1) (nodeCount (shapeOf p) - (d + 1)))
     unfolding entriesFrom
     rest = let e : nodeCount (shapeOf p) - d ≡ suc (nodeCount (shapeOf p) - (d + 1)) = omega arith in rw (e, add-one d)
 
@@ -134,7 +136,7 @@ module _ (p : List ℕ) (S : ℕ) where
         let f = g .few in
         by-order d S
         (λ k. omega (arith, node-of (shapeOf p) S (s .node) .below))
-        (λ k. absurd (true≢false (sym h ∙ ap (λ n. lists (saidOf (pair p S n))) k ∙ self-unlisted p S s)))
+        (λ k. absurd (true≢false (sym h ∙ ap (λ n. lists (pair large p S n)) k ∙ self-unlisted large p S s)))
         (λ k. omega (arith, g .past k))
 
     later : (n : ℕ) → (S < d → n + 1 ≤ d + 1) → (S ≡ d → n + 1 ≤ d + 1) → S < d + 1 → n + 1 ≤ d + 1
@@ -153,8 +155,8 @@ module _ (p : List ℕ) (S : ℕ) where
           long = length-set entries listed e ∙ g .long;
           within = omega arith;
           few = omega (arith, g .few);
-          past = later (listed + 1) (λ a. omega (arith, g .past a)) (λ a. absurd (true≢false (sym h ∙ ap (λ n. lists (saidOf (pair p S n))) (sym a) ∙ self-unlisted p S s)));
-          sum = ap (λ a. a ++ entriesFrom p S (d + 1) (nodeCount (shapeOf p) - (d + 1))) last ∙ append-assoc (first entries listed) e _ ∙ ap (λ a. first entries listed ++ a) (sym (rest ∙ rw h)) ∙ g .sum;
+          past = later (listed + 1) (λ a. omega (arith, g .past a)) (λ a. absurd (true≢false (sym h ∙ ap (λ n. lists (pair large p S n)) (sym a) ∙ self-unlisted large p S s)));
+          sum = ap (λ a. a ++ entriesFrom large p S (d + 1) (nodeCount (shapeOf p) - (d + 1))) last ∙ append-assoc (first entries listed) e _ ∙ ap (λ a. first entries listed ++ a) (sym (rest ∙ rw h)) ∙ g .sum;
         }
 
     next-unlisted : lists x ≡ false → Listing p S entries listed (d + 1)
@@ -173,104 +175,102 @@ module _ (p : List ℕ) (S : ℕ) where
 
     pub onward :
         (shape : Shape) (masks dead from : List ℕ) → Ready p S shape masks dead from →
-        (o : Outcome) (r : Route) (more : Bool) (at : ℕ) (new put : Entry) (next : ℕ) →
+        (o : Outcome) (more : Bool) (at : ℕ) (new put : Entry) (next : ℕ) →
         o ≡ outcomeTo shape masks dead from S d →
-        r ≡ routeFrom o →
-        more ≡ isListed r →
+        more ≡ isListed o →
         at ≡ lastAt listed →
-        new ≡ entryFor d (heard r) →
+        new ≡ entryFor d (heard d o) →
         put ≡ pickEntry more new (getD entries at noEntry) →
         next ≡ counted listed more →
         Listing p S (set entries at put) next (d + 1)
-    onward shape masks dead from ready o r more at new put next eo er em ea en ep ex =
+    onward shape masks dead from ready o more at new put next eo em ea en ep ex =
         let node = is-node (shapeOf p) d (record { sound = node-of (shapeOf p) S (s .node) .sound; below = l }) in
-        let said : r ≡ Said.told x = er ∙ ap routeFrom (eo ∙ dest-planned p S shape masks dead from ready d node) ∙ said-route (pair p S d) in
-        let listing : more ≡ lists x = em ∙ ap isListed said ∙ said-listed x in
-        let made : new ≡ entryFor d x = en ∙ ap (λ y. entryFor d (heard y)) said ∙ ap (entryFor d) (heard-told x) in
+        let is : o ≡ told (shapeOf p) S x = eo ∙ dest-planned p S shape masks dead from ready d node in
+        let listing : more ≡ lists x = em ∙ ap isListed is ∙ told-listed (shapeOf p) S x in
+        let made : new ≡ entryFor d x = en ∙ ap (λ y. entryFor d (heard d y)) is ∙ entry-told (shapeOf p) S d x in
         rw (ep, ex, made) (next-by more at listing ea)
 
-  pub ended : (entries : List Entry) (listed d : ℕ) → Listing p S entries listed d → nodeCount (shapeOf p) ≤ d → first entries listed ≡ entriesFrom p S 0 (nodeCount (shapeOf p))
+  pub ended : (entries : List Entry) (listed d : ℕ) → Listing p S entries listed d → nodeCount (shapeOf p) ≤ d → first entries listed ≡ entriesFrom large p S 0 (nodeCount (shapeOf p))
   unfolding entriesFrom
   ended entries listed d g h = let z : nodeCount (shapeOf p) - d ≡ 0 = omega arith in sym (append-nil (first entries listed)) ∙ rw z at (g .sum)
 
 pub ready-of :
-    (p : List ℕ) (S : ℕ) (s : Shape) (masks dead from : List ℕ) → sourceError p S ≡ 0 → s ≡ shapeOf p →
-    ((n : ℕ) → getD masks n 0 ≡ maskAnswer p n) →
-    ((n : ℕ) → getD dead n 0 ≡ bitOf (nodeAnswer p n)) →
+    (p : List ℕ) (S : ℕ) (s : Shape) (masks dead from : List ℕ) → sourceError large p S ≡ 0 → s ≡ shapeOf p →
+    ((n : ℕ) → getD masks n 0 ≡ maskAnswer large p n) →
+    ((n : ℕ) → getD dead n 0 ≡ bitOf (nodeAnswer large p n)) →
     ((n : ℕ) → getD from n 0 ≡ outwardAnswer s masks S n) →
     Ready p S s masks dead from
 ready-of p S s masks dead from h es links nodes legs =
-    let k = source-of p S h in
+    let k = source-of large p S h in
     record { plan = k .plan; source = k .node; alive = k .alive; shape = es; links = links; nodes = nodes; legs = legs }
 
 -- All that holds at a turn.
 pub record Going (p : List ℕ) (S : ℕ) (s : Shape) (masks dead from : List ℕ) (all : ℕ) (entries : List Entry) (listed d : ℕ) : Type 0 where
-  pub accepted : sourceError p S ≡ 0
+  pub accepted : sourceError large p S ≡ 0
   pub ready : Ready p S s masks dead from
   pub count : all ≡ nodeCount (shapeOf p)
   pub listing : Listing p S entries listed d
 
 pub going :
-    (p : List ℕ) (S : ℕ) (s : Shape) (masks dead from : List ℕ) (all : ℕ) → sourceError p S ≡ 0 → s ≡ shapeOf p →
-    ((n : ℕ) → getD masks n 0 ≡ maskAnswer p n) →
-    ((n : ℕ) → getD dead n 0 ≡ bitOf (nodeAnswer p n)) →
+    (p : List ℕ) (S : ℕ) (s : Shape) (masks dead from : List ℕ) (all : ℕ) → sourceError large p S ≡ 0 → s ≡ shapeOf p →
+    ((n : ℕ) → getD masks n 0 ≡ maskAnswer large p n) →
+    ((n : ℕ) → getD dead n 0 ≡ bitOf (nodeAnswer large p n)) →
     ((n : ℕ) → getD from n 0 ≡ outwardAnswer s masks S n) →
     all ≡ countAnswer s →
     Going p S s masks dead from all (replicate 4095 noEntry) 0 0
 going p S s masks dead from all h es links nodes legs c = record {
   accepted = h;
   ready = ready-of p S s masks dead from h es links nodes legs;
-  count = c ∙ rw (es, eq-eqb _ 0 (node-of (shapeOf p) S (source-of p S h .node) .sound));
+  count = c ∙ rw (es, eq-eqb _ 0 (node-of (shapeOf p) S (source-of large p S h .node) .sound));
   listing = begin p S;
 }
 
 module _ (p : List ℕ) (S : ℕ) (s : Shape) (masks dead from : List ℕ) (all : ℕ) (entries : List Entry) (listed d : ℕ) (g : Going p S s masks dead from all entries listed d) where
   pub few : (listed ≤ 4096) × (d ≤ 4096) × (all ≤ 4096)
   few =
-      let m = nodes-most (shapeOf p) (node-of (shapeOf p) S (source-of p S (g .accepted) .node) .sound) in
+      let m = nodes-most (shapeOf p) (node-of (shapeOf p) S (source-of large p S (g .accepted) .node) .sound) in
       let w = g .listing .within in
       let f = g .listing .few in
       (omega arith, omega arith, omega (arith, g .count))
 
   pub turn :
-      d < all → (o : Outcome) (r : Route) (more : Bool) (at : ℕ) (new put : Entry) (next : ℕ) →
+      d < all → (o : Outcome) (more : Bool) (at : ℕ) (new put : Entry) (next : ℕ) →
       o ≡ outcomeTo s masks dead from S d →
-      r ≡ routeFrom o →
-      more ≡ isListed r →
+      more ≡ isListed o →
       at ≡ lastAt listed →
-      new ≡ entryFor d (heard r) →
+      new ≡ entryFor d (heard d o) →
       put ≡ pickEntry more new (getD entries at noEntry) →
       next ≡ counted listed more →
       Going p S s masks dead from all (set entries at put) next (d + 1)
-  turn l o r more at new put next eo er em ea en ep ex = record {
+  turn l o more at new put next eo em ea en ep ex = record {
     accepted = g .accepted;
     ready = g .ready;
     count = g .count;
-    listing = onward p S (source-of p S (g .accepted)) entries listed d (g .listing) (omega (arith, g .count)) s masks dead from (g .ready) o r more at new put next eo er em ea en ep ex;
+    listing = onward p S (source-of large p S (g .accepted)) entries listed d (g .listing) (omega (arith, g .count)) s masks dead from (g .ready) o more at new put next eo em ea en ep ex;
   }
 
-  pub done : all ≤ d → first entries listed ≡ entriesFrom p S 0 (nodeCount (shapeOf p))
+  pub done : all ≤ d → first entries listed ≡ entriesFrom large p S 0 (nodeCount (shapeOf p))
   done h = ended p S entries listed d (g .listing) (omega (arith, g .count))
 
 -- ---- the sheet
-pub refused-source : (p : List ℕ) (S e : ℕ) (o : List ℕ) → e ≡ sourceError p S → (e ≡ 0 → ⊥) →
-    (Written.Refused e ≡ written (roomError (sourceError p S) (plannedSheet p S) o) (plannedSheet p S)) × (o ≡ outAfter (roomError (sourceError p S) (plannedSheet p S) o) (plannedSheet p S) o)
+pub refused-source : (p : List ℕ) (S e : ℕ) (o : List ℕ) → e ≡ sourceError large p S → (e ≡ 0 → ⊥) →
+    (Written.Refused e ≡ written (roomError (sourceError large p S) (plannedSheet large p S) o) (plannedSheet large p S)) × (o ≡ outAfter (roomError (sourceError large p S) (plannedSheet large p S) o) (plannedSheet large p S) o)
 unfolding roomError written outAfter
 refused-source p S zero o q ne = absurd (ne refl)
 refused-source p S (suc e) o q ne = (rw (sym q), rw (sym q))
 
-room-is : (p : List ℕ) (S : ℕ) (r : Routes) (o : List ℕ) → sourceError p S ≡ 0 → r .source ≡ S → routeEntries r ≡ entriesFrom p S 0 (nodeCount (shapeOf p)) →
-    (sheetOf r ≡ plannedSheet p S) × (writeError p (sheetOf r) o ≡ roomError (sourceError p S) (plannedSheet p S) o)
+room-is : (p : List ℕ) (S : ℕ) (r : Routes) (o : List ℕ) → sourceError large p S ≡ 0 → r .source ≡ S → routeEntries r ≡ entriesFrom large p S 0 (nodeCount (shapeOf p)) →
+    (sheetOf r ≡ plannedSheet large p S) × (writeError large p (sheetOf r) o ≡ roomError (sourceError large p S) (plannedSheet large p S) o)
 unfolding sheetOf plannedSheet
 room-is p S r o h es ee =
-    let sheet : sheetOf r ≡ plannedSheet p S = ap (λ x. sheetBytes x (routeEntries r)) es ∙ ap (sheetBytes S) ee in
-    (sheet, rw (sheet, h, sheet-accepted p S (source-of p S h)))
+    let sheet : sheetOf r ≡ plannedSheet large p S = ap (λ x. sheetBytes Layout.written x (routeEntries r)) es ∙ ap (sheetBytes Layout.written S) ee in
+    (sheet, rw (sheet, h, sheet-accepted large p S (source-of large p S h)))
 
 pub written-is :
-    (p : List ℕ) (S e : ℕ) (r : Routes) (o : List ℕ) (w : Written) (out : List ℕ) → e ≡ sourceError p S → e ≡ 0 →
-    (r .source ≡ S) × (routeEntries r ≡ entriesFrom p S 0 (nodeCount (shapeOf p))) →
-    (w ≡ written (writeError p (sheetOf r) o) (sheetOf r)) × (out ≡ outAfter (writeError p (sheetOf r) o) (sheetOf r) o) →
-    (w ≡ written (roomError (sourceError p S) (plannedSheet p S) o) (plannedSheet p S)) × (out ≡ outAfter (roomError (sourceError p S) (plannedSheet p S) o) (plannedSheet p S) o)
+    (p : List ℕ) (S e : ℕ) (r : Routes) (o : List ℕ) (w : Written) (out : List ℕ) → e ≡ sourceError large p S → e ≡ 0 →
+    (r .source ≡ S) × (routeEntries r ≡ entriesFrom large p S 0 (nodeCount (shapeOf p))) →
+    (w ≡ written (writeError large p (sheetOf r) o) (sheetOf r)) × (out ≡ outAfter (writeError large p (sheetOf r) o) (sheetOf r) o) →
+    (w ≡ written (roomError (sourceError large p S) (plannedSheet large p S) o) (plannedSheet large p S)) × (out ≡ outAfter (roomError (sourceError large p S) (plannedSheet large p S) o) (plannedSheet large p S) o)
 written-is p S e r o w out ee z made h =
     let t = room-is p S r o (sym ee ∙ z) (made .0) (made .1) in
     rw (sym (t .1), sym (t .0)) h

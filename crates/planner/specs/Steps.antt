@@ -3,14 +3,15 @@ use Prim.Native.Nat.{ℕ, _+_}
 use mathlib.Core.Bool.{Bool, true, false, cond}
 use lib.Dec.{ltb}
 use Rattle.machine.specs.declared.leg.Mode.the-variants.{Adaptive, Deterministic}
-use Rattle.routes.specs.declared.layout.Entry.{Entry}
 use Rattle.packet.specs.declared.route.Route.{Route}
+use Rattle.choice.specs.declared.outcome.Outcome.{Outcome}
+use Rattle.routes.specs.declared.layout.Entry.{Entry}
 
-unfoldable pub isListed : Route → Bool
-isListed (Route.Direct Adaptive) = false
-isListed (Route.Direct Deterministic) = true
-isListed (Route.Via v m n) = true
-isListed (Route.Refused e) = true
+unfoldable pub isListed : Outcome → Bool
+isListed (Outcome.Given (Route.Direct Adaptive) len) = false
+isListed (Outcome.Given (Route.Direct Deterministic) len) = true
+isListed (Outcome.Given (Route.Via v m n) len) = true
+isListed (Outcome.Refused e) = true
 
 abbrev pub pickEntry : Bool → Entry → Entry → Entry
 pickEntry true x y = x

@@ -33,9 +33,6 @@ loop-holds c = going _ _ _ _ _ _ _ (c .before .before .before .before .before .b
 outcome-to-requires : tie.Need-outcome-to-requires Inv-loop μ-loop
 outcome-to-requires c κs = tt
 
-route-requires : tie.Need-route-requires Inv-loop μ-loop
-route-requires c κs = tt
-
 is-listed-requires : tie.Need-is-listed-requires Inv-loop μ-loop
 is-listed-requires c κs = tt
 
@@ -61,19 +58,19 @@ array-set-from-entries : tie.Need-array-set-from-entries Inv-loop μ-loop
 array-set-from-entries c = c .before .before .before .last-at .ensures .1
 
 counted-requires : tie.Need-counted-requires Inv-loop μ-loop
-counted-requires c κs = few _ _ _ _ _ _ _ _ _ _ (c .before .before .before .before .before .before .before .before .before .before .before .loop .inv) .0
+counted-requires c κs = few _ _ _ _ _ _ _ _ _ _ (c .before .before .before .before .before .before .before .before .before .before .loop .inv) .0
 
 add-d : tie.Need-add-d Inv-loop μ-loop
-add-d c = let h = few _ _ _ _ _ _ _ _ _ _ (c .before .before .before .before .before .before .before .before .before .before .before .before .loop .inv) in omega (arith, h .1)
+add-d c = let h = few _ _ _ _ _ _ _ _ _ _ (c .before .before .before .before .before .before .before .before .before .before .before .loop .inv) in omega (arith, h .1)
 
 loop-less : tie.Need-loop-less Inv-loop μ-loop
-loop-less c = let h = c .before .before .before .before .before .before .before .before .before .before .before .loop-test .taken in omega arith
+loop-less c = let h = c .before .before .before .before .before .before .before .before .before .before .loop-test .taken in omega arith
 
 loop-again : tie.Need-loop-again Inv-loop μ-loop
-loop-again c = turn _ _ _ _ _ _ _ _ _ _ (c .before .before .before .before .before .before .before .before .before .before .before .before .loop .inv) (c .before .before .before .before .before .before .before .before .before .before .before .loop-test .taken) _ _ _ _ _ _ _ (c .before .before .before .before .before .before .before .outcome-to .ensures) (c .before .before .before .before .before .before .route .ensures) (c .before .before .before .before .before .is-listed .ensures) (c .before .before .before .before .last-at .ensures .0) (c .before .before .before .entry-for .ensures) (c .before .pick-entry .ensures) (c .counted .ensures)
+loop-again c = turn _ _ _ _ _ _ _ _ _ _ (c .before .before .before .before .before .before .before .before .before .before .before .loop .inv) (c .before .before .before .before .before .before .before .before .before .before .loop-test .taken) _ _ _ _ _ _ (c .before .before .before .before .before .before .outcome-to .ensures) (c .before .before .before .before .before .is-listed .ensures) (c .before .before .before .before .last-at .ensures .0) (c .before .before .before .entry-for .ensures) (c .before .pick-entry .ensures) (c .counted .ensures)
 
-cast-t31 : tie.Need-cast-t31 Inv-loop μ-loop
-cast-t31 c = let h = few _ _ _ _ _ _ _ _ _ _ (c .before .loop .inv) in omega (arith, h .0)
+cast-entry-count : tie.Need-cast-entry-count Inv-loop μ-loop
+cast-entry-count c = let h = few _ _ _ _ _ _ _ _ _ _ (c .before .loop .inv) in omega (arith, h .0)
 
 returns : tie.Need-returns Inv-loop μ-loop
 unfolding routeEntries
@@ -92,7 +89,6 @@ routes-from-spec =
     count-requires
     loop-holds
     outcome-to-requires
-    route-requires
     is-listed-requires
     last-at-requires
     entry-for-requires
@@ -105,5 +101,5 @@ routes-from-spec =
     add-d
     loop-less
     loop-again
-    cast-t31
+    cast-entry-count
     returns)
