@@ -30,7 +30,7 @@ use Rattle.dead.proofs.Table.{is-node}
 use Rattle.tables.specs.Table.{outwardAnswer}
 use Rattle.packet.specs.declared.route.Route.{Route}
 use Rattle.choice.specs.declared.outcome.Outcome.{Outcome}
-use Rattle.choice.specs.Choice.{det}
+use Rattle.choice.specs.Choice.{det, lengthOf}
 use Rattle.choice.specs.Answer.{Answer, Given, Refused}
 use Rattle.choice.specs.Outcome.{told}
 use Rattle.choice.specs.Pair.{pair}
@@ -73,7 +73,7 @@ listed-mode Deterministic len = refl
 told-listed : (s : Shape) (S : ℕ) (a : Answer) → isListed (told s S a) ≡ lists a
 unfolding isListed told lists
 told-listed s S (Given []) = refl
-told-listed s S (Given (l ∷ [])) = listed-mode (l .mode) _
+told-listed s S (Given (l ∷ [])) = listed-mode (l .mode) (lengthOf s S (l ∷ []))
 told-listed s S (Given (l ∷ m ∷ [])) = refl
 told-listed s S (Given (l ∷ m ∷ n ∷ ls)) = refl
 told-listed s S (Refused n) = refl
