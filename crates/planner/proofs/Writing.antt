@@ -200,9 +200,9 @@ pub ready-of :
     ((n : ℕ) → getD dead n 0 ≡ bitOf (nodeAnswer large p n)) →
     ((n : ℕ) → getD from n 0 ≡ outwardAnswer s masks S n) →
     Ready p S s masks dead from
-ready-of p S s masks dead from h es links nodes legs =
+ready-of p S s masks dead from h es links nodes out =
     let k = source-of large p S h in
-    record { plan = k .plan; source = k .node; alive = k .alive; shape = es; links = links; nodes = nodes; legs = legs }
+    record { plan = k .plan; source = k .node; alive = k .alive; shape = es; links = links; nodes = nodes; out = out }
 
 -- All that holds at a turn.
 pub record Going (p : List ℕ) (S : ℕ) (s : Shape) (masks dead from : List ℕ) (all : ℕ) (entries : List Entry) (listed d : ℕ) : Type 0 where
@@ -218,9 +218,9 @@ pub going :
     ((n : ℕ) → getD from n 0 ≡ outwardAnswer s masks S n) →
     all ≡ countAnswer s →
     Going p S s masks dead from all (replicate 4095 noEntry) 0 0
-going p S s masks dead from all h es links nodes legs c = record {
+going p S s masks dead from all h es links nodes out c = record {
   accepted = h;
-  ready = ready-of p S s masks dead from h es links nodes legs;
+  ready = ready-of p S s masks dead from h es links nodes out;
   count = c ∙ rw (es, eq-eqb _ 0 (node-of (shapeOf p) S (source-of large p S h .node) .sound));
   listing = begin p S;
 }
