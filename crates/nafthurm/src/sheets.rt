@@ -4,7 +4,7 @@ use crate::forms::RouteForm;
 use crate::forms::WrittenForm;
 use crate::forms::route_for;
 use crate::forms::written_for;
-use routes::lookup::part;
+use routes::lookup::entry_part;
 use routes::route::route;
 ghost use mathlib.Core.Path.{_≡_};
 ghost use Rattle.sheet.specs.Output.{written, outAfter};
@@ -42,7 +42,7 @@ pub extern "C" fn nafthurm_sheet_write_back(
 pub extern "C" fn nafthurm_lookup(plan: &[u8], sheet: &[u8], destination: u16) -> PartForm
     ensures { λ r. ⌜ r ≡ partFor (partStart large (now (plan .entry)) (now (sheet .entry)) destination) (partLength large (now (plan .entry)) (now (sheet .entry)) destination) ⌝ }
 {
-    let part = part(plan, sheet, destination);
+    let part = entry_part(plan, sheet, destination);
     PartForm {
         start: part.start,
         size: part.size,

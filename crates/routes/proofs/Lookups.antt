@@ -4,6 +4,7 @@ use native.Mathlib.Omega.{arith}
 use mathlib.Core.Path.{_≡_, refl, ap, _∙_}
 use mathlib.Core.Bool.{Bool, true, false, not}
 use mathlib.Core.List.{List, [], _∷_}
+use lib.ListN.{length}
 use lib.Dec.{ltb, eqb}
 use denote.Ref.{RefT, now}
 use borrow.Author.Tests.{eq-eqb, ne-eqb, lt-ltb, le-ltb, ltb-true, not-false}
@@ -27,13 +28,14 @@ use Rattle.choice.specs.declared.outcome.Outcome.{Outcome}
 use Rattle.choice.specs.Answer.{Given, answered}
 use Rattle.choice.specs.Outcome.{told}
 use Rattle.routes.specs.declared.layout.Entry.{Entry}
+use Rattle.routes.specs.declared.lookup.Part.{Part}
 use Rattle.routes.specs.declared.route.Found.{Found}
 use Rattle.routes.specs.declared.route.Found.the-variants.{At, Missing}
-use Rattle.routes.specs.Layout.{Format, formatOf, source, entryCount, entriesAt, entrySize, entryAt, entriesOf}
+use Rattle.routes.specs.Layout.{Format, formatBy, formatOf, source, entryCount, entriesAt, entrySize, entryAt, entriesOf}
 use Rattle.routes.specs.Kinds.{viaKind}
 use Rattle.routes.specs.Checks.{entryGood, routesGood, sheetError}
 use Rattle.routes.specs.Said.{saidBy, toldAs}
-use Rattle.routes.specs.Lookup.{find, lookupError, isListed, PartOf, partStart, partLength}
+use Rattle.routes.specs.Lookup.{find, lookupError, isListed, PartOf, partStart, partLength, partFor}
 use Rattle.routes.specs.Says.{saysOf, says}
 use Rattle.routes.specs.Steps.{pickFound, foundIn, orDirect, lengthBy}
 use Rattle.routes.proofs.Sheets.{Accepted, accepted}
@@ -44,27 +46,33 @@ module _ (L : Limits) (p s : List ℕ) (d : ℕ) where
   unfolding lookupError
   looked-up h = accepted L p s (then-zero (sheetError L p s) _ h .0)
 
-  pub declined-not-listed : (lookupError L p s d ≡ 0 → ⊥) → isListed L p s d ≡ false
+  -- Not listed: no bytes, at the sheet's start.
+  abbrev Made : Part → Type 0
+  Made r = (r ≡ partFor L p s d) × (r .start + r .size ≤ length s)
+
+  none : isListed L p s d ≡ false → Made (record { start = 0; size = 0 })
+  unfolding partFor partStart partLength
+  none h = (rw h, omega arith)
+
+  pub declined-part : (lookupError L p s d ≡ 0 → ⊥) → Made (record { start = 0; size = 0 })
   unfolding isListed
-  declined-not-listed h = rw (ne-eqb (lookupError L p s d) 0 h)
+  declined-part h = none (rw (ne-eqb (lookupError L p s d) 0 h))
 
-  pub not-listed : lookupError L p s d ≡ 0 → entryCount s ≤ find (entriesOf s) d → isListed L p s d ≡ false
-  unfolding isListed
-  not-listed h k = rw (eq-eqb (lookupError L p s d) 0 h, le-ltb (find (entriesOf s) d) (entryCount s) k)
+  module _ (h : lookupError L p s d ≡ 0) (i n : ℕ) (at : i ≡ find (entriesOf s) d) (count : n ≡ entryCount s) where
+    pub unlisted-part : n ≤ i → Made (record { start = 0; size = 0 })
+    unfolding isListed
+    unlisted-part k = none (rw (eq-eqb (lookupError L p s d) 0 h, ← at, ← count, le-ltb i n k))
 
-  pub listed : lookupError L p s d ≡ 0 → find (entriesOf s) d < entryCount s → isListed L p s d ≡ true
-  unfolding isListed
-  listed h k = rw (eq-eqb (lookupError L p s d) 0 h, lt-ltb (find (entriesOf s) d) (entryCount s) k)
+    pub listed-part : i < n → Made (record { start = entriesAt + entrySize (formatOf s) * i; size = entrySize (formatOf s) })
+    unfolding partFor partStart partLength isListed formatBy
+    listed-part k = (rw (eq-eqb (lookupError L p s d) 0 h, ← at, ← count, lt-ltb i n k), omega (arith, looked-up h .head .sized))
 
--- The part.
-module _ (L : Limits) (p : List ℕ) (s r : RefT (List ℕ)) (d : ℕ) where
-  pub empty-part : isListed L p (now s) d ≡ false → PartOf s r 0 0 → PartOf s r (partStart L p (now s) d) (partLength L p (now s) d)
-  unfolding partStart partLength
-  empty-part h k = rw h k
-
-  pub entry-part : isListed L p (now s) d ≡ true → PartOf s r (entriesAt + entrySize (formatOf (now s)) * find (entriesOf (now s)) d) (entrySize (formatOf (now s))) → PartOf s r (partStart L p (now s) d) (partLength L p (now s) d)
-  unfolding partStart partLength
-  entry-part h k = rw h k
+-- The part is those bytes of the sheet.
+pub part-of :
+    (L : Limits) (p : List ℕ) (s r : RefT (List ℕ)) (d : ℕ) (w : Part) → w ≡ partFor L p (now s) d →
+    PartOf s r (w .start) (w .size) → PartOf s r (partStart L p (now s) d) (partLength L p (now s) d)
+unfolding partFor
+part-of L p s r d w e k = rw (← ap (λ (x : Part). x .start) e, ← ap (λ (x : Part). x .size) e) k
 
 is-node : (m : Shape) (S : ℕ) → isNode m S ≡ true → (n : ℕ) → n < nodeCount m → isNode m n ≡ true
 unfolding isNode

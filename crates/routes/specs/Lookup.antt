@@ -12,6 +12,7 @@ use Rattle.machine.specs.Node.{isNode}
 use Rattle.plan.specs.Layout.{shapeOf}
 use Rattle.plan.specs.Checks.{Limits}
 use Rattle.routes.specs.declared.layout.Entry.{Entry}
+use Rattle.routes.specs.declared.lookup.Part.{Part}
 use Rattle.routes.specs.Layout.{formatOf, entryCount, entriesAt, entrySize, entriesOf}
 use Rattle.routes.specs.Checks.{sheetError}
 
@@ -34,6 +35,9 @@ partStart L p s d = cond (isListed L p s d) (entriesAt + entrySize (formatOf s) 
 
 unfoldable pub partLength : Limits → List ℕ → List ℕ → ℕ → ℕ
 partLength L p s d = cond (isListed L p s d) (entrySize (formatOf s)) 0
+
+unfoldable pub partFor : Limits → List ℕ → List ℕ → ℕ → Part
+partFor L p s d = record { start = partStart L p s d; size = partLength L p s d }
 
 -- r is the part of the slice s of len bytes from byte at on: the same memory, and so the same bytes.
 pub record PartOf (s r : RefT (List ℕ)) (at len : ℕ) : Type 0 where

@@ -9,9 +9,11 @@ use machine::node::is_node;
 use numbers::NODE_OUTSIDE;
 use plan::layout::shape_in;
 ghost use mathlib.Core.Path.{_≡_};
+ghost use Prim.Native.Nat.{_+_, _≤_};
+ghost use lib.ListN.{length};
 ghost use Rattle.plan.specs.Checks.{large};
 ghost use Rattle.routes.specs.Layout.{entriesOf};
-ghost use Rattle.routes.specs.Lookup.{find, lookupError, PartOf, partStart, partLength};
+ghost use Rattle.routes.specs.Lookup.{find, lookupError, PartOf, partStart, partLength, partFor};
 
 // Checks 1 to 8, 13, then 9.
 pub fn lookup_error(plan: &[u8], sheet: &[u8], dest: u16) -> u8
@@ -38,19 +40,37 @@ pub fn find_entry(sheet: &[u8], dest: u16) -> u16
     i
 }
 
-// The empty part at the sheet's start where the destination is not listed or the lookup is declined.
-pub fn lookup<'a>(plan: &[u8], sheet: &'a [u8], dest: u16) -> &'a [u8]
-    ensures { λ r. ⌜ PartOf (sheet .entry) r (partStart large (now (plan .entry)) (now (sheet .entry)) dest) (partLength large (now (plan .entry)) (now (sheet .entry)) dest) ⌝ }
+// Where the bytes of an entry stand in the lent sheet.
+pub struct Part {
+    pub start: usize,
+    pub size: usize,
+}
+
+// Of the destination's entry; none, at the sheet's start, where it is not listed or the lookup is declined.
+pub fn entry_part(plan: &[u8], sheet: &[u8], dest: u16) -> Part
+    ensures { λ r. ⌜ r ≡ partFor large (now (plan .entry)) (now (sheet .entry)) dest ⌝ }
+    ensures { λ r. ⌜ r .start + r .size ≤ length (now (sheet .entry)) ⌝ }
 {
     if lookup_error(plan, sheet, dest) != 0 {
-        return &sheet[..0];
+        return Part { start: 0, size: 0 };
     }
     let i = find_entry(sheet, dest);
     if i < count_in(sheet) {
-        let at = ENTRIES_AT + ENTRY_SIZE * (i as usize);
-        let end = at + ENTRY_SIZE;
-        &sheet[at..end]
+        Part {
+            start: ENTRIES_AT + ENTRY_SIZE * (i as usize),
+            size: ENTRY_SIZE,
+        }
     } else {
-        &sheet[..0]
+        Part { start: 0, size: 0 }
     }
+}
+
+// The entry as its very bytes in the lent sheet.
+pub fn lookup<'a>(plan: &[u8], sheet: &'a [u8], dest: u16) -> &'a [u8]
+    ensures { λ r. ⌜ PartOf (sheet .entry) r (partStart large (now (plan .entry)) (now (sheet .entry)) dest) (partLength large (now (plan .entry)) (now (sheet .entry)) dest) ⌝ }
+{
+    let part = entry_part(plan, sheet, dest);
+    let start = part.start;
+    let end = start + part.size;
+    &sheet[start..end]
 }
