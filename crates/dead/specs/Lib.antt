@@ -1,2 +1,4 @@
 pub mod Dead
+
+-- The code's own steps.
 pub mod Steps

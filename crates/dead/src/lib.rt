@@ -1,9 +1,9 @@
 // Dead nodes and links of a plan: single questions, and tables for all nodes.
 mod marks;
-pub mod masks;
-pub mod names;
-pub mod nodes;
-pub mod questions;
+mod masks;
+mod names;
+mod nodes;
+mod questions;
 
 pub use masks::dead_masks;
 pub use nodes::dead_nodes;

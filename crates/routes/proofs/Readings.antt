@@ -1,10 +1,11 @@
 -- Laws of reading a route sheet.
-use Prim.Native.Nat.{ℕ, zero, suc, _≤_}
+use Prim.Native.Nat.{ℕ, _≤_}
 use native.Mathlib.Omega.{arith}
 use mathlib.Core.Path.{_≡_, refl, sym, _∙_}
 use mathlib.Core.List.{List}
 use lib.ListN.{length}
 use Rattle.sheet.proofs.Records.{from-length}
+use Rattle.sheet.proofs.Outputs.{of-refusal}
 use Rattle.plan.specs.Layout.{shapeOf}
 use Rattle.plan.specs.Checks.{Limits}
 use Rattle.plan.specs.declared.reading.Answer.the-variants.{Refused}
@@ -27,11 +28,7 @@ few L p s h = omega (arith, routed (formatOf s) (shapeOf p) (source s) (entriesO
 module _ (L : Limits) (p s : List ℕ) (e : ℕ) (h : e ≡ sheetError L p s) where
   pub refused : (e ≡ 0 → ⊥) → _≡_ {A = Reading} (record { answer = Refused e; routes = noRoutes }) (reading (sheetError L p s) s)
   unfolding reading
-  refused n = rw (sym h) (go e n)
-    where
-      go : (k : ℕ) → (k ≡ 0 → ⊥) → _≡_ {A = Reading} (record { answer = Refused k; routes = noRoutes }) (reading k s)
-      go zero n = absurd (n refl)
-      go (suc k) n = refl
+  refused n = rw (sym h) (of-refusal (λ k. _≡_ {A = Reading} (record { answer = Refused k; routes = noRoutes }) (reading k s)) (λ k. refl) e n)
 
   pub read-as : e ≡ 0 → (r : Reading) → r ≡ reading 0 s → r ≡ reading (sheetError L p s) s
   read-as z r q = q ∙ rw (sym h ∙ z)

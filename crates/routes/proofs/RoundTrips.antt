@@ -13,6 +13,8 @@ use Rattle.sheet.specs.Head.{version, lengthField, bytesAfter, lengthIs}
 use Rattle.sheet.specs.Output.{roomError, outAfter}
 use Rattle.sheet.proofs.Records.{are-bytes, from-at}
 use Rattle.sheet.proofs.Outputs.{same-bytes}
+use Rattle.sheet.proofs.RoundTrips.{afterWriting}
+use Rattle.sheet.proofs.RoundTrips as Sheet
 use Rattle.plan.specs.declared.reading.Answer.the-variants.{Accepted}
 use Rattle.plan.specs.Layout.{shapeOf}
 use Rattle.plan.specs.Checks.{Limits, large, planError}
@@ -25,7 +27,7 @@ use Rattle.routes.specs.Layout.{formatBy, written, source, entryCount, e
 use Rattle.routes.specs.Kinds.{viaKind, plainKind}
 use Rattle.routes.specs.Checks.{headGood, viaGood, entryGood, entriesGood, routesGood, sheetGood, sheetError}
 use Rattle.routes.specs.Reading.{routesOf, reading}
-use Rattle.routes.specs.Writing.{writeError, sheetBytes, routeEntries, sheetOf}
+use Rattle.routes.specs.Writing.{sheetBytes, routeEntries, sheetOf}
 use Rattle.routes.specs.Value.{Fits, routesWith, cleared}
 use Rattle.routes.proofs.Sheets.{accepted}
 use Rattle.routes.proofs.Writings.{AllFit, own-format, source-read, entries-read, routes-read, entries-count}
@@ -34,16 +36,15 @@ use Rattle.routes.proofs.Listed.{written-accepted}
 use Rattle.routes.proofs.Rewriting.{read-written}
 
 module _ (L : Limits) (p : List ℕ) where
-  -- What the output holds of the sheet s after writing it, in its first bytes.
-  abbrev afterWriting : List ℕ → List ℕ → List ℕ
-  afterWriting s o = take (length s) (outAfter (writeError L p s o) s o)
+  abbrev error : List ℕ → ℕ
+  error s = sheetError L p s
 
   abbrev readFrom : List ℕ → Reading
-  readFrom s = reading (sheetError L p s) s
+  readFrom s = reading (error s) s
 
   -- The sheet written back.
-  pub written-back : (s o : List ℕ) → sheetError L p s ≡ 0 → length s ≤ length o → afterWriting s o ≡ s
-  written-back s o h l = same-bytes (sheetError L p s) s o h l
+  pub written-back : (s o : List ℕ) → error s ≡ 0 → length s ≤ length o → afterWriting error (length s) s o ≡ s
+  written-back s o h l = Sheet.written-back error s o h l
 
   -- The sheet of a source and entries that check 13 accepts, written after other checks that gave 0, then read.
   module _ (S : ℕ) (es : List Entry) (plan : planError L p ≡ 0) (good : routesGood written (shapeOf p) S es ≡ true) where
@@ -64,31 +65,34 @@ module _ (L : Limits) (p : List ℕ) where
     unfolding routesWith cleared
     with-entries = rw (entries-count r)
 
-    pub written-read : (o : List ℕ) → sheetError L p (sheetOf r) ≡ 0 → length (sheetOf r) ≤ length o → readFrom (afterWriting (sheetOf r) o) ≡ record { answer = Accepted; routes = cleared r }
+    pub written-read : (o : List ℕ) → let s = sheetOf r in error s ≡ 0 → length s ≤ length o → readFrom (afterWriting error (length s) s o) ≡ record { answer = Accepted; routes = cleared r }
     unfolding sheetOf
     written-read o h l =
         let S = r .source in
         let es = routeEntries r in
         let a = accepted L p (sheetOf r) h in
         let good : routesGood written (shapeOf p) S es ≡ true = rw (own-format S es, source-read S es (f .source), entries-read S es (omega (arith, entries-count r, f .count)) all-fit) at (a .routes) in
-        good-written-read S es (a .plan) good (sheetError L p (sheetOf r)) o h l ∙ rw with-entries
+        good-written-read S es (a .plan) good (error (sheetOf r)) o h l ∙ rw with-entries
 
   -- A sheet read, then written. What is read fits (`read-fits` of Rewriting), and its sheet is accepted.
-  module _ (s : List ℕ) (bytes : AreBytes s) (h : sheetError L p s ≡ 0) where
-    pub read-accepted : sheetError L p (sheetOf (routesOf s)) ≡ 0
+  module _ (s : List ℕ) (bytes : AreBytes s) (h : error s ≡ 0) where
+    pub read-accepted : error (sheetOf (routesOf s)) ≡ 0
     read-accepted = rw (read-written s bytes L p h) h
 
+    -- The sheet of what is read.
+    abbrev again : List ℕ
+    again = sheetOf (readFrom s .routes)
+
+    same-sheet : again ≡ s
+    unfolding reading
+    same-sheet = rw h (read-written s bytes L p h)
+
     module _ (o : List ℕ) (l : length s ≤ length o) where
-      -- The sheet of what is read, written.
-      abbrev rewritten : List ℕ
-      rewritten = let w = sheetOf (readFrom s .routes) in take (length s) (outAfter (writeError L p w o) w o)
+      pub read-then-written : afterWriting error (length s) again o ≡ s
+      read-then-written = Sheet.read-then-written error s o h l reading again same-sheet
 
-      pub read-then-written : rewritten ≡ s
-      unfolding reading
-      read-then-written = rw (h, read-written s bytes L p h) (written-back s o h l)
-
-      pub read-again : readFrom rewritten ≡ readFrom s
-      read-again = rw read-then-written
+      pub read-again : readFrom (afterWriting error (length s) again o) ≡ readFrom s
+      read-again = Sheet.read-again error s o h l reading again same-sheet
 
 -- Machine W's route sheet for source 0 is such a sheet.
 abbrev pub sheetW : List ℕ

@@ -7,4 +7,6 @@ pub mod Says
 pub mod Reading
 pub mod Writing
 pub mod Value
+
+-- The code's own steps.
 pub mod Steps

@@ -1,12 +1,12 @@
 // The route sheet: its layout, check 13, looking up a destination, reading and writing.
-pub mod checks;
+mod checks;
 mod encode;
 pub mod kinds;
 pub mod layout;
 pub mod lookup;
-pub mod reading;
+mod reading;
 pub mod route;
-pub mod writing;
+mod writing;
 
 pub use checks::check;
 pub use layout::Entry;

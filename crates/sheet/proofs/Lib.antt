@@ -4,4 +4,5 @@ pub mod Forms
 pub mod Encoding
 pub mod Fill
 pub mod Outputs
+pub mod RoundTrips
 pub mod Inputs

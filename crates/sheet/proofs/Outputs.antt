@@ -12,6 +12,11 @@ use Rattle.sheet.specs.declared.output.Written.{Written}
 use Rattle.sheet.specs.declared.output.Written.the-variants.{Bytes, Refused}
 use Rattle.sheet.specs.Output.{roomError, written, outAfter}
 
+-- A number with which a call declines is not 0.
+pub of-refusal : (P : ℕ → Type 0) → ((k : ℕ) → P (suc k)) → (e : ℕ) → (e ≡ 0 → ⊥) → P e
+of-refusal P f zero n = absurd (n refl)
+of-refusal P f (suc k) n = f k
+
 -- A refusal with the number e.
 pub refused : (k e : ℕ) (s o : List ℕ) → k ≡ e → (e ≡ 0 → ⊥) → (Refused e ≡ written k s) × (o ≡ outAfter k s o)
 unfolding written outAfter

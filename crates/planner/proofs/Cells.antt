@@ -1,4 +1,4 @@
--- What a table's byte says of a leg, and what the leg adds to a choice's number.
+-- What a table's cell says of a leg, and what the leg adds to a choice's number.
 use Prim.Native.Nat.{ℕ, _+_, _*_, _/_, _%_, _≤_, _<_}
 use native.Mathlib.Omega.{arith}
 use mathlib.Core.Path.{_≡_}
@@ -48,10 +48,10 @@ adds-by k e t true b hops first second = (rw (hops, first) (omega arith), rw (ho
 adds-by k e t false true hops first second = (rw (hops, first, second) (omega arith), rw (hops, first, second) (omega arith))
 adds-by k e t false false hops first second = rw (hops, first, second) (omega arith)
 
--- The byte of the leg from u to t.
-pub entry-part : (s : Shape) (sound : ℕ → ℕ → Bool) (u t e : ℕ) → e ≡ cell s sound u t → Adds (distance s u t) e (better (clear (torus s) sound) u t)
+-- The cell of the leg from u to t.
+pub cell-part : (s : Shape) (sound : ℕ → ℕ → Bool) (u t e : ℕ) → e ≡ cell s sound u t → Adds (distance s u t) e (better (clear (torus s) sound) u t)
 unfolding cell better
-entry-part s sound u t e is =
+cell-part s sound u t e is =
     let a = clearFrom s sound Adaptive u t in
     let b = clearFrom s sound Deterministic u t in
     adds-by (distance s u t) e t a b (rw is (packed-rest a b (distance s u t))) (rw is (packed-first a b (distance s u t))) (rw is (packed-second a b (distance s u t)))
