@@ -36,7 +36,11 @@ pub fn source_error(plan: &[u8], source: u16) -> u8
     let error = check(plan);
     let known = is_node(shape_in(plan), source);
     let dead = is_dead_node(plan, source);
-    pick(error != 0, error, pick(known, pick(dead, DEAD_END, 0), NODE_OUTSIDE))
+    pick(
+        error != 0,
+        error,
+        pick(known, pick(dead, DEAD_END, 0), NODE_OUTSIDE),
+    )
 }
 
 // A destination not listed is direct and adaptive.
