@@ -6,7 +6,7 @@ use Rattle.shape.specs.declared.shape.Shape.{Shape}
 use Rattle.shape.specs.declared.shape.Coords.{Coords}
 use Rattle.shape.specs.Shape.{shapeError}
 use Rattle.machine.specs.Number.{nodeCount, coordsOf}
-use Rattle.machine.specs.Hop.{distance, link, neighbour, useful, rule, firstDirection}
+use Rattle.machine.specs.Hop.{distance, link, neighbour}
 
 -- The number is a node's, of a shape that no check declines.
 unfoldable pub isNode : Shape → ℕ → Bool
@@ -29,10 +29,3 @@ linkAnswer s n dir = isNode s n && link s n dir
 
 abbrev pub neighbourAnswer : Shape → ℕ → ℕ → ℕ
 neighbourAnswer s n dir = cond (isNode s n) (neighbour s n dir) 0
-
-abbrev pub usefulAnswer : Shape → ℕ → ℕ → ℕ → Bool
-usefulAnswer s n t dir = arePair s n t && useful s n t dir
-
--- 6, no direction, where there is no such pair.
-abbrev pub directionAnswer : Shape → ℕ → ℕ → ℕ
-directionAnswer s n t = cond (arePair s n t) (firstDirection rule s n t) 6

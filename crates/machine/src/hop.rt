@@ -153,7 +153,7 @@ fn wrapped_in(shape: Shape, dir: u8) -> bool
 }
 
 // Whether the hop in a direction is useful.
-pub fn useful_at(shape: Shape, at: Coords, to: Coords, dir: u8) -> bool
+fn useful_at(shape: Shape, at: Coords, to: Coords, dir: u8) -> bool
     ensures { λ r. ⌜ r ≡ usefulAt shape at to dir ⌝ }
 {
     let len = in_dim(dir, shape.x, shape.y, shape.z);
@@ -176,7 +176,7 @@ fn toward_at(shape: Shape, at: Coords, to: Coords, d: Dim) -> u8
 }
 
 // The direction of a deterministic leg; 6, no direction, where the coordinates are the same.
-pub fn first_at(shape: Shape, at: Coords, to: Coords) -> u8
+fn first_at(shape: Shape, at: Coords, to: Coords) -> u8
     ensures { λ r. ⌜ r ≡ firstAt rule shape at to ⌝ }
 {
     if at.x != to.x {

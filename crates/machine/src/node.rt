@@ -1,10 +1,8 @@
 // Nodes by their numbers. Every call is total: where a check declines the shape, or a node does not exist, the answer is defined too.
 use crate::hop::distance_at;
-use crate::hop::first_at;
 use crate::hop::link_at;
 use crate::hop::moved_at;
 use crate::hop::number_at;
-use crate::hop::useful_at;
 use crate::number::coords_of;
 use crate::number::node_count;
 use shape::Coords;
@@ -12,7 +10,7 @@ use shape::Shape;
 use shape::shape::shape_error;
 ghost use mathlib.Core.Path.{_≡_};
 ghost use Prim.Native.Nat.{_≤_, _<_};
-ghost use Rattle.machine.specs.Node.{isNode, arePair, countAnswer, coordsAnswer, distanceAnswer, linkAnswer, neighbourAnswer, usefulAnswer, directionAnswer};
+ghost use Rattle.machine.specs.Node.{isNode, arePair, countAnswer, coordsAnswer, distanceAnswer, linkAnswer, neighbourAnswer};
 
 // The number of nodes; 0 of a shape that a check declines.
 pub fn count(shape: Shape) -> u16
@@ -88,27 +86,5 @@ pub fn neighbour(shape: Shape, node: u16, dir: u8) -> u16
         number_at(shape, moved_at(shape, coords_of(shape, node), dir))
     } else {
         0
-    }
-}
-
-// Whether the hop in a direction is useful toward a target.
-pub fn useful(shape: Shape, node: u16, target: u16, dir: u8) -> bool
-    ensures { λ r. ⌜ r ≡ usefulAnswer shape node target dir ⌝ }
-{
-    if are_pair(shape, node, target) {
-        useful_at(shape, coords_of(shape, node), coords_of(shape, target), dir)
-    } else {
-        false
-    }
-}
-
-// The direction that a deterministic leg takes; 6 where there is none.
-pub fn direction(shape: Shape, node: u16, target: u16) -> u8
-    ensures { λ r. ⌜ r ≡ directionAnswer shape node target ⌝ }
-{
-    if are_pair(shape, node, target) {
-        first_at(shape, coords_of(shape, node), coords_of(shape, target))
-    } else {
-        6
     }
 }

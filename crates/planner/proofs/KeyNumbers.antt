@@ -1,4 +1,4 @@
--- The size of the numbers that the code makes of entries.
+-- The size of the numbers that the code makes of cells.
 use Prim.Native.Nat.{ℕ, _≤_}
 use native.Mathlib.Omega.{arith}
 use mathlib.Core.Bool.{Bool, true, false, cond}

@@ -2,7 +2,7 @@ pub mod Leasts
 pub mod KeyNumbers
 pub mod Order
 pub mod KeyBytes
-pub mod Entries
+pub mod Cells
 pub mod Decoded
 pub mod Planned
 pub mod Pairs

@@ -229,7 +229,7 @@ pub record Ready (p : List ℕ) (S : ℕ) (s : Shape) (masks dead from : List �
   pub shape : s ≡ shapeOf p
   pub links : (n : ℕ) → getD masks n 0 ≡ maskAnswer large p n
   pub nodes : (n : ℕ) → getD dead n 0 ≡ bitOf (nodeAnswer large p n)
-  pub legs : (n : ℕ) → getD from n 0 ≡ outwardAnswer s masks S n
+  pub out : (n : ℕ) → getD from n 0 ≡ outwardAnswer s masks S n
 
 module _ (p : List ℕ) (S : ℕ) (s : Shape) (masks dead from : List ℕ) (r : Ready p S s masks dead from) (D : ℕ) (node : isNode (shapeOf p) D ≡ true) where
   A : Accepted p S D
@@ -249,7 +249,7 @@ module _ (p : List ℕ) (S : ℕ) (s : Shape) (masks dead from : List ℕ) (r : 
 
   leg-is : getD from D 0 ≡ cell (shapeOf p) (soundBy masks) S D
   unfolding outwardAnswer arePair
-  leg-is = r .legs D ∙ rw (r .shape, r .source, node)
+  leg-is = r .out D ∙ rw (r .shape, r .source, node)
 
   direct : adaptiveIn (getD from D 0) ≡ true → routeIn p S D ≡ some (leg D Adaptive ∷ [])
   direct a =
@@ -259,10 +259,10 @@ module _ (p : List ℕ) (S : ℕ) (s : Shape) (masks dead from : List ℕ) (r : 
       sym (route-is p masks S D A (r .links)) ∙ direct-first (shapeOf p) (from-node .sound) (soundBy masks) S D (from-node .below) (to-node .below) clear
 
   tables : Tables (shapeOf p) (soundBy masks) S D from (listFrom (towardAnswer (shapeOf p) masks D) 0 4096)
-  tables = tables-of (shapeOf p) masks S D from _ (r .source) node (rw (r .shape) at (r .legs)) (λ n. toward-list (shapeOf p) masks D n)
+  tables = tables-of (shapeOf p) masks S D from _ (r .source) node (rw (r .shape) at (r .out)) (λ n. toward-list (shapeOf p) masks D n)
 
   full : outcomeIn from (listFrom (towardAnswer (shapeOf p) masks D) 0 4096) (nodeCount (shapeOf p)) D ≡ told (shapeOf p) S (chosen (routeIn p S D))
-  full = outcome-is p masks S D A (r .links) from (listFrom (towardAnswer (shapeOf p) masks D) 0 4096) (nodeCount (shapeOf p)) (rw (r .shape) at (r .legs)) (λ n. toward-list (shapeOf p) masks D n) refl
+  full = outcome-is p masks S D A (r .links) from (listFrom (towardAnswer (shapeOf p) masks D) 0 4096) (nodeCount (shapeOf p)) (rw (r .shape) at (r .out)) (λ n. toward-list (shapeOf p) masks D n) refl
 
   pair-is : arePair (shapeOf p) S D ≡ true
   unfolding arePair

@@ -38,7 +38,7 @@ use Rattle.planner.specs.Least.{least}
 use Rattle.planner.specs.KeyNumber.{lengthPlace, detsPlace, viasPlace, nodePlace, keyNumber, unclear, legPart, firstPart, viaNumber, numberAt, decoded, outcomeIn}
 use Rattle.planner.proofs.Leasts.{ReachedAt, least-first, least-each, least-one}
 use Rattle.planner.proofs.Order.{Low, low-places, before-number}
-use Rattle.planner.proofs.Entries.{Adds, entry-part}
+use Rattle.planner.proofs.Cells.{Adds, cell-part}
 use Rattle.planner.proofs.Decoded.{decoded-none, decoded-number}
 
 -- The tables of the legs from the source S and to the destination D.
@@ -114,10 +114,10 @@ module _ (s : Shape) (sound : ℕ → ℕ → Bool) (S D : ℕ) where
     leads-to u t l e = better-is (legLength s) (clear (torus s) sound) (nodeCount s) u t l e .0
 
     out-part : (v : ℕ) → v < nodeCount s → Adds (distance s S v) (getD from v 0) (leads S v)
-    out-part v h = entry-part s sound S v (getD from v 0) (T .out v h)
+    out-part v h = cell-part s sound S v (getD from v 0) (T .out v h)
 
     back-part : (v : ℕ) → v < nodeCount s → Adds (distance s v D) (getD toward v 0) (leads v D)
-    back-part v h = entry-part s sound v D (getD toward v 0) (T .back v h)
+    back-part v h = cell-part s sound v D (getD toward v 0) (T .back v h)
 
     -- The choices among which the route is: the better direct leg; and for each node w the better leg to w and the better leg from w to D.
     abbrev candidates : List Choice

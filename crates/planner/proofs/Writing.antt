@@ -30,7 +30,7 @@ use Rattle.dead.proofs.Table.{is-node}
 use Rattle.tables.specs.Table.{outwardAnswer}
 use Rattle.packet.specs.declared.route.Route.{Route}
 use Rattle.choice.specs.declared.outcome.Outcome.{Outcome}
-use Rattle.choice.specs.Choice.{det}
+use Rattle.choice.specs.Choice.{det, lengthOf}
 use Rattle.choice.specs.Answer.{Answer, Given, Refused}
 use Rattle.choice.specs.Outcome.{told}
 use Rattle.choice.specs.Pair.{pair}
@@ -73,7 +73,7 @@ listed-mode Deterministic len = refl
 told-listed : (s : Shape) (S : ℕ) (a : Answer) → isListed (told s S a) ≡ lists a
 unfolding isListed told lists
 told-listed s S (Given []) = refl
-told-listed s S (Given (l ∷ [])) = listed-mode (l .mode) _
+told-listed s S (Given (l ∷ [])) = listed-mode (l .mode) (lengthOf s S (l ∷ []))
 told-listed s S (Given (l ∷ m ∷ [])) = refl
 told-listed s S (Given (l ∷ m ∷ n ∷ ls)) = refl
 told-listed s S (Refused n) = refl
@@ -200,9 +200,9 @@ pub ready-of :
     ((n : ℕ) → getD dead n 0 ≡ bitOf (nodeAnswer large p n)) →
     ((n : ℕ) → getD from n 0 ≡ outwardAnswer s masks S n) →
     Ready p S s masks dead from
-ready-of p S s masks dead from h es links nodes legs =
+ready-of p S s masks dead from h es links nodes out =
     let k = source-of large p S h in
-    record { plan = k .plan; source = k .node; alive = k .alive; shape = es; links = links; nodes = nodes; legs = legs }
+    record { plan = k .plan; source = k .node; alive = k .alive; shape = es; links = links; nodes = nodes; out = out }
 
 -- All that holds at a turn.
 pub record Going (p : List ℕ) (S : ℕ) (s : Shape) (masks dead from : List ℕ) (all : ℕ) (entries : List Entry) (listed d : ℕ) : Type 0 where
@@ -218,9 +218,9 @@ pub going :
     ((n : ℕ) → getD from n 0 ≡ outwardAnswer s masks S n) →
     all ≡ countAnswer s →
     Going p S s masks dead from all (replicate 4095 noEntry) 0 0
-going p S s masks dead from all h es links nodes legs c = record {
+going p S s masks dead from all h es links nodes out c = record {
   accepted = h;
-  ready = ready-of p S s masks dead from h es links nodes legs;
+  ready = ready-of p S s masks dead from h es links nodes out;
   count = c ∙ rw (es, eq-eqb _ 0 (node-of (shapeOf p) S (source-of large p S h .node) .sound));
   listing = begin p S;
 }

@@ -37,7 +37,7 @@ keyNumber far S c = digits (lengthFrom far S c) (detsOf c) (length (viasOf c)) (
 abbrev pub unclear : ℕ
 unclear = 16777216
 
--- What a table's byte says of a leg.
+-- What a table's cell says of a leg.
 abbrev pub adaptiveIn : ℕ → Bool
 adaptiveIn e = eqb (e % 2) 1
 
@@ -57,7 +57,7 @@ legPart e = hopsIn e * lengthPlace + modePart e
 unfoldable pub firstPart : ℕ → ℕ
 firstPart e = legPart e + (1 - e % 2)
 
--- The least number of the choices by the via v, with the byte f of the leg to it and g of the leg from it.
+-- The least number of the choices by the via v, with the cell f of the leg to it and g of the leg from it.
 unfoldable pub viaNumber : ℕ → ℕ → ℕ → ℕ
 viaNumber v f g = firstPart f + (legPart g + (viasPlace + v * nodePlace))
 

@@ -1,4 +1,4 @@
-// Vias compared by a byte each: the first two places of the order's key, length and deterministic legs, from the tables' bytes of the two legs.
+// Vias compared by a byte each: the first two places of the order's key, length and deterministic legs, from the tables' cells of the two legs.
 use logic::pick;
 ghost use mathlib.Core.Path.{_≡_};
 ghost use mathlib.Core.Bool.{cond};

@@ -1,4 +1,4 @@
-// The order's key of a choice as one number, made from the tables' bytes of its legs, and read back.
+// The order's key of a choice as one number, made from the tables' cells of its legs, and read back.
 use choice::Outcome;
 use machine::leg::Mode;
 use numbers::NO_CLEAR_CHOICE;
