@@ -2,36 +2,39 @@
 use Prim.Native.Nat.{ℕ, zero, suc, _+_, _*_, _≤_, _<_}
 use native.Mathlib.Omega.{arith}
 use mathlib.Core.Path.{_≡_, refl}
-use mathlib.Core.Bool.{Bool, true, false, not, _||_}
+use mathlib.Core.Bool.{Bool, true, false, not}
 use mathlib.Core.List.{List, [], _∷_, _++_}
-use mathlib.Core.Option.{Option, none, some}
 use lib.ListN.{length, length-append}
-use lib.Dec.{ltb, eqb}
+use lib.Dec.{ltb}
+use Rattle.numbers.specs.Numbers.{planShort, planVersionUnknown, manyFaults, wrongLength, extentOutside, wrongWrap, noSuchFault, faultNotAbove, nodeOutside, deadEnd}
 use Rattle.theory.specs.Checks.{declined, _then_}
-use Rattle.theory.proofs.Cases.{test}
+use Rattle.theory.specs.Machine.{sumBy}
+use Rattle.sheet.specs.Head.{lengthIs}
 use Rattle.shape.specs.declared.shape.Shape.{Shape}
 use Rattle.shape.specs.Shape.{badExtents, badWraps, shapeError}
+use Rattle.machine.specs.declared.leg.Mode.{Mode}
 use Rattle.machine.specs.declared.leg.Mode.the-variants.{Adaptive, Deterministic}
 use Rattle.machine.specs.Number.{nodeCount}
 use Rattle.machine.specs.Node.{isNode}
+use Rattle.machine.specs.Torus.{leg}
 use Rattle.machine.proofs.Nodes.{Node, node-of}
 use Rattle.machine.proofs.Laws.{distance-most}
 use Rattle.plan.specs.declared.layout.Fault.{Fault}
-use Rattle.plan.specs.Layout.{planVersion, version, lengthField, bytesAfter, sizeAfter, shapeOf, faultCount, faultsAt, faultsOf}
-use Rattle.plan.specs.Checks.{Limits, large, faultExists, rank, faultsError, planError}
+use Rattle.plan.specs.Layout.{layoutIn, sizeAfter, shapeOf, faultCount, faultsOf}
+use Rattle.plan.specs.Checks.{Limits, large, mostFaults, torusPlans, faultGood, faultKey, faultsError, planErrorBy, planError}
 use Rattle.plan.proofs.Plans.{within-large}
 use Rattle.dead.specs.Dead.{deadNode}
-use Rattle.dead.proofs.Table.{is-node}
-use Rattle.choice.specs.Choice.{Choice, Direct, Via, legsTo, lengthFrom, lengthOf, Admits}
-use Rattle.choice.specs.Pair.{Answer, Route, Refused, routeIn, pairError, chosen, answered, pair}
-use Rattle.choice.proofs.Demand.{pair-chosen, demand}
-use Rattle.routes.specs.Kinds.{kindOf}
+use Rattle.choice.specs.Choice.{AdmitsIn, viasOf, lengthOf}
+use Rattle.choice.specs.Answer.{Answer, Given, Refused}
+use Rattle.choice.specs.Pair.{pair}
+use Rattle.routes.specs.Kinds.{hasModes, kindFrom, kindOf}
+use Rattle.routes.proofs.Saying.{admitted-legs}
 use Rattle.planner.specs.Sheet.{sourceError}
-use Rattle.planner.proofs.Planning.{Source, source-of}
+use Rattle.planner.proofs.Planning.{Source, source-of, answer-is}
 use Rattle.listing_text.specs.Decimal.{decimal}
-use Rattle.listing_text.specs.Text.{sourceIn, planIn, listingError, line, headLine, kindText, viaText, lengthText, destLine, destLines, refusedWord, refusal, listingOf}
+use Rattle.listing_text.specs.Text.{sourceIn, planIn, listingError, line, headLine, kindText, viasText, viaText, lengthText, destLine, destLines, refusedWord, refusal, listingOf}
 use Rattle.listing_text.proofs.Decimals.{at-most-1, at-most-2, at-most-3, at-most-4}
-use Rattle.listing_text.proofs.Sources.{source-sound}
+use Rattle.listing_text.proofs.Sources.{source-sound, node-below}
 
 -- ---- numbers of refusals
 then-most : (n e k : ℕ) → e ≤ n → k ≤ n → (e then k) ≤ n
@@ -45,29 +48,33 @@ declined-most n false k h = omega arith
 check-most : (b : Bool) (n k : ℕ) → n ≤ 10 → k ≤ 10 → (declined b n then k) ≤ 10
 check-most b n k h g = then-most 10 (declined b n) k (declined-most 10 b n h) g
 
-faults-most : (s : Shape) (least : ℕ) (fs : List Fault) → faultsError s least fs ≤ 10
+faults-most : (last : ℕ) (s : Shape) (least : ℕ) (fs : List Fault) → faultsError torusPlans last s least fs ≤ 10
 unfolding faultsError
-faults-most s least [] = omega arith
-faults-most s least (f ∷ fs) = check-most (not (faultExists s f)) 7 _ (omega arith) (check-most (ltb (rank f) least) 8 _ (omega arith) (faults-most s (rank f + 1) fs))
+faults-most last s least [] = omega arith
+faults-most last s least (f ∷ fs) =
+    check-most (not (faultGood torusPlans last s f)) noSuchFault _ (omega arith)
+    (check-most (ltb (faultKey f) least) faultNotAbove _ (omega arith) (faults-most last s (faultKey f + 1) fs))
 
 shape-most : (s : Shape) → shapeError s ≤ 10
 unfolding shapeError
-shape-most s = check-most (badExtents s) 5 _ (omega arith) (check-most (badWraps s) 6 0 (omega arith) (omega arith))
+shape-most s = check-most (badExtents s) extentOutside _ (omega arith) (check-most (badWraps s) wrongWrap 0 (omega arith) (omega arith))
 
 plan-most : (L : Limits) (p : List ℕ) → planError L p ≤ 10
-unfolding planError
+unfolding planErrorBy
 plan-most L p =
-    check-most (ltb (length p) faultsAt) 1 _ (omega arith)
-    (check-most (not (eqb (version p) planVersion)) 2 _ (omega arith)
-    (check-most (ltb (L .faults) (faultCount p)) 3 _ (omega arith)
-    (check-most (not (eqb (lengthField p) (bytesAfter p)) || not (eqb (lengthField p) (sizeAfter (faultCount p)))) 4 _ (omega arith) (then-most 10 (shapeError (shapeOf p)) _ (shape-most (shapeOf p)) (faults-most (shapeOf p) 0 (faultsOf p))))))
+    check-most (ltb (length p) (layoutIn p .headSize)) planShort _ (omega arith)
+    (check-most (not (layoutIn p .known)) planVersionUnknown _ (omega arith)
+    (check-most (ltb mostFaults (faultCount p)) manyFaults _ (omega arith)
+    (check-most (not (lengthIs p (sizeAfter (layoutIn p) (faultCount p)))) wrongLength _ (omega arith)
+    (then-most 10 (shapeError (shapeOf p)) _ (shape-most (shapeOf p)) (faults-most (layoutIn p .lastKind) (shapeOf p) 0 (faultsOf p))))))
 
 listing-most : (i : List ℕ) → listingError i ≤ 10
 unfolding listingError sourceError
 listing-most i =
-    check-most (ltb (length i) 2) 1 _ (omega arith)
+    check-most (ltb (length i) 2) planShort _ (omega arith)
     (then-most 10 (planError large (planIn i)) _ (plan-most large (planIn i))
-    (check-most (not (isNode (shapeOf (planIn i)) (sourceIn i))) 9 _ (omega arith) (check-most (deadNode (faultsOf (planIn i)) (sourceIn i)) 10 0 (omega arith) (omega arith))))
+    (check-most (not (isNode (shapeOf (planIn i)) (sourceIn i))) nodeOutside _ (omega arith)
+    (check-most (deadNode (faultsOf (planIn i)) (sourceIn i)) deadEnd 0 (omega arith) (omega arith))))
 
 -- ---- lines
 line-length : (f g : List ℕ) (fs : List (List ℕ)) → length (line (f ∷ (g ∷ fs))) ≡ length f + 1 + length (line (g ∷ fs))
@@ -88,64 +95,61 @@ unfolding headLine
 head-short S n f a b c =
     omega (arith, line-length (decimal S) (decimal n) (decimal f ∷ []), line-length (decimal n) (decimal f) [], last-length (decimal f), at-most-4 S (omega arith), at-most-4 n (omega arith), at-most-3 f (omega arith))
 
--- An answer with a via that is a node's and a length of two digits, or with a number of two digits.
-Small : Answer → Type 0
-Small (Route (Direct m) len) = len < 100
-Small (Route (Via v m n) len) = (v < 4096) × (len < 100)
-Small (Refused e) = e < 100
+-- An answer whose via, where it has one, is a node's, and whose kind, length or number has at most two digits.
+abbrev Small : Shape → ℕ → Answer → Type 0
+Small s S (Given c) = (kindOf c < 10) × (length (viasText (viasOf c)) ≤ 4) × (lengthOf s S c < 100)
+Small s S (Refused e) = e < 100
 
-one-digit-kind : (c : Choice) → kindOf c < 10
-unfolding kindOf
-one-digit-kind (Direct Adaptive) = omega arith
-one-digit-kind (Direct Deterministic) = omega arith
-one-digit-kind (Via v Adaptive Adaptive) = omega arith
-one-digit-kind (Via v Adaptive Deterministic) = omega arith
-one-digit-kind (Via v Deterministic Adaptive) = omega arith
-one-digit-kind (Via v Deterministic Deterministic) = omega arith
+fields-short : (s : Shape) (S : ℕ) (a : Answer) → Small s S a → length (kindText a) + length (viaText a) + length (lengthText s S a) ≤ 7
+unfolding kindText viaText lengthText
+fields-short s S (Given c) h = omega (arith, at-most-1 (kindOf c) (h .0), h .1, at-most-2 (lengthOf s S c) (h .2))
+fields-short s S (Refused e) h = omega (arith, at-most-2 e h)
 
-fields-short : (a : Answer) → Small a → length (kindText a) + length (viaText a) + length (lengthText a) ≤ 7
-unfolding Small kindText viaText lengthText
-fields-short (Route (Direct m) len) h = omega (arith, at-most-1 (kindOf (Direct m)) (one-digit-kind (Direct m)), at-most-2 len h)
-fields-short (Route (Via v m n) len) h = omega (arith, at-most-1 (kindOf (Via v m n)) (one-digit-kind (Via v m n)), at-most-4 v (omega (arith, h .0)), at-most-2 len (h .1))
-fields-short (Refused e) h = omega (arith, at-most-2 e h)
-
-line-short : (D : ℕ) (a : Answer) → D < 4096 → Small a → length (destLine D a) ≤ 15
+line-short : (s : Shape) (S D : ℕ) (a : Answer) → D < 4096 → Small s S a → length (destLine s S D a) ≤ 15
 unfolding destLine
-line-short D a d h =
-    omega (arith, line-length (decimal D) (kindText a) (viaText a ∷ lengthText a ∷ []), line-length (kindText a) (viaText a) (lengthText a ∷ []), line-length (viaText a) (lengthText a) [], last-length (lengthText a), at-most-4 D (omega arith), fields-short a h)
+line-short s S D a d h =
+    omega (arith, line-length (decimal D) (kindText a) (viaText a ∷ lengthText s S a ∷ []), line-length (kindText a) (viaText a) (lengthText s S a ∷ []), line-length (viaText a) (lengthText s S a) [], last-length (lengthText s S a), at-most-4 D (omega arith), fields-short s S a h)
 
 -- ---- answers
-module _ (p : List ℕ) (S : ℕ) (s : Source p S) (D : ℕ) (to : D < nodeCount (shapeOf p)) where
+module _ (p : List ℕ) (S : ℕ) (ok : sourceError large p S ≡ 0) (D : ℕ) (to : D < nodeCount (shapeOf p)) where
+  abbrev from : Source large p S
+  from = source-of large p S ok
+
   from-node : Node (shapeOf p) S
-  from-node = node-of (shapeOf p) S (s .node)
+  from-node = node-of (shapeOf p) S (from .node)
 
-  node : isNode (shapeOf p) D ≡ true
-  node = is-node (shapeOf p) D (record { sound = from-node .sound; below = to })
-
-  choice-small : (c : Choice) → Admits (shapeOf p) S D c → Small (chosen (shapeOf p) S D (some c))
-  unfolding Small lengthFrom legsTo
-  choice-small (Direct n) h = omega (arith, distance-most (shapeOf p) (from-node .sound) S D (from-node .below) to)
-  choice-small (Via v n k) h =
-      (omega (arith, h .0, within-large p (s .plan) .nodes), omega (arith, distance-most (shapeOf p) (from-node .sound) S v (from-node .below) (h .0), distance-most (shapeOf p) (from-node .sound) v D (h .0) to))
-
-  dead-small : deadNode (faultsOf p) D ≡ true → Small (pair p S D)
-  unfolding Small pair pairError answered
-  dead-small d = rw (s .plan, s .node, node, s .alive, d) (omega arith)
-
-  alive-small : deadNode (faultsOf p) D ≡ false → Small (pair p S D)
-  unfolding Small
-  alive-small d =
-      let is = pair-chosen p S D (s .plan) (s .node) node (s .alive) d in
-      rw is (go (routeIn p S D) is (λ c g. demand p S D (s .plan) (s .node) node (s .alive) d .planned .routed c g .admitted))
+  one-small : (m : Mode) → Small (shapeOf p) S (Given (leg D m ∷ []))
+  unfolding kindOf kindFrom hasModes viasOf sumBy
+  one-small m = (kind m, omega arith, omega (arith, distance-most (shapeOf p) (from-node .sound) S D (from-node .below) to))
     where
-      go : (o : Option Choice) → pair p S D ≡ chosen (shapeOf p) S D o → ((c : Choice) → (len : ℕ) × (pair p S D ≡ Route c len) → Admits (shapeOf p) S D c) → Small (chosen (shapeOf p) S D o)
-      go none e h = omega arith
-      go (some c) e h = choice-small c (h c (lengthOf (shapeOf p) S D c, e))
+      kind : (m : Mode) → kindOf (leg D m ∷ []) < 10
+      kind Adaptive = omega arith
+      kind Deterministic = omega arith
 
-  pair-small : Small (pair p S D)
-  pair-small = test (deadNode (faultsOf p) D) dead-small alive-small
+  two-small : (v : ℕ) (m n : Mode) → AdmitsIn (shapeOf p) S D (leg v m ∷ leg D n ∷ []) → Small (shapeOf p) S (Given (leg v m ∷ leg D n ∷ []))
+  unfolding kindOf kindFrom hasModes viasOf sumBy
+  two-small v m n a =
+      let via : v < nodeCount (shapeOf p) = a .inside .0 in (
+        kind m n,
+        at-most-4 v (omega (arith, via, within-large p (from .plan) .nodes)),
+        omega (arith, distance-most (shapeOf p) (from-node .sound) S v (from-node .below) via, distance-most (shapeOf p) (from-node .sound) v D via to),
+      )
+    where
+      kind : (m n : Mode) → kindOf (leg v m ∷ leg D n ∷ []) < 10
+      kind Adaptive Adaptive = omega arith
+      kind Adaptive Deterministic = omega arith
+      kind Deterministic Adaptive = omega arith
+      kind Deterministic Deterministic = omega arith
 
-module _ (p : List ℕ) (S : ℕ) (s : Source p S) where
+  pair-small : Small (shapeOf p) S (pair large p S D)
+  pair-small =
+      answer-is large p S from D (node-below p S ok D to) (Small (shapeOf p) S) (omega arith) (omega arith)
+      (admitted-legs (λ c. Small (shapeOf p) S (Given c)) (shapeOf p) S D one-small two-small)
+
+module _ (p : List ℕ) (S : ℕ) (ok : sourceError large p S ≡ 0) where
+  abbrev s : Source large p S
+  s = source-of large p S ok
+
   most : nodeCount (shapeOf p) ≤ 4096
   most = within-large p (s .plan) .nodes
 
@@ -153,7 +157,7 @@ module _ (p : List ℕ) (S : ℕ) (s : Source p S) where
   unfolding destLines
   lines-short zero h = omega arith
   lines-short (suc n) h =
-      omega (arith, length-append (destLines p S n) (destLine n (pair p S n)), lines-short n (omega arith), line-short n (pair p S n) (omega (arith, most)) (pair-small p S s n (omega arith)))
+      omega (arith, length-append (destLines p S n) (destLine (shapeOf p) S n (pair large p S n)), lines-short n (omega arith), line-short (shapeOf p) S n (pair large p S n) (omega (arith, most)) (pair-small p S ok n (omega arith)))
 
   abbrev first : List ℕ
   first = headLine S (nodeCount (shapeOf p)) (faultCount p)
@@ -167,5 +171,5 @@ unfolding listingOf
 listing-fits i = go (listingError i) refl
   where
     go : (e : ℕ) → listingError i ≡ e → length (listingOf i) ≤ 61454
-    go zero h = rw h (accepted-short (planIn i) (sourceIn i) (source-of (planIn i) (sourceIn i) (source-sound i h)))
+    go zero h = rw h (accepted-short (planIn i) (sourceIn i) (source-sound i h))
     go (suc e) h = rw h (omega (arith, refusal-short (suc e) (omega (arith, h, listing-most i))))

@@ -5,10 +5,20 @@ use native.Mathlib.Omega.{arith}
 use mathlib.Core.Path.{_≡_, refl}
 use mathlib.Core.List.{List, [], _∷_, _++_, append-assoc}
 use lib.ListN.{getD}
-use Rattle.choice.specs.Choice.{Direct, Via}
-use Rattle.choice.specs.Pair.{Answer, Route, Refused, pair}
-use Rattle.planner.specs.declared.outcome.Outcome.{Outcome}
-use Rattle.planner.specs.Outcome.{told}
+use Rattle.shape.specs.declared.shape.Shape.{Shape}
+use Rattle.machine.specs.declared.leg.Mode.{Mode}
+use Rattle.machine.specs.Torus.{leg}
+use Rattle.packet.specs.New.{legsTo}
+use Rattle.plan.specs.Layout.{shapeOf}
+use Rattle.plan.specs.Checks.{large}
+use Rattle.choice.specs.declared.outcome.Outcome.{Outcome}
+use Rattle.choice.specs.Choice.{Choice, AdmitsIn, viasOf}
+use Rattle.choice.specs.Answer.{Answer, Given, Refused}
+use Rattle.choice.specs.Pair.{pair}
+use Rattle.choice.specs.Outcome.{told}
+use Rattle.routes.specs.Kinds.{hasModes, kindFrom, kindOf}
+use Rattle.routes.specs.Said.{entryFor, heard}
+use Rattle.routes.proofs.Saying.{admitted-legs}
 use Rattle.listing_text.specs.declared.field.Field.{Field}
 use Rattle.listing_text.specs.declared.field.Field.the-variants.{Number}
 use Rattle.listing_text.specs.Decimal.{decimal}
@@ -89,14 +99,30 @@ module _ (o : List ℕ) (at all : ℕ) (os : List Outcome) where
   pub ended : (t : List ℕ) (next d : ℕ) → Writing t next d → all ≤ d → Put o t at next (outcomeLines os all)
   ended t next d w h = let e : d ≡ all = omega (arith, w .inside) in rw (← e) (w .put)
 
--- The line of what is told is the line of the answer.
-pub line-told : (D : ℕ) (a : Answer) → outcomeLine D (told a) ≡ destLine D a
-unfolding outcomeLine destLine told kindIn viaIn lengthIn fieldText kindText viaText lengthText
-line-told D (Route (Direct m) len) = refl
-line-told D (Route (Via v m n) len) = refl
-line-told D (Refused e) = refl
+-- The line of what is told is the line of the answer: of a refusal and of an admitted choice.
+abbrev pub LineTold : Shape → ℕ → Answer → Type 0
+LineTold s S a = (D : ℕ) → outcomeLine D (told s S a) ≡ destLine s S D a
 
-pub lines-told : (os : List Outcome) (p : List ℕ) (S n : ℕ) → ((d : ℕ) → d < n → getD os d noOutcome ≡ told (pair p S d)) → outcomeLines os n ≡ destLines p S n
+pub refused-told : (s : Shape) (S e : ℕ) → LineTold s S (Refused e)
+unfolding outcomeLine destLine told heard entryFor fieldText kindText viaText lengthText
+refused-told s S e D = refl
+
+one-told : (s : Shape) (S T : ℕ) (m : Mode) → LineTold s S (Given (leg T m ∷ []))
+unfolding outcomeLine destLine told heard entryFor legsTo viasOf kindOf kindFrom hasModes fieldText kindText viaText lengthText
+one-told s S T m D = refl
+
+two-told : (s : Shape) (S T v : ℕ) (m n : Mode) → LineTold s S (Given (leg v m ∷ leg T n ∷ []))
+unfolding outcomeLine destLine told heard entryFor legsTo viasOf kindOf kindFrom hasModes fieldText kindText viaText lengthText
+two-told s S T v m n D = refl
+
+pub choice-told : (s : Shape) (S T : ℕ) (c : Choice) → AdmitsIn s S T c → LineTold s S (Given c)
+choice-told s S T c a = admitted-legs (λ c. LineTold s S (Given c)) s S T (one-told s S T) (λ v m n _. two-told s S T v m n) c a
+
+pub lines-told :
+    (os : List Outcome) (p : List ℕ) (S n : ℕ) →
+    ((d : ℕ) → d < n → LineTold (shapeOf p) S (pair large p S d)) →
+    ((d : ℕ) → d < n → getD os d noOutcome ≡ told (shapeOf p) S (pair large p S d)) →
+    outcomeLines os n ≡ destLines p S n
 unfolding outcomeLines destLines
-lines-told os p S zero h = refl
-lines-told os p S (suc n) h = rw (lines-told os p S n (λ d l. h d (omega arith)), h n (omega arith), line-told n (pair p S n))
+lines-told os p S zero l h = refl
+lines-told os p S (suc n) l h = rw (lines-told os p S n (λ d k. l d (omega arith)) (λ d k. h d (omega arith)), h n (omega arith), l n (omega arith) n)

@@ -20,7 +20,7 @@ refused-with i (suc e) h n = rw h
 long-text : (i : List ℕ) → 780 ≤ length i → listingOf i ≡ refusal (planError large (planIn i))
 unfolding sourceError
 long-text i h =
-    let no = long-declined (planIn i) (omega (arith, length-drop 2 i)) in
+    let no = long-declined large (planIn i) (omega (arith, length-drop 2 i)) in
     refused-with i (planError large (planIn i)) (has-source i (omega arith) ∙ declines (planError large (planIn i)) _ no) no
 
 plan-in-front : (k : ℕ) (i : List ℕ) → planIn (take (suc (suc k)) i) ≡ take k (planIn i)
@@ -36,5 +36,5 @@ listing-decided (suc zero) i h l = absurd (omega arith)
 listing-decided (suc (suc k)) i h l =
     long-text (take (suc (suc k)) i) (omega (arith, length-take (suc (suc k)) i))
     ∙ ap (λ p. refusal (planError large p)) (plan-in-front k i)
-    ∙ ap refusal (error-decided k (planIn i) (omega arith) (omega (arith, length-drop 2 i)))
+    ∙ ap refusal (error-decided large k (planIn i) (omega arith) (omega (arith, length-drop 2 i)))
     ∙ sym (long-text i (omega arith))

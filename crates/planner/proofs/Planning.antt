@@ -96,7 +96,7 @@ module _ (L : Limits) (p : List ℕ) (S : ℕ) (s : Source L p S) where
     pair-alive d = pair-chosen L p S D (s .plan) (s .node) node (s .alive) d
 
     -- A destination's answer is 10, 11 or an admitted choice.
-    answer-is : (Q : Answer → Type 0) → Q (Refused deadEnd) → Q (Refused noClearChoice) → ((c : Choice) → AdmitsIn (shapeOf p) S D c → Q (Given c)) → Q (pair L p S D)
+    pub answer-is : (Q : Answer → Type 0) → Q (Refused deadEnd) → Q (Refused noClearChoice) → ((c : Choice) → AdmitsIn (shapeOf p) S D c → Q (Given c)) → Q (pair L p S D)
     answer-is Q dead none-clear route =
         test (deadNode (faultsOf p) D)
         (λ d. rw (pair-dead d) dead)

@@ -1,4 +1,5 @@
-use Rattle.listing_text.proofs.Sources.{count-most, planned-all}
+use Rattle.planner.proofs.OneDestination.{count-small}
+use Rattle.listing_text.proofs.Sources.{planned-all}
 use borrow.Author.Needs.{needs}
 use Rattle.listing_text.proofs.outcomes.outcomes_from.Statement.{statement}
 use Rattle.listing_text.proofs.outcomes.outcomes_from.Tie as tie
@@ -22,7 +23,7 @@ cast-outcomes-to : tie.Need-cast-outcomes-to
 cast-outcomes-to c = search needs
 
 outcomes-to-requires : tie.Need-outcomes-to-requires
-outcomes-to-requires c κs = count-most (c .before .before .before .before .before .before .before .before .shape-in .result) (c .count .result) (c .count .ensures)
+outcomes-to-requires c κs = count-small (c .before .before .before .before .before .before .before .before .shape-in .result) (c .count .result) (c .count .ensures)
 
 returns : tie.Need-returns
 returns c = planned-all _ _ (c .before .before .before .before .before .before .before .before .before .before .before .pre) _ _ _ _ _ (c .outcomes-to .result) (c .before .before .before .before .before .before .before .before .before .shape-in .ensures) (c .before .before .before .before .before .before .before .before .dead-masks .ensures) (c .before .before .before .before .before .before .before .dead-nodes .ensures) (c .before .before .before .before .before .outward .ensures) (c .before .count .ensures) (c .outcomes-to .ensures)
