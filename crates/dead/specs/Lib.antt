@@ -1,4 +1,3 @@
 pub mod Dead
-
 -- The code's own steps.
 pub mod Steps

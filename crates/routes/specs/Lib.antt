@@ -7,6 +7,5 @@ pub mod Says
 pub mod Reading
 pub mod Writing
 pub mod Value
-
 -- The code's own steps.
 pub mod Steps
