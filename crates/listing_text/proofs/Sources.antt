@@ -77,6 +77,6 @@ module _ (p : List ℕ) (S : ℕ) (ok : sourceError large p S ≡ 0) where
       Filled s masks dead from S all os →
       (D : ℕ) → D < nodeCount (shapeOf p) → getD os D noOutcome ≡ told (shapeOf p) S (pair large p S D)
   planned-all s masks dead from all os es em ed ef ea h D below =
-      let ready : Ready p S s masks dead from = record { plan = sound .plan; source = sound .node; alive = sound .alive; shape = es; links = em; nodes = ed; legs = ef } in
+      let ready : Ready p S s masks dead from = record { plan = sound .plan; source = sound .node; alive = sound .alive; shape = es; links = em; nodes = ed; out = ef } in
       let all-nodes : all ≡ nodeCount (shapeOf p) = counted all (ea ∙ ap countAnswer es) in
       h D ∙ rw (lt-ltb D all (omega arith)) (dest-planned p S s masks dead from ready D (node-below D below))

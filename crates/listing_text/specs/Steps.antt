@@ -6,6 +6,7 @@ use mathlib.Core.List.{List, [], _∷_, _++_}
 use lib.ListN.{length, getD, set}
 use lib.Dec.{ltb}
 use Rattle.shape.specs.declared.shape.Shape.{Shape}
+use Rattle.machine.specs.declared.leg.Mode.the-variants.{Adaptive}
 use Rattle.machine.specs.Node.{countAnswer}
 use Rattle.plan.specs.Layout.{shapeOf, faultCount}
 use Rattle.packet.specs.declared.route.Route.{Route}
@@ -53,7 +54,7 @@ outcomeLine D o = line (decimal D ∷ decimal (kindIn o) ∷ fieldText (viaIn o)
 
 -- What an array of outcomes holds of no destination.
 abbrev pub noOutcome : Outcome
-noOutcome = Outcome.Refused 0
+noOutcome = Outcome.Given (Route.Direct Adaptive) 0
 
 -- The outcomes of the first n destinations, and nothing past them. masks, dead: the dead links and nodes. from: the legs from the source.
 abbrev pub Filled : Shape → List ℕ → List ℕ → List ℕ → ℕ → ℕ → List Outcome → Type 0

@@ -2,7 +2,9 @@
 use choice::Outcome;
 use dead::dead_masks;
 use dead::dead_nodes;
+use machine::leg::Mode;
 use machine::node::count;
+use packet::Route;
 use plan::layout::shape_in;
 use planner::one_destination::outcome_to;
 use shape::Shape;
@@ -30,7 +32,7 @@ fn outcomes_to(
     requires { ⌜ all ≤ 4096 ⌝ }
     ensures { λ r. ⌜ Filled shape (now (masks .entry)) (now (dead .entry)) (now (from .entry)) source all r ⌝ }
 {
-    let mut outcomes = [Outcome::Refused(0); 4096];
+    let mut outcomes = [Outcome::Given(Route::Direct(Mode::Adaptive), 0); 4096];
     let mut d: usize = 0;
     while d < all {
         outcomes[d] = outcome_to(shape, masks, dead, from, source, d as u16);

@@ -1,6 +1,6 @@
 -- What is said of packets holds of those that cross: a form stands for the very packet of the definition.
-use Prim.Native.Nat.{ℕ}
-use mathlib.Core.Path.{_≡_, refl}
+use Prim.Native.Nat.{ℕ, zero, suc}
+use mathlib.Core.Path.{_≡_, refl, sym, ap}
 use mathlib.Core.List.{List, [], _∷_}
 use lib.Dec.{eqb}
 use Rattle.numbers.specs.Numbers.{wrongPacket}
@@ -19,12 +19,13 @@ use Rattle.packet.specs.Answers as Answers
 use Rattle.packet.specs.Answers.{toldWalk}
 use Rattle.choice.specs.declared.outcome.Outcome.{Outcome}
 use Rattle.choice.specs.Choice.{Choice, AdmitsIn, viasOf}
-use Rattle.choice.specs.Answer.{Given, answered}
+use Rattle.choice.specs.Answer.{Answer, Given, answered}
 use Rattle.choice.specs.Outcome.{told}
 use Rattle.routes.specs.Kinds.{hasModes, kindFrom, kindOf}
 use Rattle.routes.specs.Said.{saidBy, entryFor, toldAs, heard}
 use Rattle.routes.proofs.Saying.{admitted-legs}
 use Rattle.nafthurm.specs.declared.forms.PacketForm.{PacketForm}
+use Rattle.nafthurm.specs.declared.forms.RouteForm.{RouteForm}
 use Rattle.nafthurm.specs.Forms.{packetOf, packetFor, steppedFor, walkedFor, routeFor, outcomeIn, packetIn, madeFor}
 
 -- The packet that a step or a walk hands back has the legs that were lent.
@@ -61,6 +62,20 @@ module _ (s : Shape) (f : PacketForm) where
   pub walked-is : (ds : List ℕ) → packetOf (walkedFor f (toldWalk (walk (torus s) (stored s) (packetOf f) ds)) .packet) ≡ walk (torus s) (stored s) (packetOf f) ds .packet
   unfolding walkedFor toldWalk
   walked-is ds = packet-kept f (walk (torus s) (stored s) (packetOf f) ds .packet) (walk-legs s (packetOf f) ds)
+
+-- A form with a number is that refusal; without one it says what its kind and via say.
+refused-as : (n : ℕ) (a : Answer) → (n ≡ 0 → ⊥) → Outcome.Refused n ≡ toldAs 0 (answered n a)
+unfolding toldAs answered
+refused-as zero a h = absurd (h refl)
+refused-as (suc n) a h = refl
+
+pub refused-in : (D : ℕ) (f : RouteForm) → (f .number ≡ 0 → ⊥) → Outcome.Refused (f .number) ≡ outcomeIn D f
+unfolding outcomeIn
+refused-in D f h = refused-as (f .number) _ h
+
+pub said-in : (D : ℕ) (f : RouteForm) → f .number ≡ 0 → toldAs 0 (saidBy (record { dest = D; kind = f .kind; via = f .via })) ≡ outcomeIn D f
+unfolding outcomeIn answered
+said-in D f h = ap (λ n. toldAs 0 (answered n (saidBy (record { dest = D; kind = f .kind; via = f .via })))) (sym h)
 
 -- The packet made of a route that a call gave is the new packet of that route.
 pub new-is :

@@ -20,21 +20,21 @@ pub extern "C" fn nafthurm_plan_check(plan: &[u8]) -> u8
 
 #[no_mangle]
 pub extern "C" fn nafthurm_plan_shape(plan: &[u8]) -> ShapeForm
-    ensures { λ r. ⌜ r ≡ shapeFor (shapeAnswer (now (plan .entry))) ⌝ }
+    ensures { λ r. ⌜ r ≡ shapeFor (shapeAnswer large (now (plan .entry))) ⌝ }
 {
     shape_for(plan::shape_of(plan))
 }
 
 #[no_mangle]
 pub extern "C" fn nafthurm_dead_node(plan: &[u8], node: u16) -> bool
-    ensures { λ r. ⌜ r ≡ nodeAnswer (now (plan .entry)) node ⌝ }
+    ensures { λ r. ⌜ r ≡ nodeAnswer large (now (plan .entry)) node ⌝ }
 {
     dead::is_dead_node(plan, node)
 }
 
 #[no_mangle]
 pub extern "C" fn nafthurm_dead_link(plan: &[u8], node: u16, direction: u8) -> bool
-    ensures { λ r. ⌜ r ≡ linkAnswer (now (plan .entry)) node direction ⌝ }
+    ensures { λ r. ⌜ r ≡ linkAnswer large (now (plan .entry)) node direction ⌝ }
 {
     dead::is_dead_link(plan, node, direction)
 }

@@ -1,0 +1,17 @@
+use mathlib.Core.Path.{_∙_}
+use Rattle.nafthurm.proofs.Laws.{refused-in, said-in}
+use borrow.Author.Needs.{needs}
+use Rattle.nafthurm.proofs.forms.outcome_in.Statement.{statement}
+use Rattle.nafthurm.proofs.forms.outcome_in.Tie as tie
+
+returns : tie.Need-returns
+returns c = refused-in _ _ (c .if1 .taken)
+
+outcome-by-requires : tie.Need-outcome-by-requires
+outcome-by-requires c κs = search needs
+
+returns-2 : tie.Need-returns-2
+returns-2 c = c .outcome-by .ensures ∙ said-in _ _ (c .before .if1 .left)
+
+pub outcome-in-spec : {M : Type 1} → statement M
+outcome-in-spec = tie.close (tie.spec returns outcome-by-requires returns-2)
