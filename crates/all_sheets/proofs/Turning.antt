@@ -14,7 +14,7 @@ use Rattle.sheet.proofs.Inputs.{read-whole}
 use Rattle.sheet.proofs.Outputs.{size-written, not-refused, front-written, rest-written}
 use Rattle.plan.specs.Layout.{shapeOf}
 use Rattle.plan.specs.Checks.{large}
-use Rattle.routes.specs.Layout.{entryCount}
+use Rattle.routes.specs.Layout.{formatBy, entryCount}
 use Rattle.routes.proofs.Sheets.{accepted}
 use Rattle.routes.proofs.Readings.{few}
 use Rattle.planner.specs.Sheet.{sourceError, plannedSheet}
@@ -31,6 +31,7 @@ module _ (p : List ℕ) (S : ℕ) (ok : sourceError large p S ≡ 0) where
   sheet-long = accepted large p (plannedSheet large p S) (sheet-accepted large p S (source-of large p S ok)) .head .long
 
   sheet-fits : length (plannedSheet large p S) ≤ 20482
+  unfolding formatBy
   sheet-fits =
       let good = sheet-accepted large p S (source-of large p S ok) in
       omega (arith, accepted large p (plannedSheet large p S) good .head .sized, few large p (plannedSheet large p S) good)
