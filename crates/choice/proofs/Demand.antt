@@ -25,7 +25,7 @@ use Rattle.plan.specs.Checks.{Limits, planError}
 use Rattle.dead.specs.Dead.{deadNode}
 use Rattle.choice.specs.Choice.{Choice, mostVias, viasOf, AdmitsIn, choices, legLength, beforeIn}
 use Rattle.choice.specs.Answer.{Answer, Given, Refused, answered}
-use Rattle.choice.specs.Outcome.{told}
+use Rattle.choice.specs.Outcome.{told, toldAs}
 use Rattle.choice.specs.Pair.{soundIn, routeBy, routeIn, pairError, chosen, pair}
 use Rattle.choice.specs.Demand.{Tells, PlannedIn, Demand}
 use Rattle.choice.proofs.Lists.{vias-legs}
@@ -57,7 +57,7 @@ chosen-read a (some c) e = record {
 -- An admitted choice has one leg to D, or two legs of which the second is to D.
 module _ (s : Shape) (S D : ℕ) (a : Answer) where
   pub admits-tells : (c : Choice) → AdmitsIn s S D c → a ≡ Given c → Tells s S D a c
-  unfolding endBy viasOf legsTo told
+  unfolding endBy viasOf legsTo told toldAs
   admits-tells [] h e = let z : _≡_ {A = ℕ} 0 1 = ap length (h .self (h .ends)) in absurd (omega arith)
   admits-tells (l ∷ []) h e =
       let last : leg D (l .mode) ≡ l = leg-inj D (l .target) (l .mode) (l .mode) (sym (h .ends)) refl in

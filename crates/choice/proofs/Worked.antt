@@ -19,14 +19,14 @@ use Rattle.plan.specs.Worked.{W}
 use Rattle.dead.specs.Dead.{some, namesNode, deadNode, namesLink, names, deadLink, sound}
 use Rattle.choice.specs.Choice.{targetsOf, viasOf, modesOf, detsOf, keyOf, over, after, direct, legsBy, misses, different, kept, choicesBy}
 use Rattle.choice.specs.Answer.{answered}
-use Rattle.choice.specs.Outcome.{told}
+use Rattle.choice.specs.Outcome.{told, toldAs}
 use Rattle.choice.specs.Pair.{routeBy, pairError, pair}
 use Rattle.choice.specs.Demand.{Demand}
 use Rattle.choice.specs.Worked.{Worked}
 use Rattle.choice.proofs.Demand.{demand}
 
 pub worked : Worked
-unfolding endBy sumBy every clearBy clearIn clear lex earlier best planned shapeError badExtents badWraps axisDistance hasLink place nodeCount numberOf coordsOf dirDim opposite link neighbour distance useful rule toward firstDirection isNode allowedBy listFrom version lengthField bytesAfter lengthIs layoutOf shapeOf faultCount faultAt faultsOf kindDim kindDir faultGood faultKey faultsError planErrorBy faultExists some namesNode deadNode namesLink names deadLink sound targetsOf viasOf modesOf detsOf keyOf over after direct legsBy misses different kept choicesBy answered told routeBy pairError pair
+unfolding endBy sumBy every clearBy clearIn clear lex earlier best planned shapeError badExtents badWraps axisDistance hasLink place nodeCount numberOf coordsOf dirDim opposite link neighbour distance useful rule toward firstDirection isNode allowedBy listFrom version lengthField bytesAfter lengthIs layoutOf shapeOf faultCount faultAt faultsOf kindDim kindDir faultGood faultKey faultsError planErrorBy faultExists some namesNode deadNode namesLink names deadLink sound targetsOf viasOf modesOf detsOf keyOf over after direct legsBy misses different kept choicesBy answered told toldAs routeBy pairError pair
 worked = record {
   w-0-1 = refl;
   w-0-2 = refl;

@@ -1,4 +1,4 @@
--- An answer as the code's enum, from the source S: the route with its length, or the number.
+-- An answer as the code's enum: the route with its length from the source S, or the number.
 use Prim.Native.Nat.{ℕ}
 use mathlib.Core.List.{[], _∷_}
 use Rattle.shape.specs.declared.shape.Shape.{Shape}
@@ -7,12 +7,17 @@ use Rattle.choice.specs.declared.outcome.Outcome.{Outcome}
 use Rattle.choice.specs.Choice.{lengthOf}
 use Rattle.choice.specs.Answer.{Answer, Given, Refused}
 
--- Lists of no legs, or of over two, are never admitted and read as a refusal with the number 0.
+-- With this length. Lists of no legs, or of over two, are never admitted and read as a refusal with the number 0.
+unfoldable pub toldAs : ℕ → Answer → Outcome
+toldAs len (Given []) = Outcome.Refused 0
+toldAs len (Given (l ∷ [])) = Outcome.Given (Route.Direct (l .mode)) len
+toldAs len (Given (l ∷ m ∷ [])) = Outcome.Given (Route.Via (l .target) (l .mode) (m .mode)) len
+toldAs len (Given (l ∷ m ∷ n ∷ ls)) = Outcome.Refused 0
+toldAs len (Refused e) = Outcome.Refused e
+
+-- Its length is the sum of the legs' distances.
 unfoldable pub told : Shape → ℕ → Answer → Outcome
-told s S (Given []) = Outcome.Refused 0
-told s S (Given (l ∷ [])) = Outcome.Given (Route.Direct (l .mode)) (lengthOf s S (l ∷ []))
-told s S (Given (l ∷ m ∷ [])) = Outcome.Given (Route.Via (l .target) (l .mode) (m .mode)) (lengthOf s S (l ∷ m ∷ []))
-told s S (Given (l ∷ m ∷ n ∷ ls)) = Outcome.Refused 0
+told s S (Given c) = toldAs (lengthOf s S c) (Given c)
 told s S (Refused e) = Outcome.Refused e
 
 -- 0, or the number of the refusal.

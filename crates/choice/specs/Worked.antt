@@ -1,8 +1,7 @@
--- 'The worked machine and its edges': the lines marked (P), one table.
+-- 'The worked machine and its edges': the lines marked (P), one table, with the document's own numbers.
 use Prim.Native.Nat.{ℕ}
 use mathlib.Core.Path.{_≡_}
 use mathlib.Core.List.{List, [], _∷_}
-use Rattle.numbers.specs.Numbers.{extentOutside, wrongWrap, deadEnd, noClearChoice}
 use Rattle.machine.specs.declared.leg.Mode.the-variants.{Adaptive, Deterministic}
 use Rattle.packet.specs.declared.route.Route.{Route}
 use Rattle.plan.specs.Layout.{shapeOf}
@@ -28,11 +27,11 @@ pub record Worked : Type 0 where
   pub w-0-2 : tells W 0 2 ≡ Outcome.Given (Route.Via 3 Adaptive Adaptive) 2
   pub w-0-7 : tells W 0 7 ≡ Outcome.Given (Route.Direct Adaptive) 2
   pub w-0-0 : tells W 0 0 ≡ Outcome.Given (Route.Direct Adaptive) 0
-  pub ring-of-4 : tells (fault 4 1 1 0) 0 1 ≡ Outcome.Refused noClearChoice
+  pub ring-of-4 : tells (fault 4 1 1 0) 0 1 ≡ Outcome.Refused 11
   pub ring-of-5 : tells (fault 5 1 1 0) 0 1 ≡ Outcome.Given (Route.Via 3 Adaptive Adaptive) 4
-  pub open-2 : tells (fault 2 1 0 0) 0 1 ≡ Outcome.Refused noClearChoice
-  pub dead-node : tells (fault 1 1 0 3) 0 0 ≡ Outcome.Refused deadEnd
+  pub open-2 : tells (fault 2 1 0 0) 0 1 ≡ Outcome.Refused 11
+  pub dead-node : tells (fault 1 1 0 3) 0 0 ≡ Outcome.Refused 10
   pub extent-16 : planError large (sheet 16 1 0) ≡ 0
-  pub extent-17 : planError large (sheet 17 1 0) ≡ extentOutside
+  pub extent-17 : planError large (sheet 17 1 0) ≡ 5
   pub wrapped-3 : planError large (sheet 3 1 1) ≡ 0
-  pub wrapped-2 : planError large (sheet 2 1 1) ≡ wrongWrap
+  pub wrapped-2 : planError large (sheet 2 1 1) ≡ 6

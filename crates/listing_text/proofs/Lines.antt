@@ -15,7 +15,7 @@ use Rattle.choice.specs.declared.outcome.Outcome.{Outcome}
 use Rattle.choice.specs.Choice.{Choice, AdmitsIn, viasOf}
 use Rattle.choice.specs.Answer.{Answer, Given, Refused}
 use Rattle.choice.specs.Pair.{pair}
-use Rattle.choice.specs.Outcome.{told}
+use Rattle.choice.specs.Outcome.{told, toldAs}
 use Rattle.routes.specs.Kinds.{hasModes, kindFrom, kindOf}
 use Rattle.routes.specs.Said.{entryFor, heard}
 use Rattle.routes.proofs.Saying.{admitted-legs}
@@ -104,15 +104,15 @@ abbrev pub LineTold : Shape → ℕ → Answer → Type 0
 LineTold s S a = (D : ℕ) → outcomeLine D (told s S a) ≡ destLine s S D a
 
 pub refused-told : (s : Shape) (S e : ℕ) → LineTold s S (Refused e)
-unfolding outcomeLine destLine told heard entryFor fieldText kindText viaText lengthText
+unfolding outcomeLine destLine told toldAs heard entryFor fieldText kindText viaText lengthText
 refused-told s S e D = refl
 
 one-told : (s : Shape) (S T : ℕ) (m : Mode) → LineTold s S (Given (leg T m ∷ []))
-unfolding outcomeLine destLine told heard entryFor legsTo viasOf kindOf kindFrom hasModes fieldText kindText viaText lengthText
+unfolding outcomeLine destLine told toldAs heard entryFor legsTo viasOf kindOf kindFrom hasModes fieldText kindText viaText lengthText
 one-told s S T m D = refl
 
 two-told : (s : Shape) (S T v : ℕ) (m n : Mode) → LineTold s S (Given (leg v m ∷ leg T n ∷ []))
-unfolding outcomeLine destLine told heard entryFor legsTo viasOf kindOf kindFrom hasModes fieldText kindText viaText lengthText
+unfolding outcomeLine destLine told toldAs heard entryFor legsTo viasOf kindOf kindFrom hasModes fieldText kindText viaText lengthText
 two-told s S T v m n D = refl
 
 pub choice-told : (s : Shape) (S T : ℕ) (c : Choice) → AdmitsIn s S T c → LineTold s S (Given c)

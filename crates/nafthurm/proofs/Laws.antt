@@ -20,9 +20,9 @@ use Rattle.packet.specs.Answers.{toldWalk}
 use Rattle.choice.specs.declared.outcome.Outcome.{Outcome}
 use Rattle.choice.specs.Choice.{Choice, AdmitsIn, viasOf}
 use Rattle.choice.specs.Answer.{Answer, Given, answered}
-use Rattle.choice.specs.Outcome.{told}
+use Rattle.choice.specs.Outcome.{told, toldAs}
 use Rattle.routes.specs.Kinds.{hasModes, kindFrom, kindOf}
-use Rattle.routes.specs.Said.{saidBy, entryFor, toldAs, heard}
+use Rattle.routes.specs.Said.{saidBy, entryFor, heard}
 use Rattle.routes.proofs.Saying.{admitted-legs}
 use Rattle.nafthurm.specs.declared.forms.PacketForm.{PacketForm}
 use Rattle.nafthurm.specs.declared.forms.RouteForm.{RouteForm}

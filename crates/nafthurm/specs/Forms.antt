@@ -19,9 +19,9 @@ use Rattle.packet.specs.Answers.{answerNumber, endingNumber}
 use Rattle.choice.specs.declared.outcome.Outcome.{Outcome}
 use Rattle.choice.specs.Choice.{det}
 use Rattle.choice.specs.Answer.{answered}
-use Rattle.choice.specs.Outcome.{outcomeNumber}
+use Rattle.choice.specs.Outcome.{outcomeNumber, toldAs}
 use Rattle.sheet.specs.declared.output.Written.{Written}
-use Rattle.routes.specs.Said.{saidBy, entryFor, toldAs, heard}
+use Rattle.routes.specs.Said.{saidBy, entryFor, heard}
 use Rattle.nafthurm.specs.declared.forms.ShapeForm.{ShapeForm}
 use Rattle.nafthurm.specs.declared.forms.LegForm.{LegForm}
 use Rattle.nafthurm.specs.declared.forms.PacketForm.{PacketForm}

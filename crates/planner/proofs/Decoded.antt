@@ -14,7 +14,7 @@ use Rattle.machine.specs.declared.leg.Mode.the-variants.{Adaptive, Deterministi
 use Rattle.choice.specs.Choice.{Choice, viasOf, det, detsOf, legLength, lengthOf}
 use Rattle.choice.specs.OneVia.{OneVia, viaOf, firstDet}
 use Rattle.choice.specs.Answer.{Given, Refused}
-use Rattle.choice.specs.Outcome.{told}
+use Rattle.choice.specs.Outcome.{told, toldAs}
 use Rattle.planner.specs.KeyNumber.{lengthPlace, detsPlace, viasPlace, nodePlace, digits, keyNumber, unclear, modeOf, decoded}
 use Rattle.planner.proofs.Order.{Low, low-places}
 
@@ -52,12 +52,12 @@ second-back Deterministic Adaptive = refl
 second-back Deterministic Deterministic = refl
 
 pub decoded-none : (s : Shape) (S k : ℕ) → unclear ≤ k → decoded k ≡ told s S (Refused noClearChoice)
-unfolding decoded told
+unfolding decoded told toldAs
 decoded-none s S k h = rw (le-leb unclear k h)
 
 module _ (s : Shape) (S D : ℕ) where
   of-choice : (k : ℕ) (c : Choice) → OneVia S D c → lengthOf s S c < 256 → Places k (lengthOf s S c) (detsOf c) (length (viasOf c)) (viaOf c) (firstDet c) → decoded k ≡ told s S (Given c)
-  unfolding decoded told detsOf viasOf viaOf firstDet
+  unfolding decoded told toldAs detsOf viasOf viaOf firstDet
   of-choice k [] o l p = let some = o .some in absurd (omega arith)
   of-choice k (x ∷ []) o l p = rw (lt-leb unclear k (p .clear-is l), p .vias-is, p .first-is, p .len-is, mode-back (x .mode))
   of-choice k (x ∷ y ∷ []) o l p =

@@ -34,7 +34,7 @@ use Rattle.tables.proofs.Cells.{cell-adaptive, cell-hops}
 use Rattle.packet.specs.declared.route.Route.{Route}
 use Rattle.choice.specs.declared.outcome.Outcome.{Outcome}
 use Rattle.choice.specs.Answer.{Given, answered}
-use Rattle.choice.specs.Outcome.{told}
+use Rattle.choice.specs.Outcome.{told, toldAs}
 use Rattle.choice.specs.Pair.{routeIn, pairError, chosen, pair}
 use Rattle.choice.proofs.AtTorus.{direct-first}
 use Rattle.planner.specs.Least.{least}
@@ -218,7 +218,7 @@ module _ (s : Shape) (sound : ℕ → ℕ → Bool) (S D : ℕ) (from toward par
       ap decoded same
 
 told-direct : (s : Shape) (S D k : ℕ) → distance s S D ≡ k → Outcome.Given (Route.Direct Adaptive) k ≡ told s S (Given (leg D Adaptive ∷ []))
-unfolding told sumBy
+unfolding told toldAs sumBy
 told-direct s S D k e = ap (Outcome.Given (Route.Direct Adaptive)) (omega arith)
 
 -- ---- what depends on the plan p and its source S alone
@@ -240,7 +240,7 @@ module _ (p : List ℕ) (S : ℕ) (s : Shape) (masks dead from : List ℕ) (r : 
   dead-is = r .nodes D ∙ rw (eq-eqb (planError large p) 0 (r .plan))
 
   pair-dead : deadNode (faultsOf p) D ≡ true → told (shapeOf p) S (pair large p S D) ≡ Outcome.Refused deadEnd
-  unfolding pair pairError answered told
+  unfolding pair pairError answered told toldAs
   pair-dead d = rw (r .plan, r .source, node, r .alive, d)
 
   pair-alive : deadNode (faultsOf p) D ≡ false → pair large p S D ≡ chosen (routeIn p S D)

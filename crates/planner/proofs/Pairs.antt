@@ -25,7 +25,7 @@ use Rattle.dead.proofs.Table.{mask-bit, is-node}
 use Rattle.tables.specs.Table.{soundBit, soundBy, towardAnswer, outwardAnswer}
 use Rattle.choice.specs.declared.outcome.Outcome.{Outcome}
 use Rattle.choice.specs.Answer.{answered}
-use Rattle.choice.specs.Outcome.{told}
+use Rattle.choice.specs.Outcome.{told, toldAs}
 use Rattle.choice.specs.Pair.{soundIn, routeBy, routeIn, pairError, chosen, pair}
 use Rattle.choice.proofs.AtTorus.{route-same}
 use Rattle.planner.specs.KeyNumber.{outcomeIn}
@@ -94,7 +94,7 @@ accepted p S D h =
 
 -- ---- the answer
 pub refused-pair : (p : List ℕ) (S D e : ℕ) → e ≡ pairError large p S D → (e ≡ 0 → ⊥) → Outcome.Refused e ≡ told (shapeOf p) S (pair large p S D)
-unfolding pair answered told
+unfolding pair answered told toldAs
 refused-pair p S D zero q ne = absurd (ne refl)
 refused-pair p S D (suc e) q ne = rw (sym q)
 

@@ -32,7 +32,7 @@ use Rattle.packet.specs.declared.route.Route.{Route}
 use Rattle.choice.specs.declared.outcome.Outcome.{Outcome}
 use Rattle.choice.specs.Choice.{det, lengthOf}
 use Rattle.choice.specs.Answer.{Answer, Given, Refused}
-use Rattle.choice.specs.Outcome.{told}
+use Rattle.choice.specs.Outcome.{told, toldAs}
 use Rattle.choice.specs.Pair.{pair}
 use Rattle.routes.specs.declared.layout.Entry.{Entry}
 use Rattle.routes.specs.declared.reading.Routes.{Routes}
@@ -71,7 +71,7 @@ listed-mode Adaptive len = refl
 listed-mode Deterministic len = refl
 
 told-listed : (s : Shape) (S : ℕ) (a : Answer) → isListed (told s S a) ≡ lists a
-unfolding isListed told lists
+unfolding isListed told toldAs lists
 told-listed s S (Given []) = refl
 told-listed s S (Given (l ∷ [])) = listed-mode (l .mode) (lengthOf s S (l ∷ []))
 told-listed s S (Given (l ∷ m ∷ [])) = refl

@@ -26,7 +26,7 @@ use Rattle.plan.specs.Checks.{Limits}
 use Rattle.packet.specs.declared.route.Route.{Route}
 use Rattle.choice.specs.declared.outcome.Outcome.{Outcome}
 use Rattle.choice.specs.Answer.{Given, answered}
-use Rattle.choice.specs.Outcome.{told}
+use Rattle.choice.specs.Outcome.{told, toldAs}
 use Rattle.routes.specs.declared.layout.Entry.{Entry}
 use Rattle.routes.specs.declared.lookup.Part.{Part}
 use Rattle.routes.specs.declared.route.Found.{Found}
@@ -34,7 +34,7 @@ use Rattle.routes.specs.declared.route.Found.the-variants.{At, Missing}
 use Rattle.routes.specs.Layout.{Format, formatBy, formatOf, source, entryCount, entriesAt, entrySize, entryAt, entriesOf}
 use Rattle.routes.specs.Kinds.{viaKind}
 use Rattle.routes.specs.Checks.{entryGood, routesGood, sheetError}
-use Rattle.routes.specs.Said.{saidBy, toldAs}
+use Rattle.routes.specs.Said.{saidBy}
 use Rattle.routes.specs.Lookup.{find, lookupError, isListed, PartOf, partStart, partLength, partFor}
 use Rattle.routes.specs.Says.{saysOf, says}
 use Rattle.routes.specs.Steps.{pickFound, foundIn, orDirect, lengthBy}
@@ -137,7 +137,7 @@ module _ (m : Shape) (S : ℕ) (source : isNode m S ≡ true) where
       told-with (e .dest) (e .kind) (e .via) (is-node m S source (e .dest) (g .dest)) (is-node m S source (e .via) (g .via))
 
   told-direct : (d : ℕ) → isNode m d ≡ true → Outcome.Given (Route.Direct Adaptive) (distanceAnswer m S d) ≡ told m S (Given (leg d Adaptive ∷ []))
-  unfolding told sumBy
+  unfolding told toldAs sumBy
   told-direct d h = ap (λ n. Outcome.Given (Route.Direct Adaptive) n) (one-leg d h)
 
 -- What is found is good.
@@ -147,7 +147,7 @@ FoundGood F m S Missing = Unit {0}
 
 module _ (L : Limits) (p s : List ℕ) (d : ℕ) where
   pub refused : (e : ℕ) → e ≡ lookupError L p s d → (e ≡ 0 → ⊥) → Outcome.Refused e ≡ told (shapeOf p) (source s) (says L p s d)
-  unfolding says told answered
+  unfolding says told toldAs answered
   refused e h n = rw (← h) (go e n)
     where
       go : (k : ℕ) → (k ≡ 0 → ⊥) → Outcome.Refused k ≡ told (shapeOf p) (source s) (answered k (saysOf (entriesOf s) d))

@@ -19,7 +19,7 @@ use Rattle.machine.proofs.Nodes.{node-of}
 use Rattle.packet.specs.New.{legsTo}
 use Rattle.choice.specs.Choice.{Choice, AdmitsIn, viasOf, targetsOf}
 use Rattle.choice.specs.Answer.{Answer, Given, Refused}
-use Rattle.choice.specs.Outcome.{told}
+use Rattle.choice.specs.Outcome.{told, toldAs}
 use Rattle.routes.specs.Kinds.{hasModes, kindFrom, kindOf, viaKind, plainKind}
 use Rattle.routes.specs.Said.{saidBy, entryFor, heard}
 use Rattle.routes.specs.Layout.{written}
@@ -27,7 +27,7 @@ use Rattle.routes.specs.Checks.{viaGood, entryGood}
 
 -- The entry of an answer, from the code's enum of it.
 pub entry-told : (s : Shape) (S d : ℕ) (a : Answer) → entryFor d (heard d (told s S a)) ≡ entryFor d a
-unfolding entryFor heard told legsTo viasOf kindOf kindFrom hasModes
+unfolding entryFor heard told toldAs legsTo viasOf kindOf kindFrom hasModes
 entry-told s S d (Given []) = refl
 entry-told s S d (Given (l ∷ [])) = refl
 entry-told s S d (Given (l ∷ m ∷ [])) = refl
@@ -57,7 +57,7 @@ admitted-legs Q s S D one two (l ∷ m ∷ n ∷ ls) a = let h = a .few in absur
 
 -- An admitted choice, from the code's enum of it.
 pub heard-told : (s : Shape) (S D : ℕ) (c : Choice) → AdmitsIn s S D c → heard D (told s S (Given c)) ≡ Given c
-unfolding heard told legsTo
+unfolding heard told toldAs legsTo
 heard-told s S D c a = admitted-legs (λ c. heard D (told s S (Given c)) ≡ Given c) s S D (λ m. refl) (λ v m n _. refl) c a
 
 -- An entry says what it was made for.

@@ -31,15 +31,7 @@ unfoldable pub entryFor : ℕ → Answer → Entry
 entryFor d (Given c) = record { dest = d; kind = kindOf c; via = viaField (viasOf c) }
 entryFor d (Refused e) = record { dest = d; kind = e; via = 0 }
 
--- An answer as the code's enum, with this length.
-unfoldable pub toldAs : ℕ → Answer → Outcome
-toldAs len (Given []) = Outcome.Refused 0
-toldAs len (Given (l ∷ [])) = Outcome.Given (Route.Direct (l .mode)) len
-toldAs len (Given (l ∷ m ∷ [])) = Outcome.Given (Route.Via (l .target) (l .mode) (m .mode)) len
-toldAs len (Given (l ∷ m ∷ n ∷ ls)) = Outcome.Refused 0
-toldAs len (Refused e) = Outcome.Refused e
-
--- And the enum, of the destination d, as an answer.
+-- The code's enum, of the destination d, as an answer.
 unfoldable pub heard : ℕ → Outcome → Answer
 heard d (Outcome.Given r len) = Given (legsTo d r)
 heard d (Outcome.Refused e) = Refused e

@@ -14,7 +14,8 @@ ghost use Rattle.packet.specs.declared.route.Route.{Route};
 ghost use Rattle.packet.specs.New.{legsTo};
 ghost use Rattle.choice.specs.Answer.{Given};
 ghost use Rattle.routes.specs.Kinds.{kindOf, viaKind, plainKind};
-ghost use Rattle.routes.specs.Said.{saidBy, entryFor, toldAs, heard};
+ghost use Rattle.choice.specs.Outcome.{toldAs};
+ghost use Rattle.routes.specs.Said.{saidBy, entryFor, heard};
 
 pub fn has_via(kind: u8) -> bool
     ensures { λ r. ⌜ r ≡ viaKind kind ⌝ }

@@ -2,7 +2,8 @@ use mathlib.Core.List.{[]}
 use native.Mathlib.Omega.{arith}
 use lib.ListN.{List·getD-eq-default}
 use Rattle.routes.specs.Kinds.{kinds}
-use Rattle.routes.specs.Said.{saidBy, toldAs}
+use Rattle.choice.specs.Outcome.{toldAs}
+use Rattle.routes.specs.Said.{saidBy}
 use Rattle.routes.proofs.kinds.outcome_by.Statement.{statement}
 use Rattle.routes.proofs.kinds.outcome_by.Tie as tie
 
