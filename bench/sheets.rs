@@ -14,8 +14,8 @@ mod fast {
     #![allow(dead_code)]
     include!("../reference/fast.rs");
 
-    /// The length of the first choice; 255 where there is none.
-    pub fn pair(sheet: &[u8], source: usize, dest: usize) -> u8 {
+    /// The length of the first choice; 65535 where there is none.
+    pub fn pair(sheet: &[u8], source: usize, dest: usize) -> u16 {
         let p = Plan::parse(sheet, 0).ok().unwrap();
         let t = tables(&p);
         let (mut bad, mut from, mut to) = (vec![0; p.n], [vec![FAR; p.n], vec![FAR; p.n]], [vec![FAR; p.n], vec![FAR; p.n]]);
@@ -25,7 +25,11 @@ mod fast {
         toward(&p, &t, dest, &mut bad, [a, d]);
         let direct = from[A][dest].min(from[D][dest]);
         let via = (0..4).map(|m| least(&from[m / 2], &to[m % 2], wide())).min().unwrap();
-        if source == dest { 0 } else { direct.min(via).min(255) as u8 }
+        match direct.min(via) {
+            _ if source == dest => 0,
+            FAR => u16::MAX,
+            length => length as u16,
+        }
     }
 }
 

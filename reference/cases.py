@@ -6,6 +6,7 @@ Writes crates/conform/stdin and crates/conform/stdout. What each readable line a
 --long FOLDER  also write long.in and long.out there: lines about as long as conform's line buffer, too long for the stored files
 """
 import argparse
+import multiprocessing
 import os
 import random
 import sys
@@ -236,8 +237,8 @@ def faults_between(rng, shape, source, destination):
     return faults
 
 
-def large_cases():
-    """Pairs and runs on machines of more than 1,024 nodes, and sheets and a listing of more than 48 destinations."""
+def large_pairs():
+    """Pairs and runs on machines of more than 1,024 nodes."""
     for i in range(LARGE):
         rng = random.Random('large/%s/%d' % (SEED, i))
         plan, shape, source, destination = large_machine(rng)
@@ -245,6 +246,10 @@ def large_cases():
         number, route = ref.plan_pair(BASE, plan, source, destination)
         run = b'' if number else vectors.whole_run(rng, BASE, shape, ref.new_packet(BASE, source, route.legs))
         yield line('run', plan=plan, source=source, destination=destination, calls='w%s,w,s00' % run.hex())
+
+
+def large_sheets():
+    """Sheets and a listing of more than 48 destinations."""
     for plan, source, room in ((plan_of([16, 8, 1], 3, (5, 0), (40, 3), (100, 1)), 8, 397), (plan_of([16, 1, 8], 0, (20, 2), (66, 0), (100, 3)), 0, 389),
                                (plan_of([5, 5, 5], 7, (0, 0), (1, 3), (62, 2)), 62, 267), (plan_of([2, 16, 4], 6, (31, 1), (64, 0), (70, 3)), 33, 286),
                                (plan_of([8, 8, 8], 7, (0, 0), (9, 1), (100, 3)), 0, 1287), (plan_of([16, 16, 2], 3, (0, 0), (17, 1), (300, 3)), 1, 1847),
@@ -253,14 +258,7 @@ def large_cases():
     yield line('listing', input=ref.two(1000) + plan_of([16, 9, 8], 0, (999, 0)))
 
 
-def lacking():
-    yield from many_legs()
-    yield from links()
-    yield from plan_cases()
-    yield from refusals()
-    yield from alike()
-    yield from rare()
-    yield from large_cases()
+LACKING = (many_legs, links, plan_cases, refusals, alike, rare, large_pairs, large_sheets)
 
 
 # ---- Lines that no call can be made of
@@ -366,14 +364,24 @@ def answered(case):
     return case, answers.answer(case)
 
 
+def vectors_of(operation):
+    return [(line(name, **given), answers.text(wanted)) for name, given, wanted in vectors.make(BASE, SEED, VECTORS[operation], operation)]
+
+
+def lacked_by(group):
+    return [answered(case) for case in LACKING[group]()]
+
+
 def cases():
-    """(line, answer): the line may go on behind what is given."""
-    for operation, count in VECTORS.items():
-        for name, given, wanted in vectors.make(BASE, SEED, count, operation):
-            yield line(name, **given), answers.text(wanted)
-    yield from worked()
-    for case in lacking():
-        yield answered(case)
+    """(line, answer): the line may go on behind what is given. The reference's part is shared among the processors."""
+    with multiprocessing.Pool() as pool:
+        lacked = pool.map_async(lacked_by, range(len(LACKING)), chunksize=1)
+        made = pool.map_async(vectors_of, VECTORS, chunksize=1)
+        for part in made.get():
+            yield from part
+        yield from worked()
+        for part in lacked.get():
+            yield from part
     for bad in unreadable, unreadable_plans, unreadable_planning:
         for case in bad():
             yield case, 'unreadable'
@@ -419,4 +427,5 @@ def main():
             write(os.path.join(options.long, name), text)
 
 
-main()
+if __name__ == '__main__':
+    main()

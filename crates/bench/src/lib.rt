@@ -37,12 +37,12 @@ pub extern "C" fn nafthurm_walk(
     walked.hops
 }
 
-// The route's length; 255 where there is none.
+// The route's length; 65535 where there is none.
 #[no_mangle]
 pub extern "C" fn nafthurm_pair(plan: &[u8], source: u16, dest: u16) -> u16 {
     match pair(plan, source, dest) {
         Outcome::Given(_, length) => length,
-        Outcome::Refused(_) => 255,
+        Outcome::Refused(_) => 65535,
     }
 }
 

@@ -1,9 +1,9 @@
 -- The laws of the choices at the machine of document 01: clear legs by walks, lengths by distance.
-use Prim.Native.Nat.{ℕ, suc, _+_, _<_, _≤_}
-use mathlib.Core.Path.{_≡_, refl, _∙_}
+use Prim.Native.Nat.{ℕ, suc, _+_, _<_}
+use mathlib.Core.Path.{_≡_, refl}
 use mathlib.Core.Bool.{Bool, true}
-use mathlib.Core.List.{List, [], _∷_}
-use mathlib.Core.Option.{Option, some}
+use mathlib.Core.List.{[], _∷_}
+use mathlib.Core.Option.{some}
 use Rattle.theory.specs.Machine.{Inside}
 use Rattle.theory.specs.Clear.{clear}
 use Rattle.theory.specs.Choice.{best}
@@ -12,7 +12,6 @@ use Rattle.theory.proofs.Clear.{empty-clear, clear-iff, clearLegs-same}
 use Rattle.theory.proofs.Choice.{best-same}
 use Rattle.shape.specs.declared.shape.Shape.{Shape}
 use Rattle.shape.specs.Shape.{shapeError}
-use Rattle.machine.specs.declared.leg.Leg.{Leg}
 use Rattle.machine.specs.declared.leg.Mode.the-variants.{Adaptive}
 use Rattle.machine.specs.Number.{nodeCount}
 use Rattle.machine.specs.Hop.{distance, link}

@@ -10,9 +10,6 @@ use Rattle.numbers.specs.Numbers.{noClearChoice}
 use Rattle.theory.specs.Machine.{endBy}
 use Rattle.theory.proofs.Plan.{ReadAs, planned-is}
 use Rattle.shape.specs.declared.shape.Shape.{Shape}
-use Rattle.shape.specs.Shape.{shapeError, badExtents, badWraps}
-use Rattle.machine.specs.declared.leg.Leg.{Leg}
-use Rattle.machine.specs.declared.leg.Mode.the-variants.{Adaptive}
 use Rattle.machine.specs.Number.{nodeCount}
 use Rattle.machine.specs.Node.{isNode}
 use Rattle.machine.specs.Torus.{leg, torus}

@@ -3,9 +3,8 @@ use Prim.Native.Nat.{ℕ, _+_, _<_, _≤_}
 use native.Mathlib.Omega.{arith}
 use mathlib.Core.Path.{_≡_, refl}
 use mathlib.Core.Bool.{Bool, true}
-use mathlib.Core.List.{List, [], _∷_}
+use mathlib.Core.List.{[], _∷_}
 use mathlib.Core.Option.{some}
-use lib.ListN.{length}
 use Rattle.theory.specs.Machine.{endBy, sumBy}
 use Rattle.theory.specs.Clear.{clearBy}
 use Rattle.theory.proofs.Choice.{best-first, lex-less, lex-least}
@@ -13,7 +12,7 @@ use Rattle.machine.specs.declared.leg.Leg.{Leg}
 use Rattle.machine.specs.declared.leg.Mode.{Mode}
 use Rattle.machine.specs.declared.leg.Mode.the-variants.{Adaptive, Deterministic}
 use Rattle.machine.specs.Torus.{leg}
-use Rattle.choice.specs.Choice.{Choice, targetsOf, viasOf, modesOf, detsOf, endFrom, lengthFrom, keyOf, before, Below, Admits, choicesBy}
+use Rattle.choice.specs.Choice.{Choice, targetsOf, viasOf, modesOf, detsOf, endFrom, lengthFrom, keyOf, before, Below, choicesBy}
 use Rattle.choice.specs.Further.{clearChoice, firstBy}
 use Rattle.choice.proofs.Lists.{below-targets}
 use Rattle.choice.proofs.Keys.{before-order, fewer-before}

@@ -1,9 +1,9 @@
 -- The first clear choice with one via more: the first with no more vias, or the first to some node followed by that node's better leg.
-use Prim.Native.Nat.{ℕ, zero, suc, _+_, _<_, _≤_}
+use Prim.Native.Nat.{ℕ, suc, _+_, _<_, _≤_}
 use native.Mathlib.Omega.{arith}
 use mathlib.Core.Path.{_≡_, refl, sym, ap, _∙_}
-use mathlib.Core.Logic.{_⊎_, inl, inr, ⊎-elim}
-use mathlib.Core.Bool.{Bool, true, false, cond, _&&_, true≢false}
+use mathlib.Core.Logic.{_⊎_, ⊎-elim}
+use mathlib.Core.Bool.{Bool, true, true≢false}
 use mathlib.Core.List.{List, [], _∷_, _++_, List·Memᴰ, List·Memᴰ·head, List·Memᴰ·not-nil, List·Memᴰ·cases-cons, List·Memᴰ·append-cases, Memᴰ·append-left, Memᴰ·append-right}
 use mathlib.Core.Option.{Option, none, some}
 use lib.ListN.{length}
@@ -24,7 +24,7 @@ use Rattle.choice.specs.Further.{clearChoice, firstBy, better, directly,
 use Rattle.choice.proofs.Lists.{vias-legs, legs-count, targets-behind, end-behind, clear-behind, Split, split, below-vias, below-targets}
 use Rattle.choice.proofs.Keys.{leg-inj, before-order, adaptive-before, append-before}
 use Rattle.choice.proofs.Listed.{over-has, has-over, admits-lists, lists-admits}
-use Rattle.choice.proofs.Tidy.{Loose, Sooner, admitted-first}
+use Rattle.choice.proofs.Tidy.{Loose, admitted-first}
 
 -- Of lists with a last element.
 below-behind : (n : ℕ) (xs : List ℕ) (x : ℕ) → Below n xs → x < n → Below n (xs ++ (x ∷ []))

@@ -1,14 +1,11 @@
 -- The order of the choices: it is an order, fewer vias at no cost come first, and the same leg behind two choices keeps their order.
-use Prim.Native.Nat.{ℕ, zero, suc, _+_, _*_, _<_, _≤_}
+use Prim.Native.Nat.{ℕ, suc, _+_, _<_, _≤_}
 use native.Mathlib.Omega.{arith}
-use mathlib.Core.Path.{_≡_, refl, sym, ap, _∙_}
-use mathlib.Core.Logic.{_⊎_, inl, inr, ⊎-elim}
-use mathlib.Core.Bool.{Bool, true, false, false≢true, true≢false}
+use mathlib.Core.Path.{_≡_, refl, ap, _∙_}
+use mathlib.Core.Bool.{true, false≢true}
 use mathlib.Core.List.{List, [], _∷_, _++_, append-assoc}
 use lib.ListN.{length, length-append}
-use borrow.Author.Tests.{le-ltb, lt-ltb}
 use Rattle.theory.specs.Choice.{Order, lex}
-use Rattle.theory.proofs.Cases.{by-le, by-order}
 use Rattle.theory.proofs.Choice.{key-order, lex-less, lex-same, lex-least, lex-step}
 use Rattle.machine.specs.declared.leg.Leg.{Leg}
 use Rattle.machine.specs.declared.leg.Mode.{Mode}

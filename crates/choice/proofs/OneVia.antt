@@ -1,13 +1,12 @@
 -- Of choices with at most one via to one destination the order is the one in document 01's own words.
-use Prim.Native.Nat.{ℕ, suc, _+_, _≤_}
+use Prim.Native.Nat.{ℕ, _+_, _≤_}
 use native.Mathlib.Omega.{arith}
 use mathlib.Core.Path.{_≡_, refl, sym, _∙_}
-use mathlib.Core.List.{List, [], _∷_, _++_}
+use mathlib.Core.List.{[], _∷_, _++_}
 use lib.ListN.{length}
-use Rattle.theory.specs.Machine.{endBy, sumBy}
+use Rattle.theory.specs.Machine.{endBy}
 use Rattle.theory.specs.Choice.{lex}
 use Rattle.theory.proofs.Choice.{lex-same, lex-agree}
-use Rattle.machine.specs.declared.leg.Leg.{Leg}
 use Rattle.choice.specs.Choice.{Choice, targetsOf, viasOf, det, modesOf, detsOf, endFrom, lengthFrom, keyOf, before}
 use Rattle.choice.specs.OneVia.{OneVia, viaOf, firstDet, oneViaKey}
 

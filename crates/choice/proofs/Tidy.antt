@@ -1,16 +1,15 @@
 -- A choice with an empty leg, or whose via is an end or repeated, comes after one without it, which is clear too.
-use Prim.Native.Nat.{ℕ, zero, suc, _+_, _<_, _≤_}
+use Prim.Native.Nat.{ℕ, _+_, _<_, _≤_}
 use native.Mathlib.Omega.{arith}
 use mathlib.Core.Path.{_≡_, refl, sym, ap, _∙_}
 use mathlib.Core.Logic.{_⊎_, inl, inr, ⊎-elim}
-use mathlib.Core.Bool.{Bool, true, false, _&&_}
-use mathlib.Core.List.{List, [], _∷_, _++_}
+use mathlib.Core.Bool.{Bool, true}
+use mathlib.Core.List.{[], _∷_}
 use lib.ListN.{length}
 use lib.Dec.{eqb}
 use borrow.Author.Tests.{eqb-true, eqb-false}
 use Rattle.theory.specs.Machine.{endBy, sumBy}
 use Rattle.theory.specs.Clear.{clearBy}
-use Rattle.theory.specs.Choice.{lex}
 use Rattle.theory.proofs.Bools.{and-true}
 use Rattle.theory.proofs.Cases.{test}
 use Rattle.theory.proofs.Choice.{lex-less, lex-least}
@@ -18,7 +17,7 @@ use Rattle.machine.specs.declared.leg.Leg.{Leg}
 use Rattle.machine.specs.declared.leg.Mode.{Mode}
 use Rattle.machine.specs.declared.leg.Mode.the-variants.{Adaptive, Deterministic}
 use Rattle.machine.specs.Torus.{leg}
-use Rattle.choice.specs.Choice.{Choice, targetsOf, viasOf, det, modesOf, detsOf, endFrom, lengthFrom, keyOf, before, Below, Misses, Different, Admits}
+use Rattle.choice.specs.Choice.{Choice, targetsOf, viasOf, modesOf, detsOf, endFrom, lengthFrom, keyOf, before, Below, Misses, Different, Admits}
 use Rattle.choice.specs.Further.{clearChoice}
 use Rattle.choice.proofs.Lists.{vias-legs, below-vias}
 use Rattle.choice.proofs.Keys.{fewer-before}

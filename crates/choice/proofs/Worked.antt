@@ -1,6 +1,5 @@
 -- The worked lines hold; and the theorem on planning a pair speaks of machine W.
-use mathlib.Core.Path.{_≡_, refl}
-use mathlib.Core.List.{List, [], _∷_}
+use mathlib.Core.Path.{refl}
 use Rattle.theory.specs.Machine.{endBy, sumBy}
 use Rattle.theory.specs.Clear.{every, clearBy, clearIn, clear}
 use Rattle.theory.specs.Choice.{lex, earlier, best}

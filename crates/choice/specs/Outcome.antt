@@ -4,7 +4,7 @@ use mathlib.Core.List.{[], _∷_}
 use Rattle.shape.specs.declared.shape.Shape.{Shape}
 use Rattle.packet.specs.declared.route.Route.{Route}
 use Rattle.choice.specs.declared.outcome.Outcome.{Outcome}
-use Rattle.choice.specs.Choice.{Choice, lengthOf}
+use Rattle.choice.specs.Choice.{lengthOf}
 use Rattle.choice.specs.Answer.{Answer, Given, Refused}
 
 -- Lists of no legs, or of over two, are never admitted and read as a refusal with the number 0.

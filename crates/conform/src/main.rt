@@ -1,5 +1,9 @@
 // Answers each line of the standard input, a test case, by a line of the standard output: the case and what the planner answers.
-use case_lines::answer_all;
+mod answer_lines;
+mod lines;
+mod operations;
+
+use answer_lines::answer_all;
 
 const LINE_BYTES: usize = 131072;
 

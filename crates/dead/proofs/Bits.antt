@@ -55,32 +55,34 @@ set-bit (b ∷ bs) (suc d) h =
     rw (halves (bitOf b + 2 * valueOf bs) d, above b (valueOf bs))
     (set-next (odd (valueOf bs / 2 ^ d)) (bitOf b) (valueOf bs) (2 ^ d) (2 ^ suc d) (double d) ∙ ap (λ (x : ℕ). bitOf b + 2 * x) (set-bit bs d (omega arith)))
 
+-- The six numbers of directions, one by one.
+by-six : (P : ℕ → Type 0) → P 0 → P 1 → P 2 → P 3 → P 4 → P 5 → (d : ℕ) → d ≤ 5 → P d
+by-six P a b c d e f zero h = a
+by-six P a b c d e f (suc zero) h = b
+by-six P a b c d e f (suc (suc zero)) h = c
+by-six P a b c d e f (suc (suc (suc zero))) h = d
+by-six P a b c d e f (suc (suc (suc (suc zero)))) h = e
+by-six P a b c d e f (suc (suc (suc (suc (suc zero))))) h = f
+by-six P a b c d e f (suc (suc (suc (suc (suc (suc n)))))) h = absurd (omega arith)
+
 module _ (f : ℕ → Bool) where
   six : List Bool
   six = f 0 ∷ f 1 ∷ f 2 ∷ f 3 ∷ f 4 ∷ f 5 ∷ []
 
   pub bits-set : (d : ℕ) → d ≤ 5 → withBit (bits f) d ≡ bits (λ e. f e || eqb e d)
   unfolding bits six
-  bits-set zero h = set-bit six 0 (lit≤ tt) ∙ rw (or-on (f 0), or-off (f 1), or-off (f 2), or-off (f 3), or-off (f 4), or-off (f 5))
-  bits-set (suc zero) h = set-bit six 1 (lit≤ tt) ∙ rw (or-off (f 0), or-on (f 1), or-off (f 2), or-off (f 3), or-off (f 4), or-off (f 5))
-  bits-set (suc (suc zero)) h = set-bit six 2 (lit≤ tt) ∙ rw (or-off (f 0), or-off (f 1), or-on (f 2), or-off (f 3), or-off (f 4), or-off (f 5))
-  bits-set (suc (suc (suc zero))) h = set-bit six 3 (lit≤ tt) ∙ rw (or-off (f 0), or-off (f 1), or-off (f 2), or-on (f 3), or-off (f 4), or-off (f 5))
-  bits-set (suc (suc (suc (suc zero)))) h = set-bit six 4 (lit≤ tt) ∙ rw (or-off (f 0), or-off (f 1), or-off (f 2), or-off (f 3), or-on (f 4), or-off (f 5))
-  bits-set (suc (suc (suc (suc (suc zero))))) h = set-bit six 5 (lit≤ tt) ∙ rw (or-off (f 0), or-off (f 1), or-off (f 2), or-off (f 3), or-off (f 4), or-on (f 5))
-  bits-set (suc (suc (suc (suc (suc (suc d)))))) h = absurd (omega arith)
+  bits-set =
+      by-six (λ d. withBit (valueOf six) d ≡ bits (λ e. f e || eqb e d))
+      (set-bit six 0 (lit≤ tt) ∙ rw (or-on (f 0), or-off (f 1), or-off (f 2), or-off (f 3), or-off (f 4), or-off (f 5)))
+      (set-bit six 1 (lit≤ tt) ∙ rw (or-off (f 0), or-on (f 1), or-off (f 2), or-off (f 3), or-off (f 4), or-off (f 5)))
+      (set-bit six 2 (lit≤ tt) ∙ rw (or-off (f 0), or-off (f 1), or-on (f 2), or-off (f 3), or-off (f 4), or-off (f 5)))
+      (set-bit six 3 (lit≤ tt) ∙ rw (or-off (f 0), or-off (f 1), or-off (f 2), or-on (f 3), or-off (f 4), or-off (f 5)))
+      (set-bit six 4 (lit≤ tt) ∙ rw (or-off (f 0), or-off (f 1), or-off (f 2), or-off (f 3), or-on (f 4), or-off (f 5)))
+      (set-bit six 5 (lit≤ tt) ∙ rw (or-off (f 0), or-off (f 1), or-off (f 2), or-off (f 3), or-off (f 4), or-on (f 5)))
 
   pub bits-at : (d : ℕ) → d ≤ 5 → odd (bits f / 2 ^ d) ≡ f d
   unfolding bits six
-  bits-at d h = bit-of-value six d ∙ at d h
-    where
-      at : (d : ℕ) → d ≤ 5 → getD six d false ≡ f d
-      at zero h = refl
-      at (suc zero) h = refl
-      at (suc (suc zero)) h = refl
-      at (suc (suc (suc zero))) h = refl
-      at (suc (suc (suc (suc zero)))) h = refl
-      at (suc (suc (suc (suc (suc zero))))) h = refl
-      at (suc (suc (suc (suc (suc (suc d)))))) h = absurd (omega arith)
+  bits-at d h = bit-of-value six d ∙ by-six (λ d. getD six d false ≡ f d) refl refl refl refl refl refl d h
 
 pub bits-same : (f g : ℕ → Bool) → ((d : ℕ) → d ≤ 5 → f d ≡ g d) → bits f ≡ bits g
 unfolding bits
@@ -96,23 +98,26 @@ within v p h f = test (odd (v / p)) (λ e. rw e h) (λ e. rw e (f (eqb-false (v 
 
 pub with-small : (v d : ℕ) → v < 64 → d ≤ 5 → withBit v d < 64
 unfolding withBit
-with-small v zero h k = within v 1 h (λ n. omega arith)
-with-small v (suc zero) h k = within v 2 h (λ n. omega arith)
-with-small v (suc (suc zero)) h k = within v 4 h (λ n. omega arith)
-with-small v (suc (suc (suc zero))) h k = within v 8 h (λ n. omega arith)
-with-small v (suc (suc (suc (suc zero)))) h k = within v 16 h (λ n. omega arith)
-with-small v (suc (suc (suc (suc (suc zero))))) h k = within v 32 h (λ n. omega arith)
-with-small v (suc (suc (suc (suc (suc (suc d)))))) h k = absurd (omega arith)
+with-small v d h =
+    by-six (λ d. withBit v d < 64)
+    (within v 1 h (λ n. omega arith))
+    (within v 2 h (λ n. omega arith))
+    (within v 4 h (λ n. omega arith))
+    (within v 8 h (λ n. omega arith))
+    (within v 16 h (λ n. omega arith))
+    (within v 32 h (λ n. omega arith))
+    d
 
 -- The code's table of powers, and its test.
 pub power : (d : ℕ) → d ≤ 5 → let p = getD {A = ℕ} (1 ∷ 2 ∷ 4 ∷ 8 ∷ 16 ∷ 32 ∷ []) d 0 in (p ≡ 2 ^ d) × (0 < p) × (p ≤ 32)
-power zero h = (refl, lit≤ tt, lit≤ tt)
-power (suc zero) h = (refl, lit≤ tt, lit≤ tt)
-power (suc (suc zero)) h = (refl, lit≤ tt, lit≤ tt)
-power (suc (suc (suc zero))) h = (refl, lit≤ tt, lit≤ tt)
-power (suc (suc (suc (suc zero)))) h = (refl, lit≤ tt, lit≤ tt)
-power (suc (suc (suc (suc (suc zero))))) h = (refl, lit≤ tt, lit≤ tt)
-power (suc (suc (suc (suc (suc (suc d)))))) h = absurd (omega arith)
+power =
+    by-six (λ d. let p = getD {A = ℕ} (1 ∷ 2 ∷ 4 ∷ 8 ∷ 16 ∷ 32 ∷ []) d 0 in (p ≡ 2 ^ d) × (0 < p) × (p ≤ 32))
+    (refl, lit≤ tt, lit≤ tt)
+    (refl, lit≤ tt, lit≤ tt)
+    (refl, lit≤ tt, lit≤ tt)
+    (refl, lit≤ tt, lit≤ tt)
+    (refl, lit≤ tt, lit≤ tt)
+    (refl, lit≤ tt, lit≤ tt)
 
 module _ (v d b : ℕ) (e : b ≡ 2 ^ d) where
   pub is-set : v / b % 2 ≡ 1 → v ≡ withBit v d

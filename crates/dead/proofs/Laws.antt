@@ -10,12 +10,13 @@ use Rattle.theory.proofs.Bools.{eqb-same}
 use Rattle.shape.specs.declared.shape.Shape.{Shape}
 use Rattle.machine.specs.Hop.{link, neighbour, opposite}
 use Rattle.machine.proofs.Nodes.{Node}
+use Rattle.machine.proofs.Directions.{opposite-twice}
 use Rattle.machine.proofs.Laws.{link-back, neighbour-back}
 use Rattle.plan.specs.declared.layout.Fault.{Fault}
 use Rattle.plan.specs.Kinds.{kindDir}
 use Rattle.dead.specs.Dead.{some, namesNode, namesLink, names, deadNode, deadLink, sound}
 use Rattle.dead.proofs.Bools.{left-true, right-true, both-true, either-of}
-use Rattle.dead.proofs.Links.{opposite-low, opposite-twice, link-low, kind-low}
+use Rattle.dead.proofs.Links.{opposite-low, link-low, kind-low}
 
 -- ---- some fault of a list
 some-same : (a b : Fault → Bool) (fs : List Fault) → ((f : Fault) → a f ≡ b f) → some a fs ≡ some b fs

@@ -14,6 +14,7 @@ use Rattle.shape.specs.declared.shape.Dim.the-variants.{X, Y, Z}
 use Rattle.machine.specs.Hop.{plusDir, link, neighbour, opposite}
 use Rattle.machine.specs.Node.{isNode}
 use Rattle.machine.proofs.Nodes.{Node, node-of}
+use Rattle.machine.proofs.Directions.{opposite-is, opposite-twice}
 use Rattle.machine.proofs.Laws.{link-back, neighbour-back}
 use Rattle.plan.specs.declared.layout.Fault.{Fault}
 use Rattle.plan.specs.Kinds.{linkKind, nodeKind, kindDim, kindDir}
@@ -23,24 +24,7 @@ use Rattle.dead.proofs.Bools.{or-off, either-of, left-true, right-true,
 
 -- ---- directions
 pub opposite-low : (d : ℕ) → d ≤ 5 → opposite d ≤ 5
-unfolding opposite
-opposite-low zero h = lit≤ tt
-opposite-low (suc zero) h = lit≤ tt
-opposite-low (suc (suc zero)) h = lit≤ tt
-opposite-low (suc (suc (suc zero))) h = lit≤ tt
-opposite-low (suc (suc (suc (suc zero)))) h = lit≤ tt
-opposite-low (suc (suc (suc (suc (suc zero))))) h = lit≤ tt
-opposite-low (suc (suc (suc (suc (suc (suc d)))))) h = absurd (omega arith)
-
-pub opposite-twice : (d : ℕ) → d ≤ 5 → opposite (opposite d) ≡ d
-unfolding opposite
-opposite-twice zero h = refl
-opposite-twice (suc zero) h = refl
-opposite-twice (suc (suc zero)) h = refl
-opposite-twice (suc (suc (suc zero))) h = refl
-opposite-twice (suc (suc (suc (suc zero)))) h = refl
-opposite-twice (suc (suc (suc (suc (suc zero))))) h = refl
-opposite-twice (suc (suc (suc (suc (suc (suc d)))))) h = absurd (omega arith)
+opposite-low d h = opposite-is d h .low
 
 pub link-low : (s : Shape) (n d : ℕ) → link s n d ≡ true → d ≤ 5
 unfolding link

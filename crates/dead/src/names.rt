@@ -4,7 +4,6 @@ use logic::either;
 use plan::Fault;
 use plan::kinds;
 ghost use mathlib.Core.Path.{_≡_};
-ghost use Prim.Native.Nat.{_≤_};
 ghost use Rattle.machine.specs.Hop.{opposite};
 ghost use Rattle.dead.specs.Dead.{namesNode, namesLink, names};
 

@@ -1,4 +1,4 @@
-// What a board's program in C or Rust links: the proved calls, with numbers in place of enums. board/nafthurm.h says what each takes and gives.
+// What a board's program in C or Rust links: the proved calls, with numbers in place of enums. library/nafthurm.h says what each takes and gives.
 mod forms;
 mod listings;
 mod packets;

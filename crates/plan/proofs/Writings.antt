@@ -14,7 +14,6 @@ use Rattle.sheet.proofs.Records.{word-of, from-length, from-at}
 use Rattle.sheet.proofs.Forms.{records-length, records-read}
 use Rattle.sheet.specs.Output.{roomError}
 use Rattle.sheet.proofs.Outputs.{unread}
-use Rattle.plan.specs.declared.layout.Fault.{Fault}
 use Rattle.plan.specs.declared.reading.Plan.{Plan}
 use Rattle.plan.specs.Layout.{layoutOf, layoutIn, planVersion, faultForm, shapeOf, faultCount, faultAt, faultsOf}
 use Rattle.plan.specs.Checks.{Limits, mostFaults, Rules, planErrorBy}

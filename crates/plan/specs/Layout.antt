@@ -1,5 +1,5 @@
 -- 'Plan sheet': where its parts stand, by the version. Byte 0 is the version and bytes 1-2 the length of what follows, as in every sheet.
-use Prim.Native.Nat.{ℕ, _+_, _*_, _-_}
+use Prim.Native.Nat.{ℕ, _+_, _-_}
 use mathlib.Core.Bool.{Bool}
 use mathlib.Core.List.{List, [], _∷_}
 use lib.Dec.{eqb}

@@ -3,14 +3,14 @@ use Prim.Native.Nat.{ℕ, zero, suc}
 use mathlib.Core.Bool.{Bool, cond}
 use mathlib.Core.List.{List}
 use lib.ListN.{replicate}
-use lib.Dec.{ltb, eqb}
+use lib.Dec.{eqb}
 use Rattle.sheet.specs.Bytes.{arrayOf}
 use Rattle.shape.specs.declared.shape.Shape.{Shape}
 use Rattle.plan.specs.declared.layout.Fault.{Fault}
 use Rattle.plan.specs.declared.reading.Plan.{Plan}
 use Rattle.plan.specs.declared.reading.Answer.the-variants.{Accepted, Refused}
 use Rattle.plan.specs.declared.reading.Reading.{Reading}
-use Rattle.plan.specs.Layout.{shapeOf, faultCount, faultAt, faultsOf}
+use Rattle.plan.specs.Layout.{shapeOf, faultCount, faultsOf}
 use Rattle.plan.specs.Checks.{Limits, mostFaults, planError}
 
 abbrev pub noShape : Shape
@@ -26,15 +26,9 @@ noPlan = record { shape = noShape; count = 0; faults = replicate mostFaults noFa
 unfoldable pub isPlan : Limits → List ℕ → Bool
 isPlan L s = eqb (planError L s) 0
 
--- Single questions: zeros where a check declines the sheet, and past the faults.
+-- The shape alone: zeros where a check declines the sheet.
 abbrev pub shapeAnswer : Limits → List ℕ → Shape
 shapeAnswer L s = cond (isPlan L s) (shapeOf s) noShape
-
-abbrev pub countAnswer : Limits → List ℕ → ℕ
-countAnswer L s = cond (isPlan L s) (faultCount s) 0
-
-abbrev pub faultAnswer : Limits → List ℕ → ℕ → Fault
-faultAnswer L s i = cond (ltb i (countAnswer L s)) (faultAt s i) noFault
 
 -- The faults as an array of 256, with zeros past them.
 unfoldable pub faultArray : List ℕ → List Fault

@@ -26,8 +26,8 @@ use sheet::head::length_is;
 use sheet::head::version_in;
 ghost use mathlib.Core.Path.{_≡_};
 ghost use Prim.Native.Nat.{_<_};
-ghost use Rattle.plan.specs.Layout.{layoutIn, layoutOf, faultsOf};
-ghost use Rattle.plan.specs.Checks.{large, torusPlans, faultGood, faultExists, faultKey, faultsError, planError, planErrorBy};
+ghost use Rattle.plan.specs.Layout.{layoutIn, faultsOf};
+ghost use Rattle.plan.specs.Checks.{large, torusPlans, faultGood, faultExists, faultKey, faultsError, planError};
 ghost use Rattle.plan.specs.Steps.{headError};
 
 // Checks 1 to 4.

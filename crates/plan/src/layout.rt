@@ -4,7 +4,7 @@ use sheet::byte_at;
 use sheet::word_at;
 ghost use mathlib.Core.Path.{_≡_};
 ghost use Prim.Native.Nat.{_+_, _*_, _-_};
-ghost use Rattle.plan.specs.Layout.{layoutIn, layoutOf, planVersion, shapeOf, faultCount, sizeAfter, faultAt};
+ghost use Rattle.plan.specs.Layout.{layoutOf, planVersion, shapeOf, faultCount, sizeAfter, faultAt};
 
 pub struct Fault {
     pub node: u16,

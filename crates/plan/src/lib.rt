@@ -11,8 +11,6 @@ pub use layout::Fault;
 pub use reading::Answer;
 pub use reading::Plan;
 pub use reading::Reading;
-pub use reading::fault_at;
-pub use reading::fault_count;
 pub use reading::read;
 pub use reading::shape_of;
 pub use writing::write;

@@ -1,4 +1,4 @@
-// Reading a plan sheet: an accepted sheet as a value, or the number; and single questions, answered with zeros where a check declines the sheet.
+// Reading a plan sheet: an accepted sheet as a value, or the number; and its shape alone, zeros where a check declines the sheet.
 use crate::checks::check;
 use crate::layout::Fault;
 use crate::layout::count_in;
@@ -7,7 +7,7 @@ use crate::layout::shape_in;
 use shape::Shape;
 ghost use mathlib.Core.Path.{_≡_};
 ghost use Rattle.plan.specs.Checks.{large, planError};
-ghost use Rattle.plan.specs.Reading.{shapeAnswer, countAnswer, faultAnswer, faultArray, reading};
+ghost use Rattle.plan.specs.Reading.{shapeAnswer, faultArray, reading};
 
 // The faults are the first `count` of the array.
 pub struct Plan {
@@ -38,27 +38,6 @@ pub fn shape_of(sheet: &[u8]) -> Shape
             z: 0,
             wrap: 0,
         }
-    }
-}
-
-pub fn fault_count(sheet: &[u8]) -> u16
-    ensures { λ r. ⌜ r ≡ countAnswer large (now (sheet .entry)) ⌝ }
-{
-    if check(sheet) == 0 {
-        count_in(sheet)
-    } else {
-        0
-    }
-}
-
-// Fault number i, from 0; zeros past the count.
-pub fn fault_at(sheet: &[u8], i: u16) -> Fault
-    ensures { λ r. ⌜ r ≡ faultAnswer large (now (sheet .entry)) i ⌝ }
-{
-    if i < fault_count(sheet) {
-        fault_in(sheet, i)
-    } else {
-        Fault { node: 0, kind: 0 }
     }
 }
 

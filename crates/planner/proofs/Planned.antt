@@ -6,7 +6,7 @@ use mathlib.Core.Logic.{⊎-elim}
 use mathlib.Core.Bool.{Bool, true, false}
 use mathlib.Core.List.{List, [], _∷_, _++_, List·Memᴰ, List·Memᴰ·append-cases, Memᴰ·append-left, Memᴰ·append-right}
 use mathlib.Core.Option.{Option, none, some}
-use lib.ListN.{length, getD}
+use lib.ListN.{getD}
 use borrow.Author.Tests.{eq-eqb, lt-ltb, le-ltb}
 use Rattle.theory.specs.Machine.{endBy, sumBy}
 use Rattle.theory.specs.Clear.{clear}
@@ -32,12 +32,12 @@ use Rattle.choice.specs.Outcome.{told}
 use Rattle.choice.specs.Pair.{routeBy, chosen}
 use Rattle.choice.proofs.Keys.{before-order}
 use Rattle.choice.proofs.Listed.{over-has, has-over}
-use Rattle.choice.proofs.Further.{alone-has, has-alone, Followed, followed-has, has-followed, better-is}
+use Rattle.choice.proofs.Further.{alone-has, has-alone, followed-has, has-followed, better-is}
 use Rattle.choice.proofs.AtTorus.{route-first, no-via-first}
 use Rattle.planner.specs.Least.{least}
 use Rattle.planner.specs.KeyNumber.{lengthPlace, detsPlace, viasPlace, nodePlace, keyNumber, unclear, legPart, firstPart, viaNumber, numberAt, decoded, outcomeIn}
-use Rattle.planner.proofs.Leasts.{ReachedAt, least-first, least-each, least-one}
-use Rattle.planner.proofs.Order.{Low, low-places, before-number}
+use Rattle.planner.proofs.Leasts.{least-first, least-each, least-one}
+use Rattle.planner.proofs.Order.{low-places, before-number}
 use Rattle.planner.proofs.Cells.{Adds, cell-part}
 use Rattle.planner.proofs.Decoded.{decoded-none, decoded-number}
 

@@ -11,7 +11,6 @@ use Rattle.numbers.specs.Numbers.{nodeOutside, deadEnd, noClearChoice}
 use Rattle.theory.specs.Checks.{declined, _then_}
 use Rattle.theory.proofs.Cases.{test, by-order}
 use Rattle.sheet.specs.Output.{roomError, outAfter}
-use Rattle.shape.specs.declared.shape.Shape.{Shape}
 use Rattle.machine.specs.declared.leg.Mode.{Mode}
 use Rattle.machine.specs.declared.leg.Mode.the-variants.{Adaptive, Deterministic}
 use Rattle.machine.specs.Number.{nodeCount}
@@ -23,7 +22,7 @@ use Rattle.plan.specs.Layout.{shapeOf, faultsOf}
 use Rattle.plan.specs.Checks.{Limits, planError}
 use Rattle.dead.specs.Dead.{deadNode}
 use Rattle.dead.proofs.Table.{is-node}
-use Rattle.choice.specs.Choice.{Choice, AdmitsIn, det}
+use Rattle.choice.specs.Choice.{Choice, AdmitsIn}
 use Rattle.choice.specs.Answer.{Answer, Given, Refused, answered}
 use Rattle.choice.specs.Pair.{soundIn, routeIn, pairError, chosen, pair}
 use Rattle.choice.proofs.AtTorus.{empty-adaptive, direct-first}

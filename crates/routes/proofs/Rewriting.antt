@@ -1,9 +1,9 @@
 -- What is read from an accepted sheet: routes that fit, have zeros past their entries, and are written as the same bytes.
-use Prim.Native.Nat.{ℕ, _+_, _*_, _<_}
+use Prim.Native.Nat.{ℕ, _+_, _*_}
 use native.Mathlib.Omega.{arith}
-use mathlib.Core.Path.{_≡_, refl, sym, ap, _∙_}
-use mathlib.Core.List.{List, [], _∷_, _++_}
-use lib.ListN.{length, take}
+use mathlib.Core.Path.{_≡_, sym, ap, _∙_}
+use mathlib.Core.List.{List, _∷_, _++_}
+use lib.ListN.{take}
 use Rattle.sheet.specs.Bytes.{byte, AreBytes, upperByte, lowerByte, wordBytes, listFrom}
 use Rattle.sheet.specs.Head.{version}
 use Rattle.sheet.proofs.Records.{word-below, from-length, array-first, array-from, front}

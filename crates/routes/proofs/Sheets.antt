@@ -10,7 +10,7 @@ use borrow.Author.Tests.{leb-true, eqb-true, ne-eqb, not-false}
 use Rattle.theory.specs.Checks.{declined, _then_}
 use Rattle.theory.proofs.Checks.{then-zero, declined-zero}
 use Rattle.theory.proofs.Bools.{and-true}
-use Rattle.sheet.specs.Head.{version, lengthField, lengthIs}
+use Rattle.sheet.specs.Head.{version, lengthField}
 use Rattle.sheet.proofs.Heads.{length-field, length-sheet}
 use Rattle.plan.specs.Layout.{shapeOf}
 use Rattle.plan.specs.Checks.{Limits, planError}

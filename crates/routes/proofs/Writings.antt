@@ -1,10 +1,10 @@
 -- Reading what was written: the sheet of a source and a list of entries.
 use Prim.Native.Nat.{ℕ, _+_, _*_, _≤_, _<_}
 use native.Mathlib.Omega.{arith}
-use mathlib.Core.Path.{_≡_, refl, sym, ap, _∙_}
+use mathlib.Core.Path.{_≡_, refl, ap, _∙_}
 use mathlib.Core.Bool.{true}
 use mathlib.Core.List.{List, _++_}
-use lib.ListN.{length, getD, take, length-append}
+use lib.ListN.{length, getD, take}
 use borrow.Author.Tests.{le-leb, eq-eqb}
 use Rattle.sheet.specs.Bytes.{listFrom}
 use Rattle.sheet.specs.Head.{version, lengthIs}
@@ -15,7 +15,7 @@ use Rattle.sheet.proofs.Forms.{records-length, record-read}
 use Rattle.shape.specs.declared.shape.Shape.{Shape}
 use Rattle.routes.specs.declared.layout.Entry.{Entry}
 use Rattle.routes.specs.declared.reading.Routes.{Routes}
-use Rattle.routes.specs.Layout.{Format, formatOf, formatBy, written, source, entryCount, entriesAt, entryForm, entryAt, entriesOf, sizeAfter, noEntry, mostEntries}
+use Rattle.routes.specs.Layout.{formatOf, formatBy, written, source, entryCount, entriesAt, entryForm, entryAt, entriesOf, sizeAfter, noEntry, mostEntries}
 use Rattle.routes.specs.Checks.{headGood, routesGood, sheetGood}
 use Rattle.routes.specs.Reading.{entryArray, routesOf}
 use Rattle.routes.specs.Writing.{headBytes, sheetBytes, routeEntries, sheetOf}

@@ -19,7 +19,7 @@ pub record Format : Type 0 where
 abbrev pub first : Format
 first = record { version = 1; vias = 1; viaKind = viaKind; plainKind = plainKind }
 
--- The format in which a sheet is read, by its byte 0. A version that is not read is none's own.
+-- The format in which a sheet is read, by its byte 0. Check 13 declines a sheet whose version is not its format's own.
 unfoldable pub formatBy : ℕ → Format
 formatBy v = first
 

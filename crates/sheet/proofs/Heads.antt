@@ -1,14 +1,14 @@
 -- What the first three bytes of a sheet say, as written and as read.
-use Prim.Native.Nat.{ℕ, _+_, _*_, _-_, _≤_, _<_}
+use Prim.Native.Nat.{ℕ, _+_, _-_, _≤_, _<_}
 use native.Mathlib.Omega.{arith}
-use mathlib.Core.Path.{_≡_, refl, sym, ap, _∙_}
+use mathlib.Core.Path.{_≡_, refl, ap, _∙_}
 use mathlib.Core.Bool.{true}
 use mathlib.Core.List.{List, [], _∷_, _++_}
 use lib.ListN.{length}
 use lib.Dec.{eqb}
 use borrow.Author.Tests.{eq-eqb, eqb-true}
 use Rattle.theory.proofs.Bools.{and-true}
-use Rattle.sheet.specs.Bytes.{byte, word, AreBytes, upperByte, lowerByte, wordBytes}
+use Rattle.sheet.specs.Bytes.{byte, word, AreBytes, wordBytes}
 use Rattle.sheet.specs.Head.{version, lengthField, bytesAfter, lengthIs, frontBytes}
 use Rattle.sheet.proofs.Records.{word-of, upper-of, lower-of}
 

@@ -15,6 +15,12 @@ pub fn front(s: &[u8], n: usize) -> &[u8]
     &s[..end]
 }
 
+// The same of bytes that are lent to be written.
+pub fn front_mut(s: &mut [u8], n: usize) -> &mut [u8] {
+    let end = least(n, s.len());
+    &mut s[..end]
+}
+
 // The bytes from `start` up to, not including, `end`, as far as there are such bytes.
 pub fn part(s: &[u8], start: usize, end: usize) -> &[u8]
     ensures { λ r. ⌜ now r ≡ take (end - start) (drop start (now (s .entry))) ⌝ }

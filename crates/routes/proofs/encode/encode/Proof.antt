@@ -1,6 +1,6 @@
 use Prim.Native.Nat.{_-_, _≤_}
 use native.Mathlib.Omega.{arith}
-use mathlib.Core.Path.{_≡_, refl, ap, _∙_}
+use mathlib.Core.Path.{refl, ap, _∙_}
 use lib.ListN.{length, getD}
 use Rattle.sheet.proofs.Encoding.{begin, ended}
 use Rattle.routes.specs.Layout.{written, entriesAt, entryForm, noEntry, mostEntries}

@@ -1,0 +1,181 @@
+/*
+ * Nafthurm for a board's program: plan and route sheets, planned routes, packets, steps and walks.
+ *
+ * Link libnafthurm.a (`rt staticlib nafthurm` writes target/staticlib/libnafthurm.a; x86-64 Linux). It needs nothing but memcpy and memset.
+ *
+ * Every call is proved to meet its contract in crates/nafthurm/src, which is the definition of the call that it stands for: it ends, never reaches
+ * outside the bytes that it is lent, and takes any bytes and any numbers. Nothing has to be tested before a call. What the proof takes for granted,
+ * since C cannot be asked, is that
+ *   - a pointer and the size behind it name that many bytes that may be read (and written where it is not const); no pointer is null, also where the
+ *     size is 0;
+ *   - the bytes lent as output overlap none of the others, and nobody alters lent bytes during a call.
+ * Nothing is allocated, no state is kept between calls and no pointer is kept after one: calls may run at the same time in several threads.
+ * A call uses at most NAFTHURM_STACK bytes of stack; nafthurm_pair NAFTHURM_STACK_PAIR, nafthurm_write_sheet NAFTHURM_STACK_SHEET and
+ * nafthurm_listing NAFTHURM_STACK_LISTING.
+ *
+ * A field or result `number` is 0, or the number of a refusal, 1 to 15: docs/NUMBERS.md. A call that is refused writes no lent byte.
+ *
+ * Directions are 0 X+, 1 X-, 2 Y+, 3 Y-, 4 Z+, 5 Z-. Kinds of routes, as in a route sheet and in the listing:
+ *   0 direct adaptive, 1 direct deterministic, and by a via 2 both legs adaptive, 3 adaptive then deterministic, 4 deterministic then adaptive,
+ *   5 both deterministic.
+ */
+#ifndef NAFTHURM_H
+#define NAFTHURM_H
+
+#include <stdbool.h>
+#include <stddef.h>
+#include <stdint.h>
+
+#ifdef __cplusplus
+extern "C" {
+#endif
+
+/* The largest plan sheet has 256 faults, the largest route sheet 4,095 entries. An output of as many bytes as the largest is never refused with 12. */
+#define NAFTHURM_PLAN_BYTES 777
+#define NAFTHURM_SHEET_BYTES 20482
+#define NAFTHURM_LISTING_BYTES 61454
+
+/* Bytes of stack, held to by library/tests/test.c. */
+#define NAFTHURM_STACK 1024
+#define NAFTHURM_STACK_PAIR 32768
+#define NAFTHURM_STACK_SHEET 131072
+#define NAFTHURM_STACK_LISTING 131072
+
+/* Extents of the dimensions X, Y, Z, each 1 to 16; wrap has bits 0, 1, 2 for X, Y, Z. */
+typedef struct {
+    uint8_t x, y, z;
+    uint8_t wrap;
+} nafthurm_shape;
+
+/* What writing gives: the bytes written, or the number, with size 0. */
+typedef struct {
+    uint8_t number;
+    size_t size;
+} nafthurm_written;
+
+/* A part of a lent sheet: size bytes from byte start on. */
+typedef struct {
+    size_t start;
+    size_t size;
+} nafthurm_part;
+
+/* A route, if number is 0: its kind, 0 to 5, and its via, 0 for kinds 0 and 1. If not, kind is the number once more, and via is 0: read number first. */
+typedef struct {
+    uint8_t number;
+    uint8_t kind;
+    uint16_t via;
+} nafthurm_route;
+
+/* A planned route and its length in hops, 0 where it is refused. */
+typedef struct {
+    nafthurm_route route;
+    uint16_t length;
+} nafthurm_planned;
+
+/* mode: 0 adaptive, any other byte deterministic. */
+typedef struct {
+    uint16_t target;
+    uint8_t mode;
+} nafthurm_leg;
+
+/*
+ * A packet: its present node and the legs left, which are the last `left` of the array, in the order in which they are gone: with left 1 that is legs[1].
+ * With left 0 it has arrived. A board may store and send it as it likes; no other byte of it counts. Steps and walks change node and left only.
+ */
+typedef struct {
+    uint16_t node;
+    nafthurm_leg legs[2];
+    uint8_t left;
+} nafthurm_packet;
+
+/* The packet after one hop, or as it was lent, with 5, 6, 14 or 15. */
+typedef struct {
+    nafthurm_packet packet;
+    uint8_t number;
+} nafthurm_stepped;
+
+/* How a walk ended. */
+enum {
+    NAFTHURM_ARRIVED = 0,
+    NAFTHURM_NOT_ALLOWED = 1,
+    NAFTHURM_USED_UP = 2,
+    NAFTHURM_REFUSED = 3
+};
+
+/* The packet after the hops taken, and how many; number is 15 if the ending is NAFTHURM_NOT_ALLOWED, 5, 6 or 14 if it is NAFTHURM_REFUSED, else 0. */
+typedef struct {
+    nafthurm_packet packet;
+    uint8_t number;
+    uint8_t ending;
+    size_t hops;
+} nafthurm_walked;
+
+/* ---- Plan sheets ---- */
+
+/* Checks 1 to 8: the number of the first that declines the sheet, or 0. */
+uint8_t nafthurm_plan_check(const uint8_t *plan, size_t plan_size);
+
+/* Extents and wrap; zeros where a check declines the sheet. */
+nafthurm_shape nafthurm_plan_shape(const uint8_t *plan, size_t plan_size);
+
+/* Whether the node, or the link that leaves the node in the direction, is dead; no where a check declines the sheet or there is none. */
+bool nafthurm_dead_node(const uint8_t *plan, size_t plan_size, uint16_t node);
+bool nafthurm_dead_link(const uint8_t *plan, size_t plan_size, uint16_t node, uint8_t direction);
+
+/* The sheet as it is, into out: checks 1 to 8, then 12. Bytes of out past the sheet are untouched. */
+nafthurm_written nafthurm_plan_write_back(const uint8_t *plan, size_t plan_size, uint8_t *out, size_t out_size);
+
+/* ---- Planning ---- */
+
+/* The route from the source to the destination: checks 1 to 8, then 9, 10, 11. */
+nafthurm_planned nafthurm_pair(const uint8_t *plan, size_t plan_size, uint16_t source, uint16_t destination);
+
+/* The route sheet of every destination from the source, into out: checks 1 to 8, then 9, 10, 12. Bytes of out past the sheet are untouched. */
+nafthurm_written nafthurm_write_sheet(const uint8_t *plan, size_t plan_size, uint16_t source, uint8_t *out, size_t out_size);
+
+/*
+ * The listing of a two-byte source and a plan sheet, as text in lines: source, node count, fault count; then of each node destination, kind, via or `-`,
+ * length or `-`. Where the checks 1 to 8, 9, 10 decline the input, the text is the line `refused` and the number. So the number that this call gives is
+ * 12 or 0. No zero byte ends the text. Bytes of out past it are untouched.
+ */
+nafthurm_written nafthurm_listing(const uint8_t *input, size_t input_size, uint8_t *out, size_t out_size);
+
+/* ---- Route sheets; they answer from the sheet alone and never judge its routes against the plan's faults ---- */
+
+/* Checks 1 to 8 of the plan, then 13 of the sheet: the number of the first that declines, or 0. */
+uint8_t nafthurm_sheet_check(const uint8_t *plan, size_t plan_size, const uint8_t *sheet, size_t sheet_size);
+
+/* The sheet as it is, into out: the same checks, then 12. Bytes of out past the sheet are untouched. */
+nafthurm_written nafthurm_sheet_write_back(const uint8_t *plan, size_t plan_size, const uint8_t *sheet, size_t sheet_size, uint8_t *out, size_t out_size);
+
+/* The five bytes of the destination's entry. Empty, at the sheet's start, if the destination is not listed or the lookup is declined. */
+nafthurm_part nafthurm_lookup(const uint8_t *plan, size_t plan_size, const uint8_t *sheet, size_t sheet_size, uint16_t destination);
+
+/* The destination's route: checks 1 to 8, 13, then 9; 10 or 11 for an entry of that kind. A destination that is not listed is direct and adaptive. */
+nafthurm_route nafthurm_lookup_route(const uint8_t *plan, size_t plan_size, const uint8_t *sheet, size_t sheet_size, uint16_t destination);
+
+/* ---- Packets ---- */
+
+/*
+ * The new packet of a route that nafthurm_pair or nafthurm_lookup_route gave: at the source with all the route's legs left. Of a refused route, or a kind above
+ * 5, a packet with left 255, which every check, step and walk refuses with 14.
+ */
+nafthurm_packet nafthurm_new_packet(uint16_t source, uint16_t destination, nafthurm_route route);
+
+/* Checks 5, 6, then 14: the number of the first that declines, or 0. */
+uint8_t nafthurm_packet_check(nafthurm_shape shape, nafthurm_packet packet);
+
+/* One hop in the direction, if it is allowed: checks 5, 6, 14, then 15. */
+nafthurm_stepped nafthurm_step(nafthurm_shape shape, nafthurm_packet packet, uint8_t direction);
+
+/*
+ * One hop a byte of the directions. It ends with the first that holds: arrived; a direction not allowed; bytes used up. Checks 5, 6, 14 come first.
+ * A walk ending on 15 keeps its earlier hops.
+ */
+nafthurm_walked nafthurm_walk(nafthurm_shape shape, nafthurm_packet packet, const uint8_t *directions, size_t directions_size);
+
+#ifdef __cplusplus
+}
+#endif
+
+#endif

@@ -1,0 +1,184 @@
+//! Nafthurm for a board's program in Rust: plan and route sheets, planned routes, packets, steps and walks. Every call takes any bytes and any
+//! numbers; what each checks, and in which order, stands in library/nafthurm.h, and the numbers of refusals in docs/NUMBERS.md.
+mod raw;
+
+/// The largest plan sheet, of 256 faults.
+pub const PLAN_BYTES: usize = 777;
+/// The largest route sheet, of 4,095 entries: an output of this size is never refused with 12.
+pub const SHEET_BYTES: usize = 20482;
+/// The largest listing, likewise.
+pub const LISTING_BYTES: usize = 61454;
+
+/// The number of a refusal, 1 to 15.
+#[derive(Clone, Copy, Debug, PartialEq, Eq)]
+pub struct Refused(pub u8);
+
+/// Extents of the dimensions, each 1 to 16; `wrap` has bits 0, 1, 2 for X, Y, Z.
+#[repr(C)]
+#[derive(Clone, Copy, Debug, PartialEq, Eq)]
+pub struct Shape {
+    pub x: u8,
+    pub y: u8,
+    pub z: u8,
+    pub wrap: u8,
+}
+
+#[derive(Clone, Copy, Debug, PartialEq, Eq)]
+pub enum Mode {
+    Adaptive,
+    Deterministic,
+}
+
+#[derive(Clone, Copy, Debug, PartialEq, Eq)]
+pub enum Route {
+    Direct(Mode),
+    Via(u16, Mode, Mode),
+}
+
+/// A planned route and its length in hops.
+#[derive(Clone, Copy, Debug, PartialEq, Eq)]
+pub struct Planned {
+    pub route: Route,
+    pub length: u16,
+}
+
+#[derive(Clone, Copy, Debug, PartialEq, Eq)]
+pub struct Leg {
+    pub target: u16,
+    pub mode: Mode,
+}
+
+/// A packet: its present node and the legs left, the last `left` of the array. With none left it has arrived.
+#[derive(Clone, Copy, Debug, PartialEq, Eq)]
+pub struct Packet {
+    pub node: u16,
+    pub legs: [Leg; 2],
+    pub left: u8,
+}
+
+#[derive(Clone, Copy, Debug, PartialEq, Eq)]
+pub enum Ending {
+    Arrived,
+    NotAllowed,
+    UsedUp,
+    Refused(Refused),
+}
+
+/// The packet after the hops taken, how many they are, and how the walk ended.
+#[derive(Clone, Copy, Debug, PartialEq, Eq)]
+pub struct Walked {
+    pub packet: Packet,
+    pub hops: usize,
+    pub ending: Ending,
+}
+
+fn accepted(number: u8) -> Result<(), Refused> {
+    if number == 0 {
+        Ok(())
+    } else {
+        Err(Refused(number))
+    }
+}
+
+// ---- Plan sheets
+
+/// Checks 1 to 8.
+pub fn plan_check(plan: &[u8]) -> Result<(), Refused> {
+    accepted(unsafe { raw::nafthurm_plan_check(plan.as_ptr(), plan.len()) })
+}
+
+/// Extents and wrap; zeros where a check declines the sheet.
+pub fn plan_shape(plan: &[u8]) -> Shape {
+    unsafe { raw::nafthurm_plan_shape(plan.as_ptr(), plan.len()) }
+}
+
+/// No where a check declines the sheet or there is no such node.
+pub fn dead_node(plan: &[u8], node: u16) -> bool {
+    unsafe { raw::nafthurm_dead_node(plan.as_ptr(), plan.len(), node) }
+}
+
+/// No where a check declines the sheet or no link leaves the node in the direction.
+pub fn dead_link(plan: &[u8], node: u16, direction: u8) -> bool {
+    unsafe { raw::nafthurm_dead_link(plan.as_ptr(), plan.len(), node, direction) }
+}
+
+/// The sheet as it is, into `out`: how many bytes are written.
+pub fn plan_write_back(plan: &[u8], out: &mut [u8]) -> Result<usize, Refused> {
+    let written = unsafe { raw::nafthurm_plan_write_back(plan.as_ptr(), plan.len(), out.as_mut_ptr(), out.len()) };
+    accepted(written.number).map(|()| written.size)
+}
+
+// ---- Planning
+
+pub fn pair(plan: &[u8], source: u16, destination: u16) -> Result<Planned, Refused> {
+    let planned = unsafe { raw::nafthurm_pair(plan.as_ptr(), plan.len(), source, destination) };
+    Ok(Planned { route: planned.route.read()?, length: planned.length })
+}
+
+/// The route sheet of every destination, into `out`: how many bytes are written.
+pub fn write_sheet(plan: &[u8], source: u16, out: &mut [u8]) -> Result<usize, Refused> {
+    let written = unsafe { raw::nafthurm_write_sheet(plan.as_ptr(), plan.len(), source, out.as_mut_ptr(), out.len()) };
+    accepted(written.number).map(|()| written.size)
+}
+
+/// The listing of a two-byte source and a plan sheet, as text into `out`: how many bytes are written. An input that is declined gives the line
+/// `refused` and the number, so that the only refusal is 12.
+pub fn listing(input: &[u8], out: &mut [u8]) -> Result<usize, Refused> {
+    let written = unsafe { raw::nafthurm_listing(input.as_ptr(), input.len(), out.as_mut_ptr(), out.len()) };
+    accepted(written.number).map(|()| written.size)
+}
+
+// ---- Route sheets
+
+/// Checks 1 to 8 of the plan, then 13 of the sheet.
+pub fn sheet_check(plan: &[u8], sheet: &[u8]) -> Result<(), Refused> {
+    accepted(unsafe { raw::nafthurm_sheet_check(plan.as_ptr(), plan.len(), sheet.as_ptr(), sheet.len()) })
+}
+
+/// The sheet as it is, into `out`: how many bytes are written.
+pub fn sheet_write_back(plan: &[u8], sheet: &[u8], out: &mut [u8]) -> Result<usize, Refused> {
+    let written = unsafe { raw::nafthurm_sheet_write_back(plan.as_ptr(), plan.len(), sheet.as_ptr(), sheet.len(), out.as_mut_ptr(), out.len()) };
+    accepted(written.number).map(|()| written.size)
+}
+
+/// The very five bytes of the destination's entry; empty, at the sheet's start, if it is not listed or the lookup is declined.
+pub fn lookup<'a>(plan: &[u8], sheet: &'a [u8], destination: u16) -> &'a [u8] {
+    let part = unsafe { raw::nafthurm_lookup(plan.as_ptr(), plan.len(), sheet.as_ptr(), sheet.len(), destination) };
+    &sheet[part.start..part.start + part.size]
+}
+
+pub fn lookup_route(plan: &[u8], sheet: &[u8], destination: u16) -> Result<Route, Refused> {
+    unsafe { raw::nafthurm_lookup_route(plan.as_ptr(), plan.len(), sheet.as_ptr(), sheet.len(), destination) }.read()
+}
+
+// ---- Packets
+
+impl Packet {
+    /// At the source of its route with all the route's legs left.
+    pub fn new(source: u16, destination: u16, route: Route) -> Packet {
+        unsafe { raw::nafthurm_new_packet(source, destination, raw::Route::of(route)) }.read()
+    }
+
+    /// Checks 5, 6, then 14.
+    pub fn check(self, shape: Shape) -> Result<(), Refused> {
+        accepted(unsafe { raw::nafthurm_packet_check(shape, raw::Packet::of(self)) })
+    }
+
+    /// The packet after one hop.
+    pub fn step(self, shape: Shape, direction: u8) -> Result<Packet, Refused> {
+        let stepped = unsafe { raw::nafthurm_step(shape, raw::Packet::of(self), direction) };
+        accepted(stepped.number).map(|()| stepped.packet.read())
+    }
+
+    /// One hop a byte.
+    pub fn walk(self, shape: Shape, directions: &[u8]) -> Walked {
+        let walked = unsafe { raw::nafthurm_walk(shape, raw::Packet::of(self), directions.as_ptr(), directions.len()) };
+        let ending = match walked.ending {
+            0 => Ending::Arrived,
+            1 => Ending::NotAllowed,
+            2 => Ending::UsedUp,
+            _ => Ending::Refused(Refused(walked.number)),
+        };
+        Walked { packet: walked.packet.read(), hops: walked.hops, ending }
+    }
+}

@@ -1,0 +1,119 @@
+//! The calls as C has them: library/nafthurm.h.
+use crate::{Leg, Mode, Refused, Shape};
+
+#[repr(C)]
+pub struct Written {
+    pub number: u8,
+    pub size: usize,
+}
+
+#[repr(C)]
+pub struct Part {
+    pub start: usize,
+    pub size: usize,
+}
+
+#[repr(C)]
+pub struct Route {
+    pub number: u8,
+    pub kind: u8,
+    pub via: u16,
+}
+
+#[repr(C)]
+pub struct Planned {
+    pub route: Route,
+    pub length: u16,
+}
+
+#[repr(C)]
+pub struct RawLeg {
+    pub target: u16,
+    pub mode: u8,
+}
+
+#[repr(C)]
+pub struct Packet {
+    pub node: u16,
+    pub legs: [RawLeg; 2],
+    pub left: u8,
+}
+
+#[repr(C)]
+pub struct Stepped {
+    pub packet: Packet,
+    pub number: u8,
+}
+
+#[repr(C)]
+pub struct Walked {
+    pub packet: Packet,
+    pub number: u8,
+    pub ending: u8,
+    pub hops: usize,
+}
+
+extern "C" {
+    pub fn nafthurm_plan_check(plan: *const u8, plan_size: usize) -> u8;
+    pub fn nafthurm_plan_shape(plan: *const u8, plan_size: usize) -> Shape;
+    pub fn nafthurm_dead_node(plan: *const u8, plan_size: usize, node: u16) -> bool;
+    pub fn nafthurm_dead_link(plan: *const u8, plan_size: usize, node: u16, direction: u8) -> bool;
+    pub fn nafthurm_plan_write_back(plan: *const u8, plan_size: usize, out: *mut u8, out_size: usize) -> Written;
+    pub fn nafthurm_pair(plan: *const u8, plan_size: usize, source: u16, destination: u16) -> Planned;
+    pub fn nafthurm_write_sheet(plan: *const u8, plan_size: usize, source: u16, out: *mut u8, out_size: usize) -> Written;
+    pub fn nafthurm_listing(input: *const u8, input_size: usize, out: *mut u8, out_size: usize) -> Written;
+    pub fn nafthurm_sheet_check(plan: *const u8, plan_size: usize, sheet: *const u8, sheet_size: usize) -> u8;
+    pub fn nafthurm_sheet_write_back(plan: *const u8, plan_size: usize, sheet: *const u8, sheet_size: usize, out: *mut u8, out_size: usize) -> Written;
+    pub fn nafthurm_lookup(plan: *const u8, plan_size: usize, sheet: *const u8, sheet_size: usize, destination: u16) -> Part;
+    pub fn nafthurm_lookup_route(plan: *const u8, plan_size: usize, sheet: *const u8, sheet_size: usize, destination: u16) -> Route;
+    pub fn nafthurm_new_packet(source: u16, destination: u16, route: Route) -> Packet;
+    pub fn nafthurm_packet_check(shape: Shape, packet: Packet) -> u8;
+    pub fn nafthurm_step(shape: Shape, packet: Packet, direction: u8) -> Stepped;
+    pub fn nafthurm_walk(shape: Shape, packet: Packet, directions: *const u8, directions_size: usize) -> Walked;
+}
+
+use Mode::{Adaptive, Deterministic};
+
+impl Route {
+    pub fn of(route: crate::Route) -> Route {
+        let (kind, via) = match route {
+            crate::Route::Direct(Adaptive) => (0, 0),
+            crate::Route::Direct(Deterministic) => (1, 0),
+            crate::Route::Via(via, Adaptive, Adaptive) => (2, via),
+            crate::Route::Via(via, Adaptive, Deterministic) => (3, via),
+            crate::Route::Via(via, Deterministic, Adaptive) => (4, via),
+            crate::Route::Via(via, Deterministic, Deterministic) => (5, via),
+        };
+        Route { number: 0, kind, via }
+    }
+
+    pub fn read(self) -> Result<crate::Route, Refused> {
+        match (self.number, self.kind) {
+            (0, 0) => Ok(crate::Route::Direct(Adaptive)),
+            (0, 1) => Ok(crate::Route::Direct(Deterministic)),
+            (0, 2) => Ok(crate::Route::Via(self.via, Adaptive, Adaptive)),
+            (0, 3) => Ok(crate::Route::Via(self.via, Adaptive, Deterministic)),
+            (0, 4) => Ok(crate::Route::Via(self.via, Deterministic, Adaptive)),
+            (0, 5) => Ok(crate::Route::Via(self.via, Deterministic, Deterministic)),
+            (number, _) => Err(Refused(number)),
+        }
+    }
+}
+
+fn raw_leg(leg: Leg) -> RawLeg {
+    RawLeg { target: leg.target, mode: leg.mode as u8 }
+}
+
+fn leg(raw: RawLeg) -> Leg {
+    Leg { target: raw.target, mode: if raw.mode == 0 { Adaptive } else { Deterministic } }
+}
+
+impl Packet {
+    pub fn of(packet: crate::Packet) -> Packet {
+        Packet { node: packet.node, legs: packet.legs.map(raw_leg), left: packet.left }
+    }
+
+    pub fn read(self) -> crate::Packet {
+        crate::Packet { node: self.node, legs: self.legs.map(leg), left: self.left }
+    }
+}

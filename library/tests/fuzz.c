@@ -1,0 +1,414 @@
+/*
+ * fuzz [--seed N] [--count N] [--lines]
+ *
+ * Hands every call of the library made, damaged and random input, and holds it to what is claimed of every input: no byte outside the lent parts is
+ * touched, a refusal changes nothing and has the number that the model says, an accepted sheet is written back as the same bytes, each hop and walk is
+ * the model's, a planned route is the model's on small plans, and its packet, by whatever hops are allowed, arrives after the length of the route
+ * without crossing a dead link.
+ * --lines prints cases with the library's answers instead, for against-reference.
+ */
+#include "lent.h"
+#include "made.h"
+#include "model.h"
+#include "random_lines.h"
+
+#include <inttypes.h>
+#include <stdio.h>
+#include <stdlib.h>
+#include <string.h>
+
+/* Plans of at most so many nodes are planned by the model too. */
+enum { MODEL_NODES = 64 };
+
+static lent plan, sheet, out, directions;
+static uint64_t inputs, calls, refused, hops_taken, arrivals, longest;
+
+/* What the model says of the lent plan: the number, and the plan where that is 0. */
+static uint8_t plan_refused;
+static model_plan model;
+
+static void lend_plan(void) {
+    lend(&plan, a_plan.at, a_plan.size);
+    plan_refused = plan_number(plan.bytes, plan.size);
+    model = (model_plan){0};
+    if (plan_refused == 0) read_plan(&model, plan.bytes);
+}
+
+static void lend_both(void) {
+    lend_plan();
+    lend(&sheet, a_sheet.at, a_sheet.size);
+    inputs++;
+}
+
+static void lend_out(size_t size) { lend_filled(&out, any_byte(), size); }
+
+static int plan_nodes(void) { return nodes_of(model.shape); }
+
+/* A node of the plan or a number outside it; of a refused plan any number. */
+static uint16_t plan_node(void) { return any_node(plan_nodes() ? plan_nodes() : 16); }
+
+/* A writing call, whose checks but 12 give `number`, of bytes that are known where there is no refusal. */
+static void check_written(nafthurm_written w, uint8_t number, const uint8_t *written, size_t size) {
+    calls++;
+    check_around(&out);
+    if (number == 0 && out.size < size) number = 12;
+    HOLD(w.number == number);
+    if (number != 0) {
+        refused++;
+        HOLD(w.size == 0);
+        check_kept(&out);
+        return;
+    }
+    HOLD(w.size == size);
+    HOLD(memcmp(out.bytes, written, size) == 0);
+    HOLD(memcmp(out.bytes + size, out.copy + size, out.size - size) == 0);
+}
+
+/* ---- Packets ---- */
+
+static nafthurm_stepped step(nafthurm_shape s, nafthurm_packet packet, uint8_t direction) {
+    nafthurm_stepped r = nafthurm_step(s, packet, direction), wanted = model_step(s, packet, direction);
+    calls++;
+    refused += r.number != 0;
+    HOLD(r.number == wanted.number);
+    HOLD(same_packet(r.packet, wanted.packet));
+    return r;
+}
+
+static nafthurm_walked walk(nafthurm_shape s, nafthurm_packet packet, const uint8_t *run, size_t size) {
+    lend(&directions, run, size);
+    nafthurm_walked w = nafthurm_walk(s, packet, directions.bytes, directions.size), wanted = model_walk(s, packet, run, size);
+    calls++;
+    refused += w.number != 0;
+    check_kept(&directions);
+    HOLD(w.number == wanted.number && w.ending == wanted.ending);
+    HOLD(w.hops == wanted.hops);
+    HOLD(same_packet(w.packet, wanted.packet));
+    return w;
+}
+
+static void try_packet(nafthurm_shape s, nafthurm_packet packet) {
+    uint8_t run[RUN_MOST] = {0}, number = packet_number(s, packet);
+    calls++;
+    HOLD(nafthurm_packet_check(s, packet) == number);
+    for (uint8_t d = 0; d < 8; d++) step(s, packet, d < 7 ? d : any_byte());
+    walk(s, packet, run, 0);
+    size_t size = number ? below(RUN_MOST) : made_run(s, packet, run);
+    walk(s, packet, run, size);
+}
+
+static void one_packet(void) {
+    nafthurm_shape s = packet_shape();
+    nafthurm_packet packet = any_packet(s);
+    if (chance(10)) {
+        if (chance(40)) packet = hurt_packet(s, packet);
+        s = hurt_shape(s);
+    }
+    try_packet(s, packet);
+}
+
+static int length_of(nafthurm_shape s, nafthurm_packet packet) {
+    int sum = 0, at = packet.node;
+    for (int leg = 2 - packet.left; leg < 2; leg++) sum += distance(s, at, packet.legs[leg].target), at = packet.legs[leg].target;
+    return sum;
+}
+
+/* One allowed hop at random, after each direction has been tried; false where none is allowed. `sound`: no dead link may be crossed. */
+static int travel_on(nafthurm_shape s, nafthurm_packet *packet, uint8_t *taken, int sound) {
+    int ways = 0;
+    uint8_t by[6];
+    for (uint8_t d = 0; d < 7; d++) {
+        if (step(s, *packet, (uint8_t)(d < 6 ? d : 6 + below(250))).number != 0) continue;
+        if (sound) HOLD(!nafthurm_dead_link(plan.bytes, plan.size, packet->node, d));
+        by[ways++] = d;
+    }
+    if (ways == 0) return 0;
+    *taken = by[below((uint32_t)ways)];
+    *packet = step(s, *packet, *taken).packet;
+    if (sound) HOLD(!nafthurm_dead_node(plan.bytes, plan.size, packet->node));
+    return 1;
+}
+
+/* The walk of the hops taken, with a byte more, cut short, and with a wrong byte. */
+static void walk_again(nafthurm_shape s, nafthurm_packet first, nafthurm_packet last, uint8_t *taken, size_t hops) {
+    nafthurm_walked w = walk(s, first, taken, hops);
+    HOLD(w.ending == NAFTHURM_ARRIVED && w.hops == hops && same_packet(w.packet, last));
+    taken[hops] = any_byte();
+    w = walk(s, first, taken, hops + 1);
+    HOLD(w.ending == NAFTHURM_ARRIVED && w.hops == hops && same_packet(w.packet, last));
+    if (hops == 0) return;
+    size_t part = below((uint32_t)hops);
+    w = walk(s, first, taken, part);
+    HOLD(w.ending == NAFTHURM_USED_UP && w.hops == part);
+    taken[part] = (uint8_t)(6 + below(250));
+    nafthurm_walked wrong = walk(s, first, taken, hops);
+    HOLD(wrong.ending == NAFTHURM_NOT_ALLOWED && wrong.hops == part && same_packet(wrong.packet, w.packet));
+}
+
+/* By allowed hops at random to the end. */
+static void travel(nafthurm_shape s, nafthurm_packet first, uint16_t destination, int length, int sound) {
+    uint8_t taken[128];
+    int hops = 0;
+    nafthurm_packet packet = first;
+    HOLD(nafthurm_packet_check(s, packet) == 0);
+    HOLD(length_of(s, packet) == length);
+    for (; travel_on(s, &packet, taken + hops, sound); hops++) HOLD(hops < length);
+    HOLD(packet.node == destination);
+    HOLD(hops == length);
+    hops_taken += (uint64_t)hops, arrivals++;
+    if (longest < (uint64_t)hops) longest = (uint64_t)hops;
+    walk_again(s, first, packet, taken, (size_t)hops);
+}
+
+/* ---- Plan sheets ---- */
+
+static void try_dead(uint16_t node, uint8_t direction) {
+    int inside = node < plan_nodes();
+    calls += 2;
+    HOLD(nafthurm_dead_node(plan.bytes, plan.size, node) == (inside && model.dead[node]));
+    HOLD(nafthurm_dead_link(plan.bytes, plan.size, node, direction) == (inside && direction < 6 && model.lost[node] >> direction & 1));
+}
+
+static void try_plan(void) {
+    nafthurm_shape s = nafthurm_plan_shape(plan.bytes, plan.size);
+    calls += 2;
+    HOLD(nafthurm_plan_check(plan.bytes, plan.size) == plan_refused);
+    HOLD(s.x == model.shape.x && s.y == model.shape.y && s.z == model.shape.z && s.wrap == model.shape.wrap);
+    for (int i = 0; i < 4; i++) try_dead(plan_node(), (uint8_t)below(8));
+    lend_out(some_room(plan.size));
+    check_written(nafthurm_plan_write_back(plan.bytes, plan.size, out.bytes, out.size), plan_refused, plan.copy, plan.size);
+}
+
+/* ---- Planning ---- */
+
+static int same_route(nafthurm_route a, nafthurm_route b) { return a.number == b.number && a.kind == b.kind && a.via == b.via; }
+
+/* The number with which the pair is refused before any choice is looked for, or 0. */
+static uint8_t pair_number(uint16_t source, uint16_t destination) {
+    if (plan_refused != 0) return plan_refused;
+    if (source >= plan_nodes() || destination >= plan_nodes()) return 9;
+    return model.dead[source] || model.dead[destination] ? 10 : 0;
+}
+
+static void try_refused_pair(nafthurm_planned p, uint8_t number, uint16_t source, uint16_t destination) {
+    refused++;
+    HOLD(p.route.number == (number ? number : 11));
+    HOLD(p.route.kind == p.route.number && p.route.via == 0 && p.length == 0);
+    HOLD(nafthurm_packet_check(model.shape, nafthurm_new_packet(source, destination, p.route)) == (plan_refused ? 5 : 14));
+}
+
+static nafthurm_planned try_pair(uint16_t source, uint16_t destination) {
+    nafthurm_planned p = nafthurm_pair(plan.bytes, plan.size, source, destination);
+    uint8_t number = pair_number(source, destination);
+    calls++;
+    if (number == 0 && plan_nodes() <= MODEL_NODES) {
+        nafthurm_planned wanted = first_choice(&model, source, destination);
+        HOLD(same_route(p.route, wanted.route));
+        HOLD(p.length == wanted.length);
+    }
+    if (number != 0 || p.route.number != 0) {
+        try_refused_pair(p, number, source, destination);
+        return p;
+    }
+    HOLD(p.route.kind <= 5);
+    HOLD(p.route.kind >= 2 ? p.route.via != source && p.route.via != destination && p.route.via < plan_nodes() : p.route.via == 0);
+    travel(model.shape, nafthurm_new_packet(source, destination, p.route), destination, p.length, 1);
+    return p;
+}
+
+/* ---- Route sheets ---- */
+
+/* The number with which a sheet from the source is refused, or 0. */
+static uint8_t source_number(uint16_t source) {
+    if (plan_refused != 0) return plan_refused;
+    return source >= plan_nodes() ? 9 : model.dead[source] ? 10 : 0;
+}
+
+/* Where the destination's entry stands; the size where there is none. */
+static size_t entry_at(uint16_t destination) {
+    for (size_t at = 7; at < sheet.size; at += 5)
+        if (word(sheet.bytes + at) == destination) return at;
+    return sheet.size;
+}
+
+/* The lookup in a sheet that is refused with `number`. */
+static nafthurm_route try_lookup(uint8_t number, uint16_t destination) {
+    nafthurm_part part = nafthurm_lookup(plan.bytes, plan.size, sheet.bytes, sheet.size, destination);
+    nafthurm_route r = nafthurm_lookup_route(plan.bytes, plan.size, sheet.bytes, sheet.size, destination);
+    calls += 2;
+    if (number == 0 && destination >= plan_nodes()) number = 9;
+    size_t at = number ? sheet.size : entry_at(destination);
+    if (at == sheet.size) {
+        HOLD(part.start == 0 && part.size == 0);
+        HOLD(r.number == number && r.kind == number && r.via == 0);
+        return r;
+    }
+    HOLD(part.start == at && part.size == 5);
+    HOLD(r.kind == sheet.bytes[at + 2] && r.via == word(sheet.bytes + at + 3));
+    HOLD(r.number == (r.kind < 10 ? 0 : r.kind));
+    return r;
+}
+
+static void try_sheet(void) {
+    uint8_t number = plan_refused ? plan_refused : sheet_number(model.shape, sheet.bytes, sheet.size);
+    calls++;
+    HOLD(nafthurm_sheet_check(plan.bytes, plan.size, sheet.bytes, sheet.size) == number);
+    lend_out(some_room(sheet.size));
+    check_written(nafthurm_sheet_write_back(plan.bytes, plan.size, sheet.bytes, sheet.size, out.bytes, out.size), number, sheet.copy, sheet.size);
+    for (int i = 0; i < 4; i++) {
+        int listed = number == 0 && sheet.size > 7 && chance(50);
+        uint16_t destination = listed ? (uint16_t)word(sheet.bytes + 7 + 5 * below((uint32_t)(sheet.size - 7) / 5)) : plan_node();
+        nafthurm_route r = try_lookup(number, destination);
+        if (r.number != 0) continue;
+        nafthurm_packet first = nafthurm_new_packet((uint16_t)word(sheet.bytes + 3), destination, r);
+        travel(model.shape, first, destination, length_of(model.shape, first), 0);
+    }
+}
+
+/* Of each destination, or of so many at random, the lent sheet says what planning the pair says. */
+static void try_planned(uint16_t source, uint32_t destinations) {
+    uint32_t nodes = (uint32_t)plan_nodes();
+    for (uint32_t i = 0; i < destinations && i < nodes; i++) {
+        uint16_t destination = (uint16_t)(destinations < nodes ? below(nodes) : i);
+        nafthurm_route r = try_lookup(0, destination);
+        HOLD(same_route(r, try_pair(source, destination).route));
+    }
+}
+
+/* The sheet that planning writes, of any source. */
+static void try_write_sheet(uint16_t source, uint32_t destinations) {
+    static uint8_t written[NAFTHURM_SHEET_BYTES];
+    uint8_t number = source_number(source);
+    lend_out(number ? some_room(100) : NAFTHURM_SHEET_BYTES);
+    nafthurm_written w = nafthurm_write_sheet(plan.bytes, plan.size, source, out.bytes, out.size);
+    size_t size = w.size;
+    HOLD(size <= NAFTHURM_SHEET_BYTES);
+    memcpy(written, out.bytes, size);
+    check_written(w, number, written, size);
+    if (number != 0) return;
+    if (plan_nodes() <= 512) {
+        lend_out(some_room(size));
+        check_written(nafthurm_write_sheet(plan.bytes, plan.size, source, out.bytes, out.size), 0, written, size);
+    }
+    lend(&sheet, written, size);
+    HOLD(nafthurm_sheet_check(plan.bytes, plan.size, sheet.bytes, sheet.size) == 0);
+    HOLD(word(sheet.bytes + 3) == source);
+    try_planned(source, destinations);
+}
+
+/* The listing of the plan that is lent: its lines are what planning the pairs says. */
+static void try_listing(uint16_t source) {
+    static uint8_t input[2 + BYTES_MOST];
+    static char text[NAFTHURM_LISTING_BYTES];
+    uint8_t number = source_number(source);
+    int size = number ? sprintf(text, "refused %d\n", number) : sprintf(text, "%d %d %zu\n", source, plan_nodes(), word(plan.bytes + 7));
+    for (int d = 0; number == 0 && d < plan_nodes(); d++) {
+        nafthurm_planned p = nafthurm_pair(plan.bytes, plan.size, source, (uint16_t)d);
+        size += sprintf(text + size, "%d %d ", d, p.route.kind);
+        size += p.route.number == 0 && p.route.kind >= 2 ? sprintf(text + size, "%d ", p.route.via) : sprintf(text + size, "- ");
+        size += p.route.number == 0 ? sprintf(text + size, "%d\n", p.length) : sprintf(text + size, "-\n");
+    }
+    input[0] = (uint8_t)(source >> 8), input[1] = (uint8_t)source;
+    memcpy(input + 2, plan.copy, plan.size);
+    lend(&sheet, input, plan.size + 2);
+    lend_out(some_room((size_t)size));
+    check_written(nafthurm_listing(sheet.bytes, sheet.size, out.bytes, out.size), 0, (const uint8_t *)text, (size_t)size);
+}
+
+/* ---- Inputs ---- */
+
+/* The largest machine, with up to 256 faults, and the largest sheets. */
+static void one_largest(void) {
+    nafthurm_shape s = {16, 16, 16, (uint8_t)below(8)};
+    if (chance(50)) s = make_limit_plan();
+    else make_plan(s, (int)below(20));
+    make_sheet(s, chance(50) ? 100 : 60);
+    if (chance(30)) damage_sheet();
+    lend_both();
+    try_plan();
+    try_sheet();
+    try_write_sheet(plan_node(), 4);
+}
+
+static void one_random(void) {
+    random_bytes(&a_plan, below(400));
+    random_bytes(&a_sheet, below(400));
+    lend_both();
+    try_plan();
+    uint16_t source = any_node(16), destination = any_node(16);
+    try_pair(source, destination);
+    if (plan_refused != 0) try_write_sheet(source, 4), try_listing(source);
+    lend(&sheet, a_sheet.at, a_sheet.size);
+    try_sheet();
+}
+
+static void one_plan(void) {
+    plan_for_reading();
+    lend_both();
+    try_plan();
+    uint16_t source = plan_node(), destination = plan_node();
+    if (pair_number(source, destination) != 0) try_pair(source, destination);
+    if (source_number(source) != 0) try_write_sheet(source, 0), try_listing(source);
+}
+
+static void one_pair(void) {
+    nafthurm_shape s = any_plan(ONE_OF(12, 64, 64, 64, 512), 10);
+    lend_both();
+    try_plan();
+    ends e = some_ends(s);
+    try_pair(e.source, e.destination);
+}
+
+static void one_written_sheet(void) {
+    any_plan(ONE_OF(12, 32, 48), 10);
+    lend_both();
+    try_plan();
+    if (plan_nodes() > MODEL_NODES) return;
+    try_write_sheet(plan_node(), MODEL_NODES);
+    try_listing(plan_node());
+}
+
+static void one_sheet(void) {
+    nafthurm_shape s;
+    if (chance(25)) s = packet_shape(), make_plan(s, (int)below(6));
+    else s = any_plan(ONE_OF(12, 64, 512), 8);
+    any_sheet(s, 50);
+    lend_both();
+    try_plan();
+    try_sheet();
+}
+
+static void one_input(uint64_t i) {
+    a_sheet.size = 0;
+    uint32_t way = below(100);
+    if (i % 4096 == 4095) one_largest();
+    else if (way < 8) one_random();
+    else if (way < 28) one_plan();
+    else if (way < 48) one_pair();
+    else if (way < 51) one_written_sheet();
+    else if (way < 70) one_sheet();
+    else one_packet(), inputs++;
+    check_kept(&plan);
+    check_kept(&sheet);
+}
+
+int main(int words, char **word_at) {
+    uint64_t seed = 1, count = 20000;
+    int lines = 0;
+    for (int i = 1; i < words; i++) {
+        if (strcmp(word_at[i], "--lines") == 0) lines = 1;
+        else if (i + 1 < words && strcmp(word_at[i], "--seed") == 0) seed = strtoull(word_at[++i], NULL, 10);
+        else if (i + 1 < words && strcmp(word_at[i], "--count") == 0) count = strtoull(word_at[++i], NULL, 10);
+        else return fprintf(stderr, "fuzz [--seed N] [--count N] [--lines]\n"), 2;
+    }
+    set_seed(seed);
+    if (lines) {
+        print_lines(count);
+        return 0;
+    }
+    lend_both(), inputs = 0;
+    for (uint64_t i = 0; i < count; i++) one_input(i);
+    printf("seed %" PRIu64 ": %" PRIu64 " inputs, %" PRIu64 " calls, %" PRIu64 " refusals, %" PRIu64 " packets brought to their destination in %" PRIu64
+           " hops, at most %" PRIu64 "\n", seed, inputs, calls, refused, arrivals, hops_taken, longest);
+    return 0;
+}

@@ -1,0 +1,365 @@
+/* Document 01's worked machine W and its edges, through the C interface; sizes of the forms, and the stack that each call uses. */
+#include "lent.h"
+#include "nafthurm.h"
+
+#include <stdio.h>
+#include <string.h>
+#include <ucontext.h>
+
+static const uint8_t W[] = {0x01, 0x00, 0x09, 0x04, 0x04, 0x01, 0x03, 0x00, 0x01, 0x00, 0x00, 0x00};
+static const uint8_t W_SHEET[] = {
+    0x01, 0x00, 0x2C, 0x00, 0x00, 0x00, 0x08,
+    0x00, 0x01, 0x03, 0x00, 0x04, 0x00, 0x02, 0x02, 0x00, 0x03, 0x00, 0x05, 0x02, 0x00, 0x04, 0x00, 0x06, 0x02, 0x00, 0x03,
+    0x00, 0x09, 0x02, 0x00, 0x04, 0x00, 0x0A, 0x02, 0x00, 0x03, 0x00, 0x0D, 0x02, 0x00, 0x0C, 0x00, 0x0E, 0x02, 0x00, 0x03};
+
+static lent plan, sheet, out, directions;
+
+static nafthurm_planned pair(const uint8_t *bytes, size_t size, uint16_t source, uint16_t destination) {
+    lend(&plan, bytes, size);
+    nafthurm_planned p = nafthurm_pair(plan.bytes, plan.size, source, destination);
+    check_kept(&plan);
+    return p;
+}
+
+static void is_route(nafthurm_planned p, uint8_t kind, uint16_t via, uint16_t length) {
+    HOLD(p.route.number == 0);
+    HOLD(p.route.kind == kind);
+    HOLD(p.route.via == via);
+    HOLD(p.length == length);
+}
+
+static void is_refused(nafthurm_planned p, uint8_t number) {
+    HOLD(p.route.number == number);
+    HOLD(p.route.kind == number);
+    HOLD(p.route.via == 0);
+    HOLD(p.length == 0);
+}
+
+static uint8_t plan_check(const uint8_t *bytes, size_t size) {
+    lend(&plan, bytes, size);
+    uint8_t number = nafthurm_plan_check(plan.bytes, plan.size);
+    check_kept(&plan);
+    return number;
+}
+
+static void forms(void) {
+    HOLD(sizeof(nafthurm_shape) == 4);
+    HOLD(sizeof(nafthurm_leg) == 4);
+    HOLD(sizeof(nafthurm_packet) == 12);
+    HOLD(sizeof(nafthurm_route) == 4);
+    HOLD(sizeof(nafthurm_planned) == 6);
+}
+
+static void worked_pairs(void) {
+    is_route(pair(W, sizeof W, 0, 1), 3, 4, 3);
+    is_route(pair(W, sizeof W, 0, 2), 2, 3, 2);
+    is_route(pair(W, sizeof W, 0, 7), 0, 0, 2);
+    is_route(pair(W, sizeof W, 0, 0), 0, 0, 0);
+    is_route(pair(W, sizeof W, 0, 15), 0, 0, 2);
+    is_refused(pair(W, sizeof W, 0, 16), 9);
+    is_refused(pair(W, sizeof W, 16, 0), 9);
+    is_refused(pair(W, 8, 0, 1), 1);
+
+    uint8_t ring[] = {1, 0, 9, 4, 1, 1, 1, 0, 1, 0, 0, 0};
+    is_refused(pair(ring, sizeof ring, 0, 1), 11);
+    ring[3] = 5;
+    is_route(pair(ring, sizeof ring, 0, 1), 2, 3, 4);
+    const uint8_t open[] = {1, 0, 9, 2, 1, 1, 0, 0, 1, 0, 0, 0};
+    is_refused(pair(open, sizeof open, 0, 1), 11);
+    const uint8_t one[] = {1, 0, 9, 1, 1, 1, 0, 0, 1, 0, 0, 3};
+    is_refused(pair(one, sizeof one, 0, 0), 10);
+}
+
+static void worked_plans(void) {
+    HOLD(plan_check(W, sizeof W) == 0);
+    HOLD(plan_check(W, 0) == 1);
+    uint8_t none[] = {1, 0, 6, 16, 1, 1, 0, 0, 0};
+    HOLD(plan_check(none, sizeof none) == 0);
+    none[3] = 17;
+    HOLD(plan_check(none, sizeof none) == 5);
+    none[3] = 3, none[6] = 1;
+    HOLD(plan_check(none, sizeof none) == 0);
+    none[3] = 2;
+    HOLD(plan_check(none, sizeof none) == 6);
+
+    uint8_t many[NAFTHURM_PLAN_BYTES + 3] = {1, 0, 0, 16, 16, 16, 7};
+    for (int count = 256; count <= 257; count++) {
+        many[1] = (uint8_t)((6 + 3 * count) >> 8), many[2] = (uint8_t)(6 + 3 * count);
+        many[7] = (uint8_t)(count >> 8), many[8] = (uint8_t)count;
+        for (int i = 0; i < count; i++) many[9 + 3 * i] = (uint8_t)(i >> 8), many[10 + 3 * i] = (uint8_t)i, many[11 + 3 * i] = 0;
+        HOLD(plan_check(many, (size_t)(9 + 3 * count)) == (count == 256 ? 0 : 3));
+    }
+
+    lend(&plan, W, sizeof W);
+    nafthurm_shape shape = nafthurm_plan_shape(plan.bytes, plan.size);
+    HOLD(shape.x == 4 && shape.y == 4 && shape.z == 1 && shape.wrap == 3);
+    for (uint16_t node = 0; node < 20; node++) {
+        HOLD(!nafthurm_dead_node(plan.bytes, plan.size, node));
+        for (uint8_t d = 0; d < 8; d++)
+            HOLD(nafthurm_dead_link(plan.bytes, plan.size, node, d) == ((node == 0 && d == 0) || (node == 1 && d == 1)));
+    }
+    for (size_t room = 0; room < 20; room++) {
+        lend_filled(&out, 0xEE, room);
+        nafthurm_written w = nafthurm_plan_write_back(plan.bytes, plan.size, out.bytes, out.size);
+        if (room < sizeof W) {
+            HOLD(w.number == 12 && w.size == 0);
+            check_kept(&out);
+            continue;
+        }
+        HOLD(w.number == 0 && w.size == sizeof W && memcmp(out.bytes, W, sizeof W) == 0);
+        for (size_t i = sizeof W; i < room; i++) HOLD(out.bytes[i] == 0xEE);
+        check_around(&out);
+    }
+    check_kept(&plan);
+}
+
+static void worked_sheet(void) {
+    lend(&plan, W, sizeof W);
+    for (size_t room = 0; room < 60; room++) {
+        lend_filled(&out, 0xEE, room);
+        nafthurm_written w = nafthurm_write_sheet(plan.bytes, plan.size, 0, out.bytes, out.size);
+        if (room < 47) {
+            HOLD(w.number == 12 && w.size == 0);
+            check_kept(&out);
+            continue;
+        }
+        HOLD(w.number == 0 && w.size == 47 && memcmp(out.bytes, W_SHEET, 47) == 0);
+        for (size_t i = 47; i < room; i++) HOLD(out.bytes[i] == 0xEE);
+        check_around(&out);
+    }
+    lend_filled(&out, 0xEE, 60);
+    HOLD(nafthurm_write_sheet(plan.bytes, plan.size, 16, out.bytes, out.size).number == 9);
+    check_kept(&out);
+    check_kept(&plan);
+}
+
+static void is_listing(const uint8_t *input, size_t size, const char *text) {
+    size_t length = strlen(text);
+    lend(&plan, input, size);
+    for (size_t room = length - 1; room < length + 3; room++) {
+        lend_filled(&out, 0xEE, room);
+        nafthurm_written w = nafthurm_listing(plan.bytes, plan.size, out.bytes, out.size);
+        if (room < length) {
+            HOLD(w.number == 12 && w.size == 0);
+            check_kept(&out);
+            continue;
+        }
+        HOLD(w.number == 0 && w.size == length && memcmp(out.bytes, text, length) == 0);
+        for (size_t i = length; i < room; i++) HOLD(out.bytes[i] == 0xEE);
+        check_around(&out);
+    }
+    check_kept(&plan);
+}
+
+static void worked_listing(void) {
+    uint8_t input[2 + sizeof W] = {0, 0};
+    memcpy(input + 2, W, sizeof W);
+    is_listing(input, sizeof input,
+               "0 16 1\n0 0 - 0\n1 3 4 3\n2 2 3 2\n3 0 - 1\n4 0 - 1\n5 2 4 2\n6 2 3 3\n7 0 - 2\n8 0 - 2\n9 2 4 3\n10 2 3 4\n11 0 - 3\n12 0 - 1\n13 2 12 2\n14 2 3 3\n15 0 - 2\n");
+    is_listing(input, 1, "refused 1\n");
+    is_listing(input, 9, "refused 1\n");
+    is_listing(input, sizeof input - 1, "refused 4\n");
+    input[1] = 16;
+    is_listing(input, sizeof input, "refused 9\n");
+    const uint8_t dead[] = {0, 0, 1, 0, 9, 1, 1, 1, 0, 0, 1, 0, 0, 3};
+    is_listing(dead, sizeof dead, "refused 10\n");
+}
+
+static void worked_lookups(void) {
+    lend(&plan, W, sizeof W);
+    lend(&sheet, W_SHEET, sizeof W_SHEET);
+    HOLD(nafthurm_sheet_check(plan.bytes, plan.size, sheet.bytes, sheet.size) == 0);
+    for (uint16_t d = 0; d < 16; d++) {
+        nafthurm_part part = nafthurm_lookup(plan.bytes, plan.size, sheet.bytes, sheet.size, d);
+        nafthurm_route r = nafthurm_lookup_route(plan.bytes, plan.size, sheet.bytes, sheet.size, d);
+        nafthurm_planned p = nafthurm_pair(plan.bytes, plan.size, 0, d);
+        HOLD(r.number == 0 && r.number == p.route.number && r.kind == p.route.kind && r.via == p.route.via);
+        if (r.kind == 0) {
+            HOLD(part.start == 0 && part.size == 0);
+            continue;
+        }
+        HOLD(part.size == 5 && part.start + 5 <= sheet.size && (part.start - 7) % 5 == 0);
+        const uint8_t *entry = sheet.bytes + part.start;
+        HOLD(entry[0] * 256 + entry[1] == d && entry[2] == r.kind && entry[3] * 256 + entry[4] == r.via);
+    }
+    nafthurm_part part = nafthurm_lookup(plan.bytes, plan.size, sheet.bytes, sheet.size, 16);
+    HOLD(part.start == 0 && part.size == 0);
+    HOLD(nafthurm_lookup_route(plan.bytes, plan.size, sheet.bytes, sheet.size, 16).number == 9);
+    HOLD(nafthurm_lookup_route(plan.bytes, plan.size, sheet.bytes, sheet.size - 1, 1).number == 13);
+    HOLD(nafthurm_lookup_route(plan.bytes, 8, sheet.bytes, sheet.size, 1).number == 1);
+    for (size_t room = 44; room < 50; room++) {
+        lend_filled(&out, 0xEE, room);
+        nafthurm_written w = nafthurm_sheet_write_back(plan.bytes, plan.size, sheet.bytes, sheet.size, out.bytes, out.size);
+        HOLD(w.number == (room < 47 ? 12 : 0) && w.size == (room < 47 ? 0 : 47));
+        if (room < 47) check_kept(&out);
+        else HOLD(memcmp(out.bytes, W_SHEET, 47) == 0);
+        check_around(&out);
+    }
+    check_kept(&plan);
+    check_kept(&sheet);
+
+    /* Entries of kinds 10 and 11 give their number; a via equal to an end is 13. */
+    uint8_t made[] = {1, 0, 14, 0, 0, 0, 2, 0, 1, 10, 0, 0, 0, 2, 11, 0, 0};
+    lend(&sheet, made, sizeof made);
+    HOLD(nafthurm_lookup_route(plan.bytes, plan.size, sheet.bytes, sheet.size, 1).number == 10);
+    HOLD(nafthurm_lookup_route(plan.bytes, plan.size, sheet.bytes, sheet.size, 2).number == 11);
+    HOLD(nafthurm_lookup(plan.bytes, plan.size, sheet.bytes, sheet.size, 2).start == 12);
+    made[14] = 2, made[16] = 2;
+    lend(&sheet, made, sizeof made);
+    HOLD(nafthurm_sheet_check(plan.bytes, plan.size, sheet.bytes, sheet.size) == 13);
+}
+
+static int same_packet(nafthurm_packet a, nafthurm_packet b) {
+    for (int i = 0; i < 2; i++)
+        if (a.legs[i].target != b.legs[i].target || a.legs[i].mode != b.legs[i].mode) return 0;
+    return a.node == b.node && a.left == b.left;
+}
+
+/* From the source to each destination, step by step, by the lowest and by the highest direction allowed. */
+static void worked_packets(void) {
+    lend(&plan, W, sizeof W);
+    nafthurm_shape shape = nafthurm_plan_shape(plan.bytes, plan.size);
+    for (uint16_t d = 0; d < 16; d++)
+        for (int highest = 0; highest < 2; highest++) {
+            nafthurm_planned p = nafthurm_pair(plan.bytes, plan.size, 0, d);
+            nafthurm_packet packet = nafthurm_new_packet(0, d, p.route), first = packet;
+            HOLD(nafthurm_packet_check(shape, packet) == 0);
+            uint8_t taken[50];
+            size_t hops = 0;
+            for (int tried = 0; tried < 6;) {
+                uint8_t direction = (uint8_t)(highest ? 5 - tried : tried);
+                nafthurm_stepped s = nafthurm_step(shape, packet, direction);
+                if (s.number == 15) {
+                    HOLD(same_packet(s.packet, packet));
+                    tried++;
+                    continue;
+                }
+                HOLD(s.number == 0);
+                HOLD(!nafthurm_dead_link(plan.bytes, plan.size, packet.node, direction));
+                packet = s.packet, taken[hops++] = direction, tried = 0;
+                HOLD(hops <= p.length);
+            }
+            HOLD(packet.node == d && hops == p.length);
+            lend(&directions, taken, hops);
+            nafthurm_walked w = nafthurm_walk(shape, first, directions.bytes, directions.size);
+            HOLD(w.number == 0 && w.ending == NAFTHURM_ARRIVED && w.hops == hops);
+            HOLD(same_packet(w.packet, hops == 0 ? first : packet));
+            check_kept(&directions);
+        }
+    /* Endings and refusals of a walk from 0 by 3 to 2. */
+    nafthurm_packet packet = {0, {{3, 0}, {2, 0}}, 2};
+    const uint8_t run[] = {1, 1, 1};
+    HOLD(nafthurm_walk(shape, packet, run, 3).ending == NAFTHURM_ARRIVED);
+    nafthurm_walked w = nafthurm_walk(shape, packet, run, 1);
+    HOLD(w.ending == NAFTHURM_USED_UP && w.number == 0 && w.hops == 1 && w.packet.node == 3 && w.packet.left == 1);
+    const uint8_t wrong[] = {1, 0};
+    w = nafthurm_walk(shape, packet, wrong, 2);
+    HOLD(w.ending == NAFTHURM_NOT_ALLOWED && w.number == 15 && w.hops == 1 && w.packet.node == 3);
+    packet.left = 3;
+    w = nafthurm_walk(shape, packet, run, 3);
+    HOLD(w.ending == NAFTHURM_REFUSED && w.number == 14 && w.hops == 0 && same_packet(w.packet, packet));
+    packet.left = 2, packet.legs[1].target = 16;
+    HOLD(nafthurm_step(shape, packet, 1).number == 14);
+    /* Any other byte of a mode is deterministic, and comes back as it was. */
+    nafthurm_packet odd = {0, {{2, 9}, {2, 200}}, 1};
+    HOLD(nafthurm_step(shape, odd, 1).number == 15);
+    nafthurm_stepped s = nafthurm_step(shape, odd, 0);
+    HOLD(s.number == 0 && s.packet.node == 1 && s.packet.legs[0].mode == 9 && s.packet.legs[1].mode == 200);
+    shape.x = 17;
+    HOLD(nafthurm_step(shape, odd, 0).number == 5);
+    shape.x = 2;
+    HOLD(nafthurm_step(shape, odd, 0).number == 6);
+    /* A refused route makes a packet that every call refuses. */
+    nafthurm_route refused = {11, 11, 0};
+    HOLD(nafthurm_new_packet(0, 1, refused).left == 255);
+    nafthurm_route no_kind = {0, 6, 0};
+    HOLD(nafthurm_new_packet(0, 1, no_kind).left == 255);
+}
+
+/* ---- The stack ---- */
+
+static uint8_t stack[1 << 18] __attribute__((aligned(64)));
+static uint8_t big_input[2 + NAFTHURM_PLAN_BYTES], *const big_plan = big_input + 2, big_sheet[NAFTHURM_SHEET_BYTES], big_out[NAFTHURM_LISTING_BYTES], run_of_45[45];
+static size_t big_sheet_size;
+static ucontext_t back, on_stack;
+static volatile size_t answer;
+
+static const nafthurm_shape CUBE = {16, 16, 16, 7};
+static const nafthurm_packet TWO_LEGS = {0, {{7, 0}, {9, 1}}, 2};
+
+static void no_call(void) { answer = 0; }
+static void calls_plan_check(void) { answer = nafthurm_plan_check(big_plan, NAFTHURM_PLAN_BYTES); }
+static void calls_plan_shape(void) { answer = nafthurm_plan_shape(big_plan, NAFTHURM_PLAN_BYTES).x; }
+static void calls_dead_node(void) { answer = nafthurm_dead_node(big_plan, NAFTHURM_PLAN_BYTES, 9); }
+static void calls_dead_link(void) { answer = nafthurm_dead_link(big_plan, NAFTHURM_PLAN_BYTES, 9, 3); }
+static void calls_plan_write_back(void) { answer = nafthurm_plan_write_back(big_plan, NAFTHURM_PLAN_BYTES, big_out, sizeof big_out).size; }
+static void calls_pair(void) { answer = nafthurm_pair(big_plan, NAFTHURM_PLAN_BYTES, 0, 17).length; }
+static void calls_write_sheet(void) { answer = nafthurm_write_sheet(big_plan, NAFTHURM_PLAN_BYTES, 0, big_out, sizeof big_out).size; }
+static void calls_listing(void) { answer = nafthurm_listing(big_input, sizeof big_input, big_out, sizeof big_out).size; }
+static void calls_sheet_check(void) { answer = nafthurm_sheet_check(big_plan, NAFTHURM_PLAN_BYTES, big_sheet, big_sheet_size); }
+static void calls_sheet_write_back(void) {
+    answer = nafthurm_sheet_write_back(big_plan, NAFTHURM_PLAN_BYTES, big_sheet, big_sheet_size, big_out, sizeof big_out).size;
+}
+static void calls_lookup(void) { answer = nafthurm_lookup(big_plan, NAFTHURM_PLAN_BYTES, big_sheet, big_sheet_size, 4000).size; }
+static void calls_lookup_route(void) { answer = nafthurm_lookup_route(big_plan, NAFTHURM_PLAN_BYTES, big_sheet, big_sheet_size, 4000).kind; }
+static void calls_packet_check(void) { answer = nafthurm_packet_check(CUBE, TWO_LEGS); }
+static void calls_step(void) { answer = nafthurm_step(CUBE, TWO_LEGS, 0).number; }
+static void calls_walk(void) { answer = nafthurm_walk(CUBE, TWO_LEGS, run_of_45, sizeof run_of_45).hops; }
+
+/* The bytes of stack that the call changes. */
+static size_t stack_of(void (*call)(void)) {
+    memset(stack, 0xC3, sizeof stack);
+    HOLD(getcontext(&on_stack) == 0);
+    on_stack.uc_stack.ss_sp = stack;
+    on_stack.uc_stack.ss_size = sizeof stack;
+    on_stack.uc_link = &back;
+    makecontext(&on_stack, call, 0);
+    HOLD(swapcontext(&back, &on_stack) == 0);
+    size_t untouched = 0;
+    while (untouched < sizeof stack && stack[untouched] == 0xC3) untouched++;
+    return sizeof stack - untouched;
+}
+
+/* The largest plan: every fault a dead link, no two of one node. */
+static void make_big(void) {
+    const uint8_t head[] = {1, 3, 6, 16, 16, 16, 7, 1, 0};
+    memcpy(big_plan, head, sizeof head);
+    for (int i = 0; i < 256; i++) {
+        int node = 16 * i + i % 16;
+        big_plan[9 + 3 * i] = (uint8_t)(node >> 8), big_plan[10 + 3 * i] = (uint8_t)node, big_plan[11 + 3 * i] = (uint8_t)(i % 3);
+    }
+    nafthurm_written w = nafthurm_write_sheet(big_plan, NAFTHURM_PLAN_BYTES, 1, big_sheet, sizeof big_sheet);
+    HOLD(w.number == 0);
+    big_sheet_size = w.size;
+}
+
+static void stack_use(void) {
+    void (*small[])(void) = {calls_plan_check, calls_plan_shape, calls_dead_node, calls_dead_link, calls_plan_write_back, calls_sheet_check,
+                             calls_sheet_write_back, calls_lookup, calls_lookup_route, calls_packet_check, calls_step, calls_walk};
+    make_big();
+    size_t without = stack_of(no_call), most = 0;
+    for (size_t i = 0; i < sizeof small / sizeof *small; i++) {
+        size_t used = stack_of(small[i]) - without;
+        if (most < used) most = used;
+    }
+    size_t of_pair = stack_of(calls_pair) - without, of_sheet = stack_of(calls_write_sheet) - without, of_listing = stack_of(calls_listing) - without;
+    HOLD(most <= NAFTHURM_STACK);
+    HOLD(of_pair <= NAFTHURM_STACK_PAIR);
+    HOLD(of_sheet <= NAFTHURM_STACK_SHEET);
+    HOLD(of_listing <= NAFTHURM_STACK_LISTING);
+    printf("nafthurm_pair %zu bytes, nafthurm_write_sheet %zu, nafthurm_listing %zu, any other call at most %zu\n", of_pair, of_sheet, of_listing, most);
+}
+
+/* test [--stack]: a sanitizer and valgrind have stacks of their own, so that the stack is asked for by itself. */
+int main(int count, char **words) {
+    if (count > 1 && strcmp(words[1], "--stack") == 0) return stack_use(), 0;
+    forms();
+    worked_pairs();
+    worked_plans();
+    worked_sheet();
+    worked_listing();
+    worked_lookups();
+    worked_packets();
+    puts("W and its edges are as document 01 has them");
+    return 0;
+}

@@ -1,0 +1,122 @@
+//! Document 01's worked machine W and its edges.
+use nafthurm::Mode::{Adaptive, Deterministic};
+use nafthurm::*;
+
+const W: [u8; 12] = [1, 0, 9, 4, 4, 1, 3, 0, 1, 0, 0, 0];
+
+fn sheet_of_w() -> Vec<u8> {
+    let mut out = [0xEE; 60];
+    assert_eq!(write_sheet(&W, 0, &mut out), Ok(47));
+    assert!(out[47..].iter().all(|&b| b == 0xEE));
+    out[..47].to_vec()
+}
+
+fn route(plan: &[u8], source: u16, destination: u16) -> Result<(Route, u16), Refused> {
+    pair(plan, source, destination).map(|p| (p.route, p.length))
+}
+
+#[test]
+fn pairs() {
+    assert_eq!(route(&W, 0, 1), Ok((Route::Via(4, Adaptive, Deterministic), 3)));
+    assert_eq!(route(&W, 0, 2), Ok((Route::Via(3, Adaptive, Adaptive), 2)));
+    assert_eq!(route(&W, 0, 7), Ok((Route::Direct(Adaptive), 2)));
+    assert_eq!(route(&W, 0, 0), Ok((Route::Direct(Adaptive), 0)));
+    assert_eq!(route(&W, 0, 16), Err(Refused(9)));
+    assert_eq!(route(&[1, 0, 9, 4, 1, 1, 1, 0, 1, 0, 0, 0], 0, 1), Err(Refused(11)));
+    assert_eq!(route(&[1, 0, 9, 5, 1, 1, 1, 0, 1, 0, 0, 0], 0, 1), Ok((Route::Via(3, Adaptive, Adaptive), 4)));
+    assert_eq!(route(&[1, 0, 9, 2, 1, 1, 0, 0, 1, 0, 0, 0], 0, 1), Err(Refused(11)));
+    assert_eq!(route(&[1, 0, 9, 1, 1, 1, 0, 0, 1, 0, 0, 3], 0, 0), Err(Refused(10)));
+}
+
+#[test]
+fn plans() {
+    assert_eq!(plan_check(&W), Ok(()));
+    assert_eq!(plan_check(&[]), Err(Refused(1)));
+    assert_eq!(plan_check(&[1, 0, 6, 17, 1, 1, 0, 0, 0]), Err(Refused(5)));
+    assert_eq!(plan_check(&[1, 0, 6, 2, 1, 1, 1, 0, 0]), Err(Refused(6)));
+    assert_eq!(plan_shape(&W), Shape { x: 4, y: 4, z: 1, wrap: 3 });
+    assert!(dead_link(&W, 0, 0) && dead_link(&W, 1, 1) && !dead_link(&W, 0, 1) && !dead_node(&W, 0));
+    let mut out = [0xEE; 13];
+    assert_eq!(plan_write_back(&W, &mut out[..11]), Err(Refused(12)));
+    assert_eq!(out, [0xEE; 13]);
+    assert_eq!(plan_write_back(&W, &mut out), Ok(12));
+    assert_eq!((&out[..12], out[12]), (&W[..], 0xEE));
+}
+
+#[test]
+fn sheets() {
+    let mut out = [0xEE; 46];
+    assert_eq!(write_sheet(&W, 0, &mut out), Err(Refused(12)));
+    assert_eq!(out, [0xEE; 46]);
+    let sheet = sheet_of_w();
+    assert_eq!(sheet[..12], [1, 0, 0x2C, 0, 0, 0, 8, 0, 1, 3, 0, 4]);
+    assert_eq!(sheet_check(&W, &sheet), Ok(()));
+    assert_eq!(sheet_check(&W, &sheet[1..]), Err(Refused(13)));
+    let mut back = [0; 47];
+    assert_eq!(sheet_write_back(&W, &sheet, &mut back), Ok(47));
+    assert_eq!(back[..], sheet[..]);
+}
+
+#[test]
+fn listings() {
+    let mut out = [0; LISTING_BYTES];
+    let input = [&[0, 0], &W[..]].concat();
+    let size = listing(&input, &mut out).unwrap();
+    assert!(out[..size].starts_with(b"0 16 1\n0 0 - 0\n1 3 4 3\n2 2 3 2\n3 0 - 1\n") && out[..size].ends_with(b"14 2 3 3\n15 0 - 2\n"));
+    assert_eq!(listing(&input, &mut out[..size - 1]), Err(Refused(12)));
+    assert_eq!(listing(&input[..1], &mut out), Ok(10));
+    assert_eq!(&out[..10], b"refused 1\n");
+}
+
+#[test]
+fn lookups() {
+    let sheet = sheet_of_w();
+    assert!(std::ptr::eq(lookup(&W, &sheet, 2), &sheet[12..17]));
+    assert!(lookup(&W, &sheet, 7).is_empty() && lookup(&W, &sheet, 16).is_empty());
+    for destination in 0..16 {
+        assert_eq!(lookup_route(&W, &sheet, destination), pair(&W, 0, destination).map(|p| p.route));
+    }
+    assert_eq!(lookup_route(&W, &sheet, 16), Err(Refused(9)));
+    assert_eq!(lookup_route(&W[..8], &sheet, 1), Err(Refused(1)));
+}
+
+#[test]
+fn packets() {
+    let shape = plan_shape(&W);
+    for destination in 0..16 {
+        let planned = pair(&W, 0, destination).unwrap();
+        let new = Packet::new(0, destination, planned.route);
+        assert_eq!(new.check(shape), Ok(()));
+        let (mut packet, mut taken) = (new, vec![]);
+        while let Some((direction, next)) = (0..6).rev().find_map(|d| packet.step(shape, d).ok().map(|p| (d, p))) {
+            assert!(!dead_link(&W, packet.node, direction));
+            packet = next;
+            taken.push(direction);
+        }
+        assert_eq!((packet.node, taken.len()), (destination, planned.length as usize));
+        let walked = new.walk(shape, &taken);
+        assert_eq!((walked.packet.node, walked.hops, walked.ending), (destination, taken.len(), Ending::Arrived));
+    }
+    let packet = Packet::new(0, 2, Route::Via(3, Adaptive, Adaptive));
+    assert_eq!(packet.walk(shape, &[1]).ending, Ending::UsedUp);
+    assert_eq!(packet.walk(shape, &[1, 0]).ending, Ending::NotAllowed);
+    assert_eq!(packet.step(shape, 6), Err(Refused(15)));
+    let three = Packet { left: 3, ..packet };
+    assert_eq!(three.walk(shape, &[1]), Walked { packet: three, hops: 0, ending: Ending::Refused(Refused(14)) });
+    assert_eq!(three.step(Shape { x: 17, ..shape }, 1), Err(Refused(5)));
+}
+
+#[test]
+fn largest_sheet() {
+    let plan = [1, 0, 6, 16, 16, 16, 7, 0, 0];
+    let mut sheet = vec![1, 0, 0, 0, 0, 0x0F, 0xFF];
+    for destination in 1..4096u16 {
+        sheet.extend([(destination >> 8) as u8, destination as u8, 1, 0, 0]);
+    }
+    assert_eq!(sheet.len(), SHEET_BYTES);
+    let follows = (SHEET_BYTES - 3) as u16;
+    sheet[1..3].copy_from_slice(&follows.to_be_bytes());
+    assert_eq!(sheet_check(&plan, &sheet), Ok(()));
+    assert_eq!(lookup(&plan, &sheet, 4095), &[0x0F, 0xFF, 1, 0, 0]);
+    assert_eq!(lookup_route(&plan, &sheet, 4095), Ok(Route::Direct(Deterministic)));
+}

@@ -1,0 +1,214 @@
+/*
+ * Wrong answers put around the library's calls, one at a time, by the number in the environment's WRONG: the script run sees that fuzz notices each of them.
+ * They are slips of one place each, most of them such that few inputs show them.
+ */
+#include "model.h"
+
+#include <stdlib.h>
+#include <string.h>
+
+static int wrong(int number) {
+    static int chosen = -1;
+    if (chosen < 0) chosen = getenv("WRONG") != NULL ? atoi(getenv("WRONG")) : 0;
+    return chosen == number;
+}
+
+/* The linker's --wrap has the program call the first name, and gives the library's call the second. */
+#define AROUND(type, name, ...) \
+    type __real_##name(__VA_ARGS__); \
+    type __wrap_##name(__VA_ARGS__); \
+    type __wrap_##name(__VA_ARGS__)
+
+static int count_of(const uint8_t *plan, size_t plan_size) { return nodes_of(nafthurm_plan_shape(plan, plan_size)); }
+
+/* ---- Plan sheets ---- */
+
+static int rises(const uint8_t *plan, size_t at) { return at == 9 || memcmp(plan + at - 3, plan + at, 3) < 0; }
+
+/* Where the first fault stands that does not exist; the size where there is none. */
+static size_t absent_at(const uint8_t *plan, size_t plan_size) {
+    nafthurm_shape s = {plan[3], plan[4], plan[5], plan[6]};
+    size_t at = 9;
+    while (at < plan_size && fault_exists(s, word(plan + at), plan[at + 2])) at += 3;
+    return at;
+}
+
+AROUND(uint8_t, nafthurm_plan_check, const uint8_t *plan, size_t plan_size) {
+    uint8_t number = __real_nafthurm_plan_check(plan, plan_size);
+    if (wrong(1) && number == 8 && absent_at(plan, plan_size) < plan_size) return 7;       /* 7 of any fault before 8 of any */
+    if (wrong(2) && number == 7 && !rises(plan, absent_at(plan, plan_size))) return 8;     /* 8 before 7 at one fault */
+    if (wrong(3) && number == 0 && word(plan + 7) == 256) return 3;                        /* 256 faults are too many */
+    if (wrong(4) && number == 3 && word(plan + 7) == 257) return 8;                        /* and 257 are not */
+    if (wrong(5) && number == 3 && word(plan + 1) != plan_size - 3) return 4;              /* 4 before 3 */
+    if (wrong(6) && number == 1 && plan_size > 0 && plan[0] != 1) return 2;                /* 2 before 1 */
+    if (wrong(7) && number == 5 && plan[6] > 7) return 6;                                  /* 6 before 5 */
+    if (wrong(8) && number == 4 && plan_size == 9 + 3 * word(plan + 7)) return 0;          /* the length field is not looked at */
+    if (wrong(9) && number == 6 && (plan[6] & 127) < 8) return 0;                          /* the last spare bit may be set */
+    return number;
+}
+
+AROUND(bool, nafthurm_dead_link, const uint8_t *plan, size_t plan_size, uint16_t node, uint8_t direction) {
+    bool dead = __real_nafthurm_dead_link(plan, plan_size, node, direction);
+    if (wrong(10) && direction == 3) return false;
+    if (wrong(11) && dead) return nafthurm_dead_node(plan, plan_size, node) || /* a link to a dead node is sound */
+        !nafthurm_dead_node(plan, plan_size, (uint16_t)over(nafthurm_plan_shape(plan, plan_size), node, direction));
+    return dead;
+}
+
+AROUND(nafthurm_written, nafthurm_plan_write_back, const uint8_t *plan, size_t plan_size, uint8_t *out, size_t out_size) {
+    nafthurm_written w = __real_nafthurm_plan_write_back(plan, plan_size, out, out_size);
+    if (wrong(12) && w.number == 0) out[out_size] = 0;
+    if (wrong(13) && w.number == 0 && out_size == plan_size) return (nafthurm_written){12, 0}; /* one byte more is asked for */
+    return w;
+}
+
+/* ---- Planning ---- */
+
+/* Whether the direct deterministic leg is clear, and as short as the route. */
+static int deterministic_would_do(const uint8_t *plan, uint16_t source, uint16_t destination, int length) {
+    static model_plan model;
+    read_plan(&model, plan);
+    return distance(model.shape, source, destination) == length && leg_clear(&model, source, destination, 1);
+}
+
+AROUND(nafthurm_planned, nafthurm_pair, const uint8_t *plan, size_t plan_size, uint16_t source, uint16_t destination) {
+    nafthurm_planned p = __real_nafthurm_pair(plan, plan_size, source, destination);
+    int count = count_of(plan, plan_size);
+    if (wrong(14) && p.route.number == 9 && source == count) return __real_nafthurm_pair(plan, plan_size, (uint16_t)(source - 1), destination);
+    if (wrong(15) && p.route.number == 9 && destination == count) return (nafthurm_planned){{11, 11, 0}, 0};
+    int dead = nafthurm_dead_node(plan, plan_size, source) || nafthurm_dead_node(plan, plan_size, destination);
+    if (wrong(16) && p.route.number == 9 && dead) return (nafthurm_planned){{10, 10, 0}, 0}; /* 10 before 9 */
+    if (p.route.number != 0) return p;
+    if (wrong(17) && p.route.kind == 5) p.route.kind = 4;
+    if (wrong(18) && p.route.kind >= 2) p.route.kind = 0, p.route.via = 0;
+    if (wrong(19) && p.length > 30) return (nafthurm_planned){{11, 11, 0}, 0};
+    if (wrong(20) && p.route.kind == 2 && deterministic_would_do(plan, source, destination, p.length)) p.route.kind = 1, p.route.via = 0; /* vias before modes */
+    if (wrong(21) && p.route.kind == 2 && p.route.via == 0) p.route.kind = 0; /* via 0 taken for none */
+    return p;
+}
+
+/* Where the first entry of the kind stands; the size where there is none. */
+static size_t kind_at(const uint8_t *sheet, size_t size, int kind) {
+    size_t at = 7;
+    while (at < size && sheet[at + 2] != kind) at += 5;
+    return at;
+}
+
+AROUND(nafthurm_written, nafthurm_write_sheet, const uint8_t *plan, size_t plan_size, uint16_t source, uint8_t *out, size_t out_size) {
+    int count = count_of(plan, plan_size);
+    if (wrong(22) && count > 0 && source == count) source--;
+    nafthurm_written w = __real_nafthurm_write_sheet(plan, plan_size, source, out, out_size);
+    if (wrong(23) && w.number == 12 && out_size > 0) out[0] ^= 1;
+    size_t at = w.number == 0 ? kind_at(out, w.size, 11) : 0;
+    if (wrong(24) && w.number == 0 && at < w.size) out[at + 2] = 10;
+    return w;
+}
+
+AROUND(nafthurm_written, nafthurm_listing, const uint8_t *input, size_t input_size, uint8_t *out, size_t out_size) {
+    nafthurm_written w = __real_nafthurm_listing(input, input_size, out, out_size);
+    if (wrong(25) && w.number == 0 && w.size < out_size) out[w.size] = 0;
+    return w;
+}
+
+/* ---- Route sheets ---- */
+
+/* A node that is none of these two. */
+static size_t third_node(size_t one, size_t two) {
+    size_t node = 0;
+    while (node == one || node == two) node++;
+    return node;
+}
+
+/* Whether the entry's via is one that the wrong answer takes for good. */
+static int forgiven(const uint8_t *entry, size_t count) {
+    int by_via = entry[2] >= 2 && entry[2] <= 5;
+    if (wrong(27)) return !by_via && word(entry + 3) != 0;
+    if (wrong(28)) return by_via && word(entry + 3) == word(entry);
+    return wrong(29) && by_via && word(entry + 3) == count;
+}
+
+/* The sheet with a good via in each entry whose via is forgiven. */
+static const uint8_t *mended(const uint8_t *sheet, size_t sheet_size, size_t count) {
+    static uint8_t copy[30000];
+    memcpy(copy, sheet, sheet_size);
+    for (size_t at = 7; at + 5 <= sheet_size; at += 5) {
+        if (!forgiven(copy + at, count)) continue;
+        size_t via = wrong(27) ? 0 : third_node(word(sheet + 3), word(sheet + at));
+        copy[at + 3] = (uint8_t)(via >> 8), copy[at + 4] = (uint8_t)via;
+    }
+    return copy;
+}
+
+AROUND(uint8_t, nafthurm_sheet_check, const uint8_t *plan, size_t plan_size, const uint8_t *sheet, size_t sheet_size) {
+    const volatile uint8_t *end = sheet + sheet_size;
+    if (wrong(26)) (void)*end;
+    return __real_nafthurm_sheet_check(plan, plan_size, mended(sheet, sheet_size, (size_t)count_of(plan, plan_size)), sheet_size);
+}
+
+AROUND(nafthurm_part, nafthurm_lookup, const uint8_t *plan, size_t plan_size, const uint8_t *sheet, size_t sheet_size, uint16_t destination) {
+    nafthurm_part part = __real_nafthurm_lookup(plan, plan_size, sheet, sheet_size, destination);
+    if (wrong(30) && part.size != 0 && destination == 0) part.start += 5;
+    if (wrong(31) && part.size == 0) part.start = sheet_size;
+    return part;
+}
+
+AROUND(nafthurm_route, nafthurm_lookup_route, const uint8_t *plan, size_t plan_size, const uint8_t *sheet, size_t sheet_size, uint16_t destination) {
+    nafthurm_route r = __real_nafthurm_lookup_route(plan, plan_size, sheet, sheet_size, destination);
+    int count = count_of(plan, plan_size);
+    if (wrong(32) && r.number == 9 && destination == count) return (nafthurm_route){0, 0, 0};
+    if (wrong(33) && r.number == 13 && destination >= count) return (nafthurm_route){9, 9, 0}; /* 9 before 13 */
+    if (wrong(34) && r.number == 0 && r.kind == 3) r.kind = 4;
+    return r;
+}
+
+/* ---- Packets ---- */
+
+AROUND(nafthurm_packet, nafthurm_new_packet, uint16_t source, uint16_t destination, nafthurm_route route) {
+    nafthurm_packet packet = __real_nafthurm_new_packet(source, destination, route);
+    if (wrong(35) && packet.left == 255) packet.left = 0;
+    return packet;
+}
+
+AROUND(uint8_t, nafthurm_packet_check, nafthurm_shape shape, nafthurm_packet packet) {
+    uint8_t number = __real_nafthurm_packet_check(shape, packet);
+    if (wrong(36) && (number == 5 || number == 6) && packet.left > 2) return 14;                                    /* 14 before 5 and 6 */
+    if (wrong(37) && number == 14 && packet.left <= 2 && packet.node == nodes_of(shape)) return 0;                  /* just outside the shape */
+    if (wrong(38) && number == 14 && packet.left == 2 && packet.node < nodes_of(shape) && packet.legs[0].target < nodes_of(shape)) return 0;
+    if (wrong(39) && number == 0 && packet.left < 2 && packet.legs[0].target >= nodes_of(shape)) return 14;         /* of a leg that is not left */
+    return number;
+}
+
+static int most_extent(nafthurm_shape s) { return s.x > s.y ? (s.x > s.z ? s.x : s.z) : s.y > s.z ? s.y : s.z; }
+
+/* Whether the front leg has its target half a ring away in the direction's dimension. */
+static int at_half(nafthurm_shape s, nafthurm_packet packet, int direction) {
+    int left = dropped(packet).left, dim = direction / 2;
+    if (left == 0 || direction > 5 || !wrapped(s, dim)) return 0;
+    return 2 * abs(place(s, packet.node, dim) - place(s, packet.legs[2 - left].target, dim)) == extent(s, dim);
+}
+
+AROUND(nafthurm_stepped, nafthurm_step, nafthurm_shape shape, nafthurm_packet packet, uint8_t direction) {
+    if (wrong(40) && most_extent(shape) > 6) return (nafthurm_stepped){packet, 5};
+    if (wrong(41) && most_extent(shape) > 6) shape.wrap &= 0xF8; /* long rings as if they were open */
+    if (wrong(42) && packet.left == 3) packet.left = 2;       /* a third leg is not counted */
+    nafthurm_stepped s = __real_nafthurm_step(shape, packet, direction);
+    nafthurm_packet ready = dropped(packet);
+    if (wrong(43) && s.number == 15 && packet.left == 2 && ready.left == 1) s.packet = ready;                                   /* a refusal stores drops */
+    if (wrong(44) && s.number == 0 && packet.left == 2 && ready.left == 2 && s.packet.left == 1) s.packet.left = 2;             /* a via dropped late */
+    if (wrong(45) && s.number == 0 && ready.left < packet.left) return (nafthurm_stepped){packet, 15};                          /* not judged after drops */
+    if (wrong(46) && (s.number == 0 || s.number == 15) && at_half(shape, packet, direction) && packet.legs[2 - ready.left].mode != 0)
+        return __real_nafthurm_step(shape, packet, direction ^ 1); /* at half a ring deterministic legs go minus */
+    if (wrong(47) && s.number == 0 && at_half(shape, packet, direction) && direction % 2) return (nafthurm_stepped){packet, 15}; /* half a ring as one direction */
+    return s;
+}
+
+AROUND(nafthurm_walked, nafthurm_walk, nafthurm_shape shape, nafthurm_packet packet, const uint8_t *directions, size_t directions_size) {
+    if (wrong(48) && directions_size > 12) directions_size = 12;
+    if (wrong(49) && directions_size > 45) directions_size = 45;
+    nafthurm_walked w = __real_nafthurm_walk(shape, packet, directions, directions_size);
+    if (wrong(50) && w.ending == NAFTHURM_NOT_ALLOWED && w.hops > 0) w.hops--;
+    if (wrong(51) && w.ending == NAFTHURM_ARRIVED && w.hops < directions_size) w.ending = NAFTHURM_NOT_ALLOWED, w.number = 15; /* bytes past the arrival judged */
+    if (wrong(52) && w.ending == NAFTHURM_ARRIVED && w.hops == directions_size) w.ending = NAFTHURM_USED_UP;                   /* used up before arrived */
+    if (wrong(53) && w.ending != NAFTHURM_REFUSED && w.hops == 0) w.packet = dropped(packet); /* drops stored without a hop */
+    return w;
+}
