@@ -6,8 +6,7 @@ use mathlib.Core.Logic.{_⊎_, inl, inr, ⊎-elim}
 use mathlib.Core.Bool.{Bool, true, false, false≢true, true≢false}
 use mathlib.Core.List.{List, [], _∷_, List·Memᴰ, List·Memᴰ·head, List·Memᴰ·tail, List·Memᴰ·not-nil, List·Memᴰ·cases-cons}
 use mathlib.Core.Option.{Option, none, some}
-use lib.Dec.{ltb}
-use borrow.Author.Tests.{ltb-true, ltb-false, lt-ltb, le-ltb}
+use borrow.Author.Tests.{lt-ltb, le-ltb}
 use Rattle.theory.specs.Choice.{Order, lex, earlier, best, First, Best, Fewer}
 use Rattle.theory.proofs.Cases.{test, by-order}
 
@@ -140,14 +139,6 @@ pub best-same : {C : Type 0} (before : C → C → Bool) (ok₁ ok₂ : C → Bo
 unfolding best earlier
 best-same before ok₁ ok₂ [] h = refl
 best-same before ok₁ ok₂ (c ∷ cs) h = rw (h c (List·Memᴰ·head refl), best-same before ok₁ ok₂ cs (λ e m. h e (List·Memᴰ·tail m)))
-
--- The order by the size of a number, where different candidates have different numbers.
-pub number-order : {C : Type 0} (number : C → ℕ) → ((a b : C) → number a ≡ number b → a ≡ b) → Order (λ a b. ltb (number a) (number b))
-number-order number inj = record {
-  asym = λ a b h. le-ltb (number b) (number a) (omega (arith, ltb-true (number a) (number b) h));
-  trans = λ a b c h k. le-ltb (number c) (number a) (omega (arith, ltb-false (number b) (number a) h, ltb-false (number c) (number b) k));
-  apart = λ a b h k. inj a b (omega (arith, ltb-false (number a) (number b) h, ltb-false (number b) (number a) k));
-}
 
 -- The order by a key, compared place by place.
 pub lex-less : (x y : ℕ) (xs ys : List ℕ) → x < y → lex (x ∷ xs) (y ∷ ys) ≡ true
