@@ -1,9 +1,9 @@
 -- A turn, and all turns.
-use Prim.Native.Nat.{ℕ, _+_, _*_, _≤_, _<_}
+use Prim.Native.Nat.{ℕ, _+_, _≤_, _<_}
 use native.Mathlib.Omega.{arith}
 use mathlib.Core.Path.{_≡_, refl, sym, ap, _∙_}
-use mathlib.Core.List.{List, [], _∷_}
-use lib.ListN.{length, take, drop}
+use mathlib.Core.List.{List, _∷_}
+use lib.ListN.{length, take}
 use Rattle.shape.specs.declared.shape.Shape.{Shape}
 use Rattle.machine.specs.Node.{countAnswer}
 use Rattle.sheet.specs.declared.output.Written.{Written}
@@ -14,7 +14,7 @@ use Rattle.sheet.proofs.Inputs.{read-whole}
 use Rattle.sheet.proofs.Outputs.{size-written, not-refused, front-written, rest-written}
 use Rattle.plan.specs.Layout.{shapeOf}
 use Rattle.plan.specs.Checks.{large}
-use Rattle.routes.specs.Layout.{formatBy, entryCount}
+use Rattle.routes.specs.Layout.{formatBy}
 use Rattle.routes.proofs.Sheets.{accepted}
 use Rattle.routes.proofs.Readings.{few}
 use Rattle.planner.specs.Sheet.{sourceError, plannedSheet}

@@ -1,5 +1,5 @@
 -- Input past the longest that is accepted: its first 780 bytes, a source and one byte more than the longest plan sheet, decide the text.
-use Prim.Native.Nat.{ℕ, zero, suc, _+_, _≤_}
+use Prim.Native.Nat.{ℕ, zero, suc, _≤_}
 use native.Mathlib.Omega.{arith}
 use mathlib.Core.Path.{_≡_, refl, sym, ap, _∙_}
 use mathlib.Core.List.{List, [], _∷_}
@@ -9,7 +9,7 @@ use Rattle.sheet.proofs.Inputs.{DecidedBy}
 use Rattle.plan.specs.Checks.{large, planError}
 use Rattle.plan_input.proofs.Long.{long-declined, error-decided}
 use Rattle.planner.specs.Sheet.{sourceError}
-use Rattle.listing_text.specs.Text.{sourceIn, planIn, listingError, refusal, listingOf}
+use Rattle.listing_text.specs.Text.{planIn, listingError, refusal, listingOf}
 use Rattle.listing_text.proofs.Sources.{has-source}
 
 refused-with : (i : List ℕ) (e : ℕ) → listingError i ≡ e → (e ≡ 0 → ⊥) → listingOf i ≡ refusal e

@@ -6,8 +6,8 @@ use mathlib.Core.Bool.{true}
 use mathlib.Core.List.{List}
 use lib.ListN.{length, take, drop, getD, length-drop}
 use lib.Seq.{take-all}
-use lib.Dec.{eqb, ltb}
-use borrow.Author.Tests.{eq-eqb, eqb-true, lt-ltb, le-ltb, ltb-false}
+use lib.Dec.{ltb}
+use borrow.Author.Tests.{eq-eqb, lt-ltb, le-ltb, ltb-false}
 use Rattle.numbers.specs.Numbers.{planShort}
 use Rattle.theory.proofs.Cases.{test}
 use Rattle.shape.specs.declared.shape.Shape.{Shape}
@@ -24,7 +24,7 @@ use Rattle.choice.specs.declared.outcome.Outcome.{Outcome}
 use Rattle.choice.specs.Outcome.{told}
 use Rattle.planner.specs.Sheet.{sourceError}
 use Rattle.planner.proofs.Planning.{Source, source-of}
-use Rattle.planner.proofs.OneDestination.{Ready, dest-planned, count-of, count-small}
+use Rattle.planner.proofs.OneDestination.{Ready, dest-planned, count-of}
 use Rattle.listing_text.specs.Text.{sourceIn, planIn, listingError}
 use Rattle.listing_text.specs.Steps.{noOutcome, Filled}
 

@@ -1,3 +1,4 @@
+use native.Mathlib.Omega.{arith}
 use mathlib.Core.Path.{_∙_}
 use Rattle.nafthurm.proofs.Laws.{refused-in, said-in}
 use borrow.Author.Needs.{needs}
@@ -5,13 +6,13 @@ use Rattle.nafthurm.proofs.forms.outcome_in.Statement.{statement}
 use Rattle.nafthurm.proofs.forms.outcome_in.Tie as tie
 
 returns : tie.Need-returns
-returns c = refused-in _ _ (c .if1 .taken)
+returns c = refused-in _ _ (λ z. omega arith)
 
 outcome-by-requires : tie.Need-outcome-by-requires
 outcome-by-requires c κs = search needs
 
 returns-2 : tie.Need-returns-2
-returns-2 c = c .outcome-by .ensures ∙ said-in _ _ (c .before .if1 .left)
+returns-2 c = c .outcome-by .ensures ∙ said-in _ _ (omega arith)
 
 pub outcome-in-spec : {M : Type 1} → statement M
 outcome-in-spec = tie.close (tie.spec returns outcome-by-requires returns-2)
