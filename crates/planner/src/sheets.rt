@@ -16,6 +16,7 @@ use plan::layout::shape_in;
 use routes::Entry;
 use routes::Routes;
 use routes::kinds::entry_for;
+use routes::layout::MOST_ENTRIES;
 use routes::write;
 use sheet::output::Written;
 use tables::outward::outward;
@@ -25,6 +26,7 @@ ghost use Rattle.sheet.specs.Output.{roomError, written, outAfter};
 ghost use Rattle.plan.specs.Layout.{shapeOf};
 ghost use Rattle.plan.specs.Checks.{large};
 ghost use Rattle.machine.specs.Number.{nodeCount};
+ghost use Rattle.routes.specs.Layout.{mostEntries};
 ghost use Rattle.routes.specs.Writing.{routeEntries};
 ghost use Rattle.planner.specs.Sheet.{sourceError, entriesFrom, plannedSheet};
 ghost use Rattle.planner.specs.Steps.{isListed, pickEntry, counted, lastAt};
@@ -75,9 +77,13 @@ fn counted(listed: usize, more: bool) -> usize
 // Where the next entry goes; the last place where all have one.
 fn last_at(listed: usize) -> usize
     ensures { λ r. ⌜ r ≡ lastAt listed ⌝ }
-    ensures { λ r. ⌜ r < 4095 ⌝ }
+    ensures { λ r. ⌜ r < mostEntries ⌝ }
 {
-    if listed < 4095 { listed } else { 4094 }
+    if listed < MOST_ENTRIES {
+        listed
+    } else {
+        MOST_ENTRIES - 1
+    }
 }
 
 // What a sheet from a sound source says. Each destination is planned once.
@@ -94,7 +100,7 @@ fn routes_from(plan: &[u8], source: u16) -> Routes
         dest: 0,
         kind: 0,
         via: 0,
-    }; 4095];
+    }; MOST_ENTRIES];
     let mut listed: usize = 0;
     let mut d: u16 = 0;
     while d < all {

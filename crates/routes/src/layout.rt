@@ -20,7 +20,7 @@ pub const ENTRIES_AT: usize = 7;
 pub const ENTRY_SIZE: usize = 5;
 
 // One for each node but the source.
-pub const MOST_ENTRIES: u16 = 4095;
+pub const MOST_ENTRIES: usize = 4095;
 
 pub fn source_in(sheet: &[u8]) -> u16
     ensures { λ r. ⌜ r ≡ source (now (sheet .entry)) ⌝ }

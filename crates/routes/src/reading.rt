@@ -1,6 +1,7 @@
 // Reading a route sheet: an accepted sheet as a value, or the number.
 use crate::checks::check;
 use crate::layout::Entry;
+use crate::layout::MOST_ENTRIES;
 use crate::layout::count_in;
 use crate::layout::entry_in;
 use crate::layout::source_in;
@@ -16,7 +17,7 @@ ghost use Rattle.routes.specs.Reading.{entryArray, reading};
 pub struct Routes {
     pub source: u16,
     pub count: u16,
-    pub entries: [Entry; 4095],
+    pub entries: [Entry; MOST_ENTRIES],
 }
 
 pub struct Reading {
@@ -25,7 +26,7 @@ pub struct Reading {
 }
 
 // The entries of an accepted sheet, and zeros past them.
-fn entries_in(sheet: &[u8]) -> [Entry; 4095]
+fn entries_in(sheet: &[u8]) -> [Entry; MOST_ENTRIES]
     requires { ⌜ entryCount (now sheet) ≤ mostEntries ⌝ }
     ensures { λ r. ⌜ r ≡ entryArray (now (sheet .entry)) ⌝ }
 {
@@ -34,7 +35,7 @@ fn entries_in(sheet: &[u8]) -> [Entry; 4095]
         dest: 0,
         kind: 0,
         via: 0,
-    }; 4095];
+    }; MOST_ENTRIES];
     let mut i: usize = 0;
     while i < count {
         entries[i] = entry_in(sheet, i as u16);
@@ -52,7 +53,7 @@ pub fn read(plan: &[u8], sheet: &[u8]) -> Reading
             dest: 0,
             kind: 0,
             via: 0,
-        }; 4095];
+        }; MOST_ENTRIES];
         let routes = Routes {
             source: 0,
             count: 0,

@@ -38,17 +38,12 @@ pub fn write(plan: &[u8], routes: Routes, out: &mut [u8]) -> Written
     ensures { λ r. ⌜ r ≡ written (writeError large (now (plan .entry)) (sheetOf routes) (now (out .entry))) (sheetOf routes) ⌝ }
     ensures { λ _. ⌜ now (out .exit) ≡ outAfter (writeError large (now (plan .entry)) (sheetOf routes) (now (out .entry))) (sheetOf routes) (now (out .entry)) ⌝ }
 {
-    let count = routes.count;
+    let count = routes.count as usize;
     if MOST_ENTRIES < count {
         let error = plan::check(plan);
         return Written::Refused(pick(error == 0, WRONG_ROUTE_SHEET, error));
     }
     let mut bytes = [0u8; 20482];
     encode(routes, &mut bytes);
-    write_front(
-        plan,
-        &bytes,
-        ENTRIES_AT + ENTRY_SIZE * (count as usize),
-        out,
-    )
+    write_front(plan, &bytes, ENTRIES_AT + ENTRY_SIZE * count, out)
 }

@@ -8,6 +8,9 @@ use borrow.Author.Needs.{needs}
 use Rattle.routes.proofs.writing.write.Statement.{statement}
 use Rattle.routes.proofs.writing.write.Tie as tie
 
+cast-count : tie.Need-cast-count
+cast-count c = search needs
+
 check-requires : tie.Need-check-requires
 check-requires c κs = search needs
 
@@ -17,7 +20,7 @@ pick-requires c κs = search needs
 -- `long` is what is known of the parameter's array: it has 4,095 elements.
 returns : tie.Need-returns
 returns c =
-    let start = c .before .before .before .before .before in
+    let start = c .before .before .before .before .before .before in
     let long : length (start .args .routes .entries) ≡ mostEntries = simp length-map at (start .good .1 .0 .1 .1 .1 .1 .0 .1 .0 .1) in
     let t = too-many (start .args .routes) long (c .before .before .if1 .taken) (omega arith) _ _ _ _ _ (c .before .check .ensures) (c .pick .ensures) in
     refused _ _ _ _ (t .0) (t .1)
@@ -30,9 +33,6 @@ encode-requires c κs = search needs
 
 slice-aggregate-write-front : tie.Need-slice-aggregate-write-front
 slice-aggregate-write-front c = search needs
-
-cast-write-front : tie.Need-cast-write-front
-cast-write-front c = search needs
 
 mul-write-front : tie.Need-mul-write-front
 mul-write-front c = search needs
@@ -53,13 +53,13 @@ pub write-spec : {M : Type 1} → statement M
 write-spec =
     tie.close
     (tie.spec
+    cast-count
     check-requires
     pick-requires
     returns
     slice-aggregate-encode
     encode-requires
     slice-aggregate-write-front
-    cast-write-front
     mul-write-front
     add-write-front
     write-front-requires
