@@ -16,7 +16,7 @@ use Rattle.plan.specs.Layout.{shapeOf}
 use Rattle.plan.specs.Checks.{large}
 use Rattle.routes.specs.Layout.{formatBy}
 use Rattle.routes.proofs.Sheets.{accepted}
-use Rattle.routes.proofs.Readings.{few}
+use Rattle.route_value.proofs.Readings.{few}
 use Rattle.planner.specs.Sheet.{sourceError, plannedSheet}
 use Rattle.planner.proofs.Planning.{source-of, sheet-accepted}
 use Rattle.all_sheets.specs.declared.turn.Turn.{Turn}

@@ -32,12 +32,12 @@ use Rattle.routes.specs.Layout.{written}
 use Rattle.routes.specs.Said.{saidBy, entryFor}
 use Rattle.routes.specs.Checks.{entryGood, entriesGood, routesGood, sheetError}
 use Rattle.routes.specs.Says.{saysOf, says}
-use Rattle.routes.specs.Reading.{reading}
-use Rattle.routes.specs.Value.{routesWith}
 use Rattle.routes.proofs.Entries.{passed}
-use Rattle.routes.proofs.Listed.{written-accepted, written-says}
-use Rattle.routes.proofs.RoundTrips.{good-written-read}
 use Rattle.routes.proofs.Saying.{admitted-legs, says-choice, says-refused, choice-good, dead-good, none-good}
+use Rattle.route_value.specs.Reading.{reading}
+use Rattle.route_value.specs.Value.{routesWith}
+use Rattle.route_value.proofs.Written.{written-accepted, written-says}
+use Rattle.route_value.proofs.RoundTrips.{good-written-read}
 use Rattle.planner.specs.Sheet.{sourceError, lists, entriesFrom, plannedSheet}
 use Rattle.planner.specs.Demand.{SheetDemand}
 

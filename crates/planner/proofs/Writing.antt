@@ -35,12 +35,13 @@ use Rattle.choice.specs.Answer.{Answer, Given, Refused}
 use Rattle.choice.specs.Outcome.{told, toldAs}
 use Rattle.choice.specs.Pair.{pair}
 use Rattle.routes.specs.declared.layout.Entry.{Entry}
-use Rattle.routes.specs.declared.reading.Routes.{Routes}
 use Rattle.routes.specs.Layout as Layout
 use Rattle.routes.specs.Layout.{noEntry}
 use Rattle.routes.specs.Said.{entryFor, heard}
-use Rattle.routes.specs.Writing.{sheetBytes, routeEntries, sheetOf, writeError}
+use Rattle.routes.specs.Writing.{writeError}
 use Rattle.routes.proofs.Saying.{entry-told}
+use Rattle.route_value.specs.declared.reading.Routes.{Routes}
+use Rattle.route_value.specs.Writing.{sheetBytes, routeEntries, sheetOf}
 use Rattle.planner.specs.OneDestination.{outcomeTo}
 use Rattle.planner.specs.Sheet.{sourceError, lists, entriesFrom, plannedSheet}
 use Rattle.planner.specs.Steps.{isListed, pickEntry, counted, lastAt}

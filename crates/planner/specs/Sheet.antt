@@ -16,7 +16,7 @@ use Rattle.choice.specs.Pair.{pair}
 use Rattle.routes.specs.declared.layout.Entry.{Entry}
 use Rattle.routes.specs.Layout.{written}
 use Rattle.routes.specs.Said.{entryFor}
-use Rattle.routes.specs.Writing.{sheetBytes}
+use Rattle.route_value.specs.Writing.{sheetBytes}
 
 -- A sheet to be written checks 1 to 8, then 9, 10 (source only).
 unfoldable pub sourceError : Limits → List ℕ → ℕ → ℕ

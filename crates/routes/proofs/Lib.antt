@@ -2,12 +2,6 @@ pub mod Sheets
 pub mod Entries
 pub mod Finding
 pub mod Lookups
-pub mod Forms
-pub mod Writings
 pub mod Rising
 pub mod Listed
-pub mod Many
-pub mod Readings
-pub mod Rewriting
-pub mod RoundTrips
 pub mod Saying

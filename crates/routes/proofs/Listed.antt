@@ -1,28 +1,21 @@
--- What a list of entries says of a destination, and what a written sheet says.
+-- What a list of entries says of a destination.
 use Prim.Native.Nat.{ℕ, zero, suc, _+_, _≤_, _<_}
 use native.Mathlib.Omega.{arith}
 use mathlib.Core.Path.{_≡_, refl, _∙_}
 use mathlib.Core.Logic.{⊎-elim}
-use mathlib.Core.Bool.{true}
 use mathlib.Core.List.{List, [], _∷_, List·Memᴰ, List·Memᴰ·head, List·Memᴰ·tail, List·Memᴰ·not-nil, List·Memᴰ·cases-cons}
 use lib.ListN.{length, getD}
 use borrow.Author.Tests.{eq-eqb, ne-eqb}
 use Rattle.machine.specs.declared.leg.Mode.the-variants.{Adaptive}
-use Rattle.machine.specs.Node.{isNode}
 use Rattle.machine.specs.Torus.{leg}
-use Rattle.plan.specs.Layout.{shapeOf}
-use Rattle.plan.specs.Checks.{Limits, planError}
-use Rattle.choice.specs.Answer.{Given, answered}
+use Rattle.choice.specs.Answer.{Given}
 use Rattle.routes.specs.declared.layout.Entry.{Entry}
-use Rattle.routes.specs.Layout.{written, noEntry}
-use Rattle.routes.specs.Checks.{routesGood, sheetError}
+use Rattle.routes.specs.Layout.{noEntry}
 use Rattle.routes.specs.Said.{saidBy}
-use Rattle.routes.specs.Lookup.{find, lookupError}
-use Rattle.routes.specs.Says.{saysOf, says}
-use Rattle.routes.specs.Writing.{sheetBytes}
+use Rattle.routes.specs.Lookup.{find}
+use Rattle.routes.specs.Says.{saysOf}
 use Rattle.routes.proofs.Finding.{here, later}
-use Rattle.routes.proofs.Rising.{Rising, routed}
-use Rattle.routes.proofs.Writings.{sheet-good, entries-read}
+use Rattle.routes.proofs.Rising.{Rising}
 
 -- No entry is below the least destination.
 above : (es : List Entry) (least : ℕ) → Rising least es → (e : Entry) → List·Memᴰ e es → least ≤ e .dest
@@ -65,18 +58,3 @@ unfolding find
 find-unlisted [] d h = refl
 find-unlisted (x ∷ es) d h =
     later x es d (h x (List·Memᴰ·head refl)) ∙ omega (arith, find-unlisted es d (λ e t. h e (List·Memᴰ·tail t)))
-
--- The sheet of good routes is accepted, and says what its entries say.
-module _ (L : Limits) (p : List ℕ) (S : ℕ) (es : List Entry) (plan : planError L p ≡ 0) (good : routesGood written (shapeOf p) S es ≡ true) where
-  pub written-accepted : sheetError L p (sheetBytes written S es) ≡ 0
-  unfolding sheetError
-  written-accepted =
-      let r = routed written (shapeOf p) S es good in
-      rw (plan, sheet-good S es (shapeOf p) (r .source) (r .few) (r .fit), good)
-
-  pub written-says : (d : ℕ) → isNode (shapeOf p) d ≡ true → says L p (sheetBytes written S es) d ≡ saysOf es d
-  unfolding says lookupError answered
-  written-says d n =
-      let r = routed written (shapeOf p) S es good in
-      let few = r .few in
-      rw (written-accepted, n, entries-read S es (omega arith) (r .fit))

@@ -4,7 +4,7 @@ use native.Mathlib.Omega.{arith}
 use mathlib.Core.Path.{_≡_}
 use mathlib.Core.Bool.{true, not, _&&_}
 use mathlib.Core.List.{List, [], _∷_}
-use lib.ListN.{length}
+use lib.ListN.{length, getD}
 use lib.Dec.{eqb}
 use borrow.Author.Tests.{eqb-true, eqb-false, not-true}
 use Rattle.theory.proofs.Bools.{and-true}
@@ -16,10 +16,13 @@ use Rattle.machine.specs.Number.{nodeCount}
 use Rattle.machine.specs.Node.{isNode}
 use Rattle.machine.proofs.Nodes.{node-of}
 use Rattle.routes.specs.declared.layout.Entry.{Entry}
-use Rattle.routes.specs.Layout.{Format, mostEntries}
+use Rattle.routes.specs.Layout.{Format, EntryFits, noEntry, mostEntries}
 use Rattle.routes.specs.Checks.{viaGood, entryGood, entriesGood, routesGood}
 use Rattle.routes.proofs.Entries.{cons}
-use Rattle.routes.proofs.Writings.{AllFit}
+
+-- Each of the entries fits.
+abbrev pub AllFit : List Entry → Type 0
+AllFit es = (i : ℕ) → i < length es → EntryFits (getD es i noEntry)
 
 -- Destinations rise strictly, from least on.
 abbrev pub Rising : ℕ → List Entry → Type 0

@@ -1,5 +1,5 @@
 -- 'Route sheet': where its parts stand, by its format. Byte 0 is the version and bytes 1-2 the length of what follows, as in every sheet.
-use Prim.Native.Nat.{ℕ, _+_, _*_}
+use Prim.Native.Nat.{ℕ, _+_, _*_, _<_}
 use mathlib.Core.Bool.{Bool}
 use mathlib.Core.List.{List, [], _∷_}
 use Rattle.sheet.specs.Bytes.{byte, word, upperByte, lowerByte, listFrom}
@@ -72,3 +72,8 @@ noEntry = record { dest = 0; kind = 0; via = 0 }
 
 abbrev pub mostEntries : ℕ
 mostEntries = 4095
+
+-- The numbers that a sheet holds in two bytes fit them, as the code's u16 do.
+pub record EntryFits (e : Entry) : Type 0 where
+  pub dest : e .dest < 65536
+  pub via : e .via < 65536

@@ -4,8 +4,6 @@ pub mod Said
 pub mod Checks
 pub mod Lookup
 pub mod Says
-pub mod Reading
 pub mod Writing
-pub mod Value
 -- The code's own steps.
 pub mod Steps

@@ -1,10 +1,8 @@
 -- The code's own steps.
-use Prim.Native.Nat.{ℕ, _+_, _*_}
+use Prim.Native.Nat.{ℕ, _+_}
 use mathlib.Core.Bool.{Bool, true, false, cond}
 use mathlib.Core.List.{List, [], _∷_}
-use lib.ListN.{set}
 use lib.Dec.{ltb}
-use Rattle.sheet.specs.Bytes.{putWord}
 use Rattle.shape.specs.declared.shape.Shape.{Shape}
 use Rattle.machine.specs.declared.leg.Mode.the-variants.{Adaptive}
 use Rattle.machine.specs.Torus.{leg}
@@ -13,7 +11,7 @@ use Rattle.choice.specs.Answer.{Answer, Given}
 use Rattle.routes.specs.declared.layout.Entry.{Entry}
 use Rattle.routes.specs.declared.route.Found.{Found}
 use Rattle.routes.specs.declared.route.Found.the-variants.{At, Missing}
-use Rattle.routes.specs.Layout.{written, entrySize, sizeAfter, entriesAt, entryCount, entryAt, entriesOf}
+use Rattle.routes.specs.Layout.{entryCount, entryAt, entriesOf}
 use Rattle.routes.specs.Kinds.{viaKind}
 use Rattle.routes.specs.Said.{saidBy}
 use Rattle.routes.specs.Lookup.{find}
@@ -34,10 +32,3 @@ orDirect d Missing = Given (leg d Adaptive ∷ [])
 -- The length of an entry's route from the source S; of a refusal any number.
 unfoldable pub lengthBy : Shape → ℕ → Entry → ℕ
 lengthBy s S e = cond (viaKind (e .kind)) (distanceAnswer s S (e .via) + distanceAnswer s (e .via) (e .dest)) (distanceAnswer s S (e .dest))
-
--- The bytes of a sheet with its head, or with entry number i, put in its place.
-unfoldable pub putHead : List ℕ → ℕ → ℕ → List ℕ
-putHead s S n = putWord (putWord (putWord (set s 0 (written .version)) 1 (sizeAfter written n)) 3 S) 5 n
-
-unfoldable pub putEntry : List ℕ → ℕ → Entry → List ℕ
-putEntry s i e = let at = entriesAt + entrySize written * i in putWord (set (putWord s at (e .dest)) (at + 2) (e .kind)) (at + 3) (e .via)

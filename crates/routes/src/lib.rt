@@ -1,17 +1,11 @@
-// The route sheet: its layout, check 13, looking up a destination, reading and writing.
+// The route sheet in its bytes: its layout, check 13, looking up a destination, and writing it back.
 mod checks;
-mod encode;
 pub mod kinds;
 pub mod layout;
 pub mod lookup;
-mod reading;
 pub mod route;
 mod writing;
 
 pub use checks::check;
 pub use layout::Entry;
-pub use reading::Reading;
-pub use reading::Routes;
-pub use reading::read;
-pub use writing::write;
 pub use writing::write_back;

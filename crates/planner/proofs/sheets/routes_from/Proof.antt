@@ -1,7 +1,7 @@
 use Rattle.planner.proofs.Writing.{Going, going, few, turn, done}
 use native.Mathlib.Omega.{arith}
 use Prim.Native.Nat.{_-_}
-use Rattle.routes.specs.Writing.{routeEntries}
+use Rattle.route_value.specs.Writing.{routeEntries}
 use mathlib.Core.Path.{refl}
 use Rattle.planner.proofs.sheets.routes_from.Statement.{statement}
 use Rattle.planner.proofs.sheets.routes_from.Tie as tie

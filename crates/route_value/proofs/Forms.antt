@@ -1,0 +1,83 @@
+-- An entry in its five bytes.
+use Prim.Native.Nat.{ℕ, suc, _+_, _*_, _≤_, _<_}
+use native.Mathlib.Numerals.{add-one}
+use native.Mathlib.Omega.{arith}
+use mathlib.Core.Path.{_≡_, refl, ap, _∙_}
+use mathlib.Core.List.{List, _++_}
+use lib.ListN.{length, take}
+use lib.Seq.{sets, sets-eq, length-sets, getD-append-add}
+use Rattle.sheet.specs.Bytes.{byte, AreBytes, listFrom}
+use Rattle.sheet.proofs.Records.{word-of, upper-of, lower-of, word-below}
+use Rattle.sheet.proofs.Forms.{Lawful}
+use Rattle.sheet.proofs.Encoding.{Encoding, onward}
+use Rattle.routes.specs.declared.layout.Entry.{Entry}
+use Rattle.routes.specs.Layout.{Format, EntryFits, formatBy, written, entriesAt, entryForm}
+use Rattle.route_value.specs.Writing.{headBytes}
+use Rattle.route_value.specs.Steps.{putHead, putEntry}
+
+module _ (F : Format) where
+  behind : (front s : List ℕ) (at : ℕ) → entryForm F .read (front ++ s) (length front + at) ≡ entryForm F .read s at
+  behind front s at =
+      let n = length front in
+      let e₁ : n + at + 1 ≡ n + (at + 1) = omega arith in
+      let e₂ : n + at + 2 ≡ n + (at + 2) = omega arith in
+      let e₄ : n + at + 3 + 1 ≡ n + (at + 3 + 1) = omega arith in
+      let e₃ : n + at + 3 ≡ n + (at + 3) = omega arith in
+      rw (e₄, e₃, e₂, e₁, getD-append-add front s at 0, getD-append-add front s (at + 1) 0, getD-append-add front s (at + 2) 0, getD-append-add front s (at + 3) 0, getD-append-add front s (at + 3 + 1) 0)
+
+  same : (s : List ℕ) → AreBytes s → (at : ℕ) → entryForm F .bytes (entryForm F .read s at) ≡ listFrom (byte s) at 5
+  unfolding listFrom
+  same s bytes at =
+      let e₂ : at + 2 ≡ suc (suc at) = omega arith in
+      let e₄ : at + 3 + 1 ≡ suc (suc (suc (suc at))) = omega arith in
+      let e₃ : at + 3 ≡ suc (suc (suc at)) = omega arith in
+      rw (upper-of (byte s at) (byte s (at + 1)) (bytes at) (bytes (at + 1)), lower-of (byte s at) (byte s (at + 1)) (bytes (at + 1)), upper-of (byte s (at + 3)) (byte s (at + 3 + 1)) (bytes (at + 3)) (bytes (at + 3 + 1)), lower-of (byte s (at + 3)) (byte s (at + 3 + 1)) (bytes (at + 3 + 1)), e₄, e₃, e₂, add-one at)
+
+  -- In a format of one via.
+  one-via : F .vias ≡ 1 → Lawful (entryForm F) EntryFits
+  one-via one = record {
+    long = λ e. rw one;
+    behind = behind;
+    back = λ e s h. rw (word-of (e .dest) (h .dest), word-of (e .via) (h .via));
+    same = λ s bytes at. rw one (same s bytes at);
+    fits = λ s bytes at. record { dest = word-below s bytes at; via = word-below s bytes (at + 3) };
+  }
+
+-- In each format that is read, and in the one that is written.
+pub lawful : (v : ℕ) → Lawful (entryForm (formatBy v)) EntryFits
+unfolding formatBy
+lawful v = one-via (formatBy v) refl
+
+pub lawful-written : Lawful (entryForm written) EntryFits
+lawful-written = one-via written refl
+
+-- ---- a sheet made in place: its head and an entry are their bytes in a row
+head-row : (l : List ℕ) (S n : ℕ) → putHead l S n ≡ sets l 0 (headBytes written S n)
+unfolding putHead headBytes
+head-row l S n = refl
+
+entry-row : (l : List ℕ) (i : ℕ) (e : Entry) → putEntry l i e ≡ sets l (entriesAt + 5 * i) (entryForm written .bytes e)
+unfolding putEntry
+entry-row l i e =
+    let a = entriesAt + 5 * i in
+    let e₂ : a + 2 ≡ suc (suc a) = omega arith in
+    let e₄ : a + 3 + 1 ≡ suc (suc (suc (suc a))) = omega arith in
+    let e₃ : a + 3 ≡ suc (suc (suc a)) = omega arith in
+    rw (e₄, e₃, e₂, add-one a)
+
+pub head-length : (l : List ℕ) (S n : ℕ) → length (putHead l S n) ≡ length l
+head-length l S n = ap length (head-row l S n) ∙ length-sets l 0 (headBytes written S n)
+
+pub head-room : (l head : List ℕ) (S n k : ℕ) → head ≡ putHead l S n → k ≤ length l → k ≤ length head
+head-room l head S n k e h = omega (arith, ap length e, head-length l S n)
+
+pub head-take : (l : List ℕ) (S n : ℕ) → entriesAt ≤ length l → take entriesAt (putHead l S n) ≡ headBytes written S n
+unfolding headBytes
+head-take l S n h = rw (head-row l S n, sets-eq (headBytes written S n) l 0 (omega arith))
+
+-- The loop that writes the entries behind the head.
+abbrev pub Encoded : ℕ → (ℕ → Entry) → List ℕ → List ℕ → ℕ → Type 0
+Encoded n f head bytes i = Encoding (entryForm written) (lawful-written .long) entriesAt n f head bytes i
+
+pub entry-put : (n : ℕ) (f : ℕ → Entry) (head bytes : List ℕ) (i : ℕ) → Encoded n f head bytes i → (e : Entry) (after : List ℕ) → e ≡ f i → after ≡ putEntry bytes i e → i < n → Encoded n f head after (i + 1)
+entry-put n f head bytes i g e after q p h = onward (entryForm written) (lawful-written .long) entriesAt n f head bytes i g e after q (p ∙ entry-row bytes i e) h
