@@ -1,7 +1,7 @@
 // Lists of faults as text: `node:kind,node:kind`, `-` for none.
 use conform_fields::lists::put_comma;
 use plan::Fault;
-use plan::Plan;
+use plan_value::Plan;
 use shape::Shape;
 use text::compare::same;
 use text::decimal;

@@ -3,7 +3,4 @@ pub mod Plans
 pub mod Most
 pub mod Listed
 pub mod Readings
-pub mod Forms
-pub mod Writings
-pub mod Rewriting
-pub mod RoundTrips
+pub mod Worked

@@ -1,14 +1,11 @@
--- Laws of reading a sheet.
+-- Laws of an accepted plan.
 use Prim.Native.Nat.{ℕ}
-use mathlib.Core.Path.{_≡_, refl, sym, _∙_}
+use mathlib.Core.Path.{_≡_, sym, _∙_}
 use mathlib.Core.Bool.{true, false}
 use mathlib.Core.List.{List}
 use borrow.Author.Tests.{eq-eqb, ne-eqb}
-use Rattle.sheet.proofs.Outputs.{of-refusal}
-use Rattle.plan.specs.declared.reading.Reading.{Reading}
-use Rattle.plan.specs.declared.reading.Answer.the-variants.{Refused}
 use Rattle.plan.specs.Checks.{Limits, planError}
-use Rattle.plan.specs.Reading.{noPlan, isPlan, reading}
+use Rattle.plan.specs.Reading.{isPlan}
 
 module _ (L : Limits) (s : List ℕ) (e : ℕ) (h : e ≡ planError L s) where
   pub is-plan : e ≡ 0 → isPlan L s ≡ true
@@ -18,11 +15,3 @@ module _ (L : Limits) (s : List ℕ) (e : ℕ) (h : e ≡ planError L s) where
   pub is-no-plan : (e ≡ 0 → ⊥) → isPlan L s ≡ false
   unfolding isPlan
   is-no-plan n = ne-eqb (planError L s) 0 (λ z. n (h ∙ z))
-
-  -- What is read.
-  pub refused : (e ≡ 0 → ⊥) → _≡_ {A = Reading} (record { answer = Refused e; plan = noPlan }) (reading (planError L s) s)
-  unfolding reading
-  refused n = rw (sym h) (of-refusal (λ k. _≡_ {A = Reading} (record { answer = Refused k; plan = noPlan }) (reading k s)) (λ k. refl) e n)
-
-  pub read-as : e ≡ 0 → (r : Reading) → r ≡ reading 0 s → r ≡ reading (planError L s) s
-  read-as z r q = q ∙ rw (sym h ∙ z)

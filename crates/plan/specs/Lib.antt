@@ -3,7 +3,6 @@ pub mod Kinds
 pub mod Checks
 pub mod Reading
 pub mod Writing
-pub mod Value
 pub mod Worked
 -- The code's own steps.
 pub mod Steps

@@ -1,31 +1,9 @@
--- Writing a plan sheet.
+-- Writing a plan sheet back.
 use Prim.Native.Nat.{ℕ}
-use mathlib.Core.List.{List, _∷_, _++_}
-use lib.ListN.{getD}
-use Rattle.sheet.specs.Bytes.{wordBytes, listFrom}
-use Rattle.sheet.specs.Head.{frontBytes}
-use Rattle.sheet.specs.Records.{recordsBytes}
+use mathlib.Core.List.{List}
 use Rattle.sheet.specs.Output.{roomError}
-use Rattle.plan.specs.declared.layout.Fault.{Fault}
-use Rattle.plan.specs.declared.reading.Plan.{Plan}
-use Rattle.plan.specs.Layout.{layoutOf, planVersion, faultForm, sizeAfter}
 use Rattle.plan.specs.Checks.{Limits, planError}
-use Rattle.plan.specs.Reading.{noFault}
 
 -- Writing back a sheet checks as its reading does, then 12.
 abbrev pub writeError : Limits → List ℕ → List ℕ → ℕ
 writeError L s o = roomError (planError L s) s o
-
--- The faults of a plan: the first `count` of its array.
-unfoldable pub planFaults : Plan → List Fault
-planFaults p = listFrom (λ i. getD (p .faults) i noFault) 0 (p .count)
-
--- Version, length of what follows, extents, wrap byte and fault count.
-unfoldable pub headBytes : Plan → List ℕ
-headBytes p =
-    frontBytes planVersion (sizeAfter (layoutOf planVersion) (p .count))
-    ++ (p .shape .x ∷ p .shape .y ∷ p .shape .z ∷ p .shape .wrap ∷ wordBytes (p .count))
-
--- The sheet of a plan.
-unfoldable pub sheetOf : Plan → List ℕ
-sheetOf p = headBytes p ++ recordsBytes faultForm (planFaults p)

@@ -19,7 +19,7 @@ use Rattle.plan.specs.declared.reading.Answer.the-variants.{Accepted}
 use Rattle.plan.specs.Layout.{shapeOf}
 use Rattle.plan.specs.Checks.{Limits, large, planError}
 use Rattle.plan.specs.Worked.{W}
-use Rattle.plan.proofs.RoundTrips as Plan
+use Rattle.plan.proofs.Worked as Plan
 use Rattle.routes.specs.declared.layout.Entry.{Entry}
 use Rattle.routes.specs.Layout.{formatBy, written, source, entryCount, entryAt, entriesOf, noEntry}
 use Rattle.routes.specs.Kinds.{viaKind, plainKind}

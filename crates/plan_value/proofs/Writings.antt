@@ -14,13 +14,13 @@ use Rattle.sheet.proofs.Records.{word-of, from-length, from-at}
 use Rattle.sheet.proofs.Forms.{records-length, records-read}
 use Rattle.sheet.specs.Output.{roomError}
 use Rattle.sheet.proofs.Outputs.{unread}
-use Rattle.plan.specs.declared.reading.Plan.{Plan}
+use Rattle.plan_value.specs.declared.reading.Plan.{Plan}
 use Rattle.plan.specs.Layout.{layoutOf, layoutIn, planVersion, faultForm, shapeOf, faultCount, faultAt, faultsOf}
 use Rattle.plan.specs.Checks.{Limits, mostFaults, Rules, planErrorBy}
-use Rattle.plan.specs.Reading.{noFault, faultArray, planOf}
-use Rattle.plan.specs.Writing.{planFaults, headBytes, sheetOf}
-use Rattle.plan.specs.Value.{FaultFits, Fits, cleared}
-use Rattle.plan.proofs.Forms.{lawful}
+use Rattle.plan_value.specs.Reading.{noFault, faultArray, planOf}
+use Rattle.plan_value.specs.Writing.{planFaults, headBytes, sheetOf}
+use Rattle.plan_value.specs.Value.{FaultFits, Fits, cleared}
+use Rattle.plan_value.proofs.Forms.{lawful}
 
 -- ---- the head
 module _ (p : Plan) where

@@ -2,11 +2,11 @@
 use Prim.Native.Nat.{ℕ, _<_}
 use lib.ListN.{getD}
 use Rattle.sheet.specs.Bytes.{arrayOf}
 use Rattle.plan.specs.declared.layout.Fault.{Fault}
-use Rattle.plan.specs.declared.reading.Plan.{Plan}
+use Rattle.plan_value.specs.declared.reading.Plan.{Plan}
 use Rattle.plan.specs.Checks.{mostFaults}
-use Rattle.plan.specs.Reading.{noFault}
-use Rattle.plan.specs.Writing.{planFaults}
+use Rattle.plan_value.specs.Reading.{noFault}
+use Rattle.plan_value.specs.Writing.{planFaults}
 
 -- The numbers that a sheet holds in two bytes fit them, as the code's u16 do.
 abbrev pub FaultFits : Fault → Type 0

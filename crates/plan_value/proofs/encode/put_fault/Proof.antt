@@ -1,7 +1,7 @@
 use Rattle.plan.specs.Layout.{layoutOf}
 use borrow.Author.Needs.{needs}
-use Rattle.plan.proofs.encode.put_fault.Statement.{statement}
-use Rattle.plan.proofs.encode.put_fault.Tie as tie
+use Rattle.plan_value.proofs.encode.put_fault.Statement.{statement}
+use Rattle.plan_value.proofs.encode.put_fault.Tie as tie
 
 mul-at : tie.Need-mul-at
 mul-at c = search needs

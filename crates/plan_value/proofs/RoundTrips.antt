@@ -1,30 +1,20 @@
 -- A plan written is read back as the same plan, and an accepted sheet is written back as the same bytes: from what the lent output holds after the call.
 use Prim.Native.Nat.{ℕ, _≤_}
-use mathlib.Core.Path.{_≡_, refl, _∙_}
+use mathlib.Core.Path.{_≡_, _∙_}
 use mathlib.Core.List.{List}
 use lib.ListN.{length}
-use Rattle.shape.specs.Shape.{shapeError, badExtents, badWraps}
-use Rattle.shape.specs.Axis.{hasLink}
-use Rattle.machine.specs.Number.{nodeCount, coordsOf}
-use Rattle.machine.specs.Hop.{dirDim, link}
-use Rattle.machine.specs.Node.{isNode}
-use Rattle.sheet.specs.Bytes.{AreBytes, listFrom}
-use Rattle.sheet.specs.Head.{version, lengthField, bytesAfter, lengthIs}
-use Rattle.sheet.proofs.Records.{are-bytes}
+use Rattle.sheet.specs.Bytes.{AreBytes}
 use Rattle.sheet.proofs.RoundTrips.{afterWriting}
 use Rattle.sheet.proofs.RoundTrips as Sheet
-use Rattle.plan.specs.declared.reading.Plan.{Plan}
-use Rattle.plan.specs.declared.reading.Reading.{Reading}
 use Rattle.plan.specs.declared.reading.Answer.the-variants.{Accepted}
-use Rattle.plan.specs.Layout.{layoutOf, shapeOf, faultCount, faultAt, faultsOf}
-use Rattle.plan.specs.Kinds.{kindDim, kindDir}
-use Rattle.plan.specs.Checks.{Limits, large, Rules, faultGood, faultKey, faultsError, planErrorBy, faultExists, planError}
-use Rattle.plan.specs.Reading.{planOf, reading}
-use Rattle.plan.specs.Writing.{sheetOf}
-use Rattle.plan.specs.Value.{Fits, cleared}
-use Rattle.plan.specs.Worked.{W}
-use Rattle.plan.proofs.Writings.{plan-read}
-use Rattle.plan.proofs.Rewriting.{read-written}
+use Rattle.plan.specs.Checks.{Limits, Rules, planErrorBy}
+use Rattle.plan_value.specs.declared.reading.Plan.{Plan}
+use Rattle.plan_value.specs.declared.reading.Reading.{Reading}
+use Rattle.plan_value.specs.Reading.{planOf, reading}
+use Rattle.plan_value.specs.Writing.{sheetOf}
+use Rattle.plan_value.specs.Value.{Fits, cleared}
+use Rattle.plan_value.proofs.Writings.{plan-read}
+use Rattle.plan_value.proofs.Rewriting.{read-written}
 
 module _ (R : Rules) (L : Limits) where
   abbrev error : List ℕ → ℕ
@@ -61,11 +51,3 @@ module _ (R : Rules) (L : Limits) where
 
       pub read-again : readFrom (afterWriting error (length s) again o) ≡ readFrom s
       read-again = Sheet.read-again error s o h l reading again same-sheet
-
--- Machine W's plan is such a sheet.
-pub w-bytes : AreBytes W
-w-bytes = are-bytes W refl
-
-pub w-accepted : planError large W ≡ 0
-unfolding planErrorBy layoutOf version lengthField bytesAfter lengthIs shapeOf faultCount faultAt faultsOf listFrom faultsError faultGood faultExists faultKey kindDim kindDir shapeError badExtents badWraps isNode nodeCount coordsOf link dirDim hasLink
-w-accepted = refl

@@ -2,11 +2,11 @@ use native.Mathlib.Omega.{arith}
 use Prim.Native.Nat.{_-_}
 use mathlib.Core.Path.{_≡_}
 use Rattle.sheet.proofs.Fill.{Filling, begin, onward, ended}
 use Rattle.plan.specs.Layout.{faultCount, faultAt, faultsOf}
-use Rattle.plan.specs.Reading.{noFault, faultArray}
+use Rattle.plan_value.specs.Reading.{noFault, faultArray}
 use Rattle.plan.proofs.Plans.{within-large}
-use Rattle.plan.proofs.reading.faults_in.Statement.{statement}
-use Rattle.plan.proofs.reading.faults_in.Tie as tie
+use Rattle.plan_value.proofs.reading.faults_in.Statement.{statement}
+use Rattle.plan_value.proofs.reading.faults_in.Tie as tie
 
 abbrev Inv-loop : tie.InvT-loop
 Inv-loop sheet count faults₀ i₀ faults i = (count ≡ faultCount sheet) × Filling noFault (faultAt sheet) 256 count faults i

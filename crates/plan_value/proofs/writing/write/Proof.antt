@@ -4,11 +4,11 @@ use lib.Seq.{length-take-le}
 use borrow.Author.Needs.{needs}
 use Rattle.numbers.specs.Numbers.{manyFaults}
 use Rattle.sheet.proofs.Outputs.{refused}
 use Rattle.plan.specs.Layout.{layoutOf}
 use Rattle.plan.specs.Checks.{torusPlans}
-use Rattle.plan.proofs.Writings.{too-many}
-use Rattle.plan.proofs.writing.write.Statement.{statement}
-use Rattle.plan.proofs.writing.write.Tie as tie
+use Rattle.plan_value.proofs.Writings.{too-many}
+use Rattle.plan_value.proofs.writing.write.Statement.{statement}
+use Rattle.plan_value.proofs.writing.write.Tie as tie
 
 returns : tie.Need-returns
 returns c = refused _ manyFaults _ _ (too-many _ torusPlans _ (c .if1 .taken) (omega arith) _) (omega arith)

@@ -1,18 +1,18 @@
 // The bytes of a plan's sheet, of at most 256 faults.
-use crate::layout::FAULT_SIZE;
-use crate::layout::Fault;
-use crate::layout::HEAD_SIZE;
-use crate::layout::VERSION;
-use crate::layout::size_after;
 use crate::reading::Plan;
+use plan::Fault;
+use plan::layout::FAULT_SIZE;
+use plan::layout::HEAD_SIZE;
+use plan::layout::VERSION;
+use plan::layout::size_after;
 use sheet::lower;
 use sheet::upper;
 ghost use mathlib.Core.Path.{_≡_};
 ghost use Prim.Native.Nat.{_+_, _*_, _<_, _≤_};
 ghost use lib.ListN.{take};
 ghost use Rattle.plan.specs.Layout.{layoutOf, planVersion};
-ghost use Rattle.plan.specs.Steps.{putFault};
-ghost use Rattle.plan.specs.Writing.{headBytes, sheetOf};
+ghost use Rattle.plan_value.specs.Steps.{putFault};
+ghost use Rattle.plan_value.specs.Writing.{headBytes, sheetOf};
 
 fn head(plan: Plan) -> [u8; 777]
     requires { ⌜ plan .count ≤ 256 ⌝ }

@@ -10,10 +10,10 @@ use Rattle.sheet.specs.Bytes.{byte, AreBytes, listFrom}
 use Rattle.sheet.proofs.Records.{word-of, upper-of, lower-of, word-below}
 use Rattle.sheet.proofs.Forms.{Lawful}
 use Rattle.sheet.proofs.Encoding.{Encoding, onward}
 use Rattle.plan.specs.declared.layout.Fault.{Fault}
 use Rattle.plan.specs.Layout.{layoutOf, planVersion, faultForm}
-use Rattle.plan.specs.Value.{FaultFits}
-use Rattle.plan.specs.Steps.{putFault}
+use Rattle.plan_value.specs.Value.{FaultFits}
+use Rattle.plan_value.specs.Steps.{putFault}
 
 -- A fault put in its place is its bytes in a row.
 pub put-row : (l : List ℕ) (i : ℕ) (f : Fault) → putFault l i f ≡ sets l (layoutOf planVersion .headSize + 3 * i) (faultForm .bytes f)

@@ -3,13 +3,13 @@ use native.Mathlib.Omega.{arith}
 use mathlib.Core.Path.{_≡_, refl, ap, _∙_}
 use lib.ListN.{length, getD, length-set}
 use Rattle.sheet.proofs.Encoding.{begin, ended}
 use Rattle.plan.specs.Layout.{layoutOf, faultForm}
-use Rattle.plan.specs.Reading.{noFault}
-use Rattle.plan.proofs.Forms.{lawful, Encoded, fault-put}
-use Rattle.plan.proofs.Writings.{whole}
+use Rattle.plan_value.specs.Reading.{noFault}
+use Rattle.plan_value.proofs.Forms.{lawful, Encoded, fault-put}
+use Rattle.plan_value.proofs.Writings.{whole}
 use borrow.Author.Needs.{needs}
-use Rattle.plan.proofs.encode.encoded.Statement.{statement}
-use Rattle.plan.proofs.encode.encoded.Tie as tie
+use Rattle.plan_value.proofs.encode.encoded.Statement.{statement}
+use Rattle.plan_value.proofs.encode.encoded.Tie as tie
 
 abbrev Inv-loop : tie.InvT-loop
 Inv-loop count faults bytes₀ i₀ bytes i = ((count ≤ 256) × (length bytes ≡ 777)) × Encoded count (λ k. getD faults k noFault) bytes₀ bytes i

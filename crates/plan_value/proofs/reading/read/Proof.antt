@@ -1,8 +1,8 @@
-use Rattle.plan.specs.Reading.{planOf, reading}
+use Rattle.plan_value.specs.Reading.{planOf, reading}
 use mathlib.Core.Path.{sym, _∙_}
-use Rattle.plan.proofs.Readings.{refused, read-as}
-use Rattle.plan.proofs.reading.read.Statement.{statement}
-use Rattle.plan.proofs.reading.read.Tie as tie
+use Rattle.plan_value.proofs.Readings.{refused, read-as}
+use Rattle.plan_value.proofs.reading.read.Statement.{statement}
+use Rattle.plan_value.proofs.reading.read.Tie as tie
 
 check-requires : tie.Need-check-requires
 check-requires c κs = tt

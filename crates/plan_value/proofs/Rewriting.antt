@@ -10,13 +10,13 @@ use Rattle.sheet.specs.Head.{version}
 use Rattle.sheet.proofs.Records.{from-length, array-first, array-from, front}
 use Rattle.sheet.proofs.Heads.{word-same, front-same}
 use Rattle.sheet.proofs.Forms.{records-same}
 use Rattle.plan.specs.Layout.{layoutOf, layoutIn, planVersion, faultForm, sizeAfter, shapeOf, faultCount, faultAt, faultsOf}
 use Rattle.plan.specs.Checks.{Limits, mostFaults, Rules, planErrorBy}
-use Rattle.plan.specs.Reading.{noFault, faultArray, planOf}
-use Rattle.plan.specs.Writing.{planFaults, headBytes, sheetOf}
-use Rattle.plan.specs.Value.{FaultFits, Fits, cleared}
+use Rattle.plan_value.specs.Reading.{noFault, faultArray, planOf}
+use Rattle.plan_value.specs.Writing.{planFaults, headBytes, sheetOf}
+use Rattle.plan_value.specs.Value.{FaultFits, Fits, cleared}
 use Rattle.plan.proofs.Plans.{Head, accepted}
-use Rattle.plan.proofs.Forms.{lawful}
+use Rattle.plan_value.proofs.Forms.{lawful}
 
 counted : (s : List ℕ) → length (faultsOf s) ≡ faultCount s
 unfolding faultsOf

@@ -1,9 +1,9 @@
-use Rattle.plan.specs.Writing.{headBytes}
+use Rattle.plan_value.specs.Writing.{headBytes}
 use Rattle.plan.specs.Layout.{layoutOf}
 use native.Mathlib.Omega.{arith}
 use borrow.Author.Needs.{needs}
-use Rattle.plan.proofs.encode.head.Statement.{statement}
-use Rattle.plan.proofs.encode.head.Tie as tie
+use Rattle.plan_value.proofs.encode.head.Statement.{statement}
+use Rattle.plan_value.proofs.encode.head.Tie as tie
 
 size-after-requires : tie.Need-size-after-requires
 size-after-requires c κs = search needs

@@ -1,0 +1,5 @@
+pub mod Reading
+pub mod Writing
+pub mod Value
+-- The code's own steps.
+pub mod Steps

@@ -1,0 +1,72 @@
+// Reading a plan sheet: an accepted sheet as a value, or the number.
+use plan::Answer;
+use plan::Fault;
+use plan::check;
+use plan::layout::count_in;
+use plan::layout::fault_in;
+use plan::layout::shape_in;
+use shape::Shape;
+ghost use mathlib.Core.Path.{_≡_};
+ghost use Rattle.plan.specs.Checks.{large, planError};
+ghost use Rattle.plan_value.specs.Reading.{faultArray, reading};
+
+// The faults are the first `count` of the array.
+pub struct Plan {
+    pub shape: Shape,
+    pub count: u16,
+    pub faults: [Fault; 256],
+}
+
+pub struct Reading {
+    pub answer: Answer,
+    pub plan: Plan,
+}
+
+// The faults of an accepted sheet, and zeros past them.
+fn faults_in(sheet: &[u8]) -> [Fault; 256]
+    requires { ⌜ planError large (now sheet) ≡ 0 ⌝ }
+    ensures { λ r. ⌜ r ≡ faultArray (now (sheet .entry)) ⌝ }
+{
+    let count = count_in(sheet) as usize;
+    let mut faults = [Fault { node: 0, kind: 0 }; 256];
+    let mut i: usize = 0;
+    while i < count {
+        faults[i] = fault_in(sheet, i as u16);
+        i = i + 1;
+    }
+    faults
+}
+
+pub fn read(sheet: &[u8]) -> Reading
+    ensures { λ r. ⌜ r ≡ reading (planError large (now (sheet .entry))) (now (sheet .entry)) ⌝ }
+{
+    let error = check(sheet);
+    if error != 0 {
+        let none = [Fault { node: 0, kind: 0 }; 256];
+        let shape = Shape {
+            x: 0,
+            y: 0,
+            z: 0,
+            wrap: 0,
+        };
+        let plan = Plan {
+            shape: shape,
+            count: 0,
+            faults: none,
+        };
+        return Reading {
+            answer: Answer::Refused(error),
+            plan: plan,
+        };
+    }
+    let faults = faults_in(sheet);
+    let plan = Plan {
+        shape: shape_in(sheet),
+        count: count_in(sheet),
+        faults: faults,
+    };
+    Reading {
+        answer: Answer::Accepted,
+        plan: plan,
+    }
+}
