@@ -2,16 +2,14 @@
 use Prim.Native.Nat.{ℕ, zero, suc, _+_, _*_, _≤_, _<_}
 use native.Mathlib.Omega.{arith}
 use mathlib.Core.Path.{_≡_, refl}
-use mathlib.Core.Bool.{Bool, true, false, not}
+use mathlib.Core.Bool.{not}
 use mathlib.Core.List.{List, [], _∷_, _++_}
 use lib.ListN.{length, length-append}
 use lib.Dec.{ltb}
-use Rattle.numbers.specs.Numbers.{planShort, planVersionUnknown, manyFaults, wrongLength, extentOutside, wrongWrap, noSuchFault, faultNotAbove, nodeOutside, deadEnd}
-use Rattle.theory.specs.Checks.{declined, _then_}
+use Rattle.numbers.specs.Numbers.{planShort, nodeOutside, deadEnd}
+use Rattle.theory.specs.Checks.{_then_}
 use Rattle.theory.specs.Machine.{sumBy}
-use Rattle.sheet.specs.Head.{lengthIs}
 use Rattle.shape.specs.declared.shape.Shape.{Shape}
-use Rattle.shape.specs.Shape.{badExtents, badWraps, shapeError}
 use Rattle.machine.specs.declared.leg.Mode.{Mode}
 use Rattle.machine.specs.declared.leg.Mode.the-variants.{Adaptive, Deterministic}
 use Rattle.machine.specs.Number.{nodeCount}
@@ -19,9 +17,9 @@ use Rattle.machine.specs.Node.{isNode}
 use Rattle.machine.specs.Torus.{leg}
 use Rattle.machine.proofs.Nodes.{Node, node-of}
 use Rattle.machine.proofs.Laws.{distance-most}
-use Rattle.plan.specs.declared.layout.Fault.{Fault}
-use Rattle.plan.specs.Layout.{layoutIn, sizeAfter, shapeOf, faultCount, faultsOf}
-use Rattle.plan.specs.Checks.{Limits, large, mostFaults, torusPlans, faultGood, faultKey, faultsError, planErrorBy, planError}
+use Rattle.plan.specs.Layout.{shapeOf, faultCount, faultsOf}
+use Rattle.plan.specs.Checks.{large, planError}
+use Rattle.plan.proofs.Most.{then-most, check-most, plan-most}
 use Rattle.plan.proofs.Plans.{within-large}
 use Rattle.dead.specs.Dead.{deadNode}
 use Rattle.choice.specs.Choice.{AdmitsIn, viasOf, lengthOf}
@@ -37,44 +35,13 @@ use Rattle.listing_text.proofs.Decimals.{at-most-1, at-most-2, at-most-
 use Rattle.listing_text.proofs.Sources.{source-sound, node-below}
 
 -- ---- numbers of refusals
-then-most : (n e k : ℕ) → e ≤ n → k ≤ n → (e then k) ≤ n
-then-most n zero k h g = g
-then-most n (suc e) k h g = h
-
-declined-most : (n : ℕ) (b : Bool) (k : ℕ) → k ≤ n → declined b k ≤ n
-declined-most n true k h = h
-declined-most n false k h = omega arith
-
-check-most : (b : Bool) (n k : ℕ) → n ≤ 10 → k ≤ 10 → (declined b n then k) ≤ 10
-check-most b n k h g = then-most 10 (declined b n) k (declined-most 10 b n h) g
-
-faults-most : (last : ℕ) (s : Shape) (least : ℕ) (fs : List Fault) → faultsError torusPlans last s least fs ≤ 10
-unfolding faultsError
-faults-most last s least [] = omega arith
-faults-most last s least (f ∷ fs) =
-    check-most (not (faultGood torusPlans last s f)) noSuchFault _ (omega arith)
-    (check-most (ltb (faultKey f) least) faultNotAbove _ (omega arith) (faults-most last s (faultKey f + 1) fs))
-
-shape-most : (s : Shape) → shapeError s ≤ 10
-unfolding shapeError
-shape-most s = check-most (badExtents s) extentOutside _ (omega arith) (check-most (badWraps s) wrongWrap 0 (omega arith) (omega arith))
-
-plan-most : (L : Limits) (p : List ℕ) → planError L p ≤ 10
-unfolding planErrorBy
-plan-most L p =
-    check-most (ltb (length p) (layoutIn p .headSize)) planShort _ (omega arith)
-    (check-most (not (layoutIn p .known)) planVersionUnknown _ (omega arith)
-    (check-most (ltb mostFaults (faultCount p)) manyFaults _ (omega arith)
-    (check-most (not (lengthIs p (sizeAfter (layoutIn p) (faultCount p)))) wrongLength _ (omega arith)
-    (then-most 10 (shapeError (shapeOf p)) _ (shape-most (shapeOf p)) (faults-most (layoutIn p .lastKind) (shapeOf p) 0 (faultsOf p))))))
-
 listing-most : (i : List ℕ) → listingError i ≤ 10
 unfolding listingError sourceError
 listing-most i =
-    check-most (ltb (length i) 2) planShort _ (omega arith)
-    (then-most 10 (planError large (planIn i)) _ (plan-most large (planIn i))
-    (check-most (not (isNode (shapeOf (planIn i)) (sourceIn i))) nodeOutside _ (omega arith)
-    (check-most (deadNode (faultsOf (planIn i)) (sourceIn i)) deadEnd 0 (omega arith) (omega arith))))
+    check-most 10 (ltb (length i) 2) planShort _ (omega arith)
+    (then-most 10 (planError large (planIn i)) _ (omega (arith, plan-most large (planIn i)))
+    (check-most 10 (not (isNode (shapeOf (planIn i)) (sourceIn i))) nodeOutside _ (omega arith)
+    (check-most 10 (deadNode (faultsOf (planIn i)) (sourceIn i)) deadEnd 0 (omega arith) (omega arith))))
 
 -- ---- lines
 line-length : (f g : List ℕ) (fs : List (List ℕ)) → length (line (f ∷ (g ∷ fs))) ≡ length f + 1 + length (line (g ∷ fs))

@@ -9,15 +9,20 @@ use Rattle.sheet.specs.Records.{Form, recordAt, recordsAfter}
 use Rattle.shape.specs.declared.shape.Shape.{Shape}
 use Rattle.plan.specs.declared.layout.Fault.{Fault}
 
--- What a version byte says: whether there is such a version, the bytes before the faults, which are the least length, and the highest kind of a fault.
+-- What a version byte says: whether there is such a version, how many weight bytes stand behind the wrap byte, the bytes before the faults, which are
+-- the least length, and the highest kind of a fault.
 pub record Layout : Type 0 where
   pub known : Bool
+  pub weights : ℕ
   pub headSize : ℕ
   pub lastKind : ℕ
 
--- Version 1. Every other byte reads as it, and is not known.
+abbrev pub laidOut : Bool → ℕ → ℕ → Layout
+laidOut known weights lastKind = record { known = known; weights = weights; headSize = 9 + weights; lastKind = lastKind }
+
+-- Version 1: no weights, so that each hop adds 1 to a length; kinds 0 to 3. Every other byte reads as it, and is not known.
 unfoldable pub layoutOf : ℕ → Layout
-layoutOf v = record { known = eqb v 1; headSize = 9; lastKind = 3 }
+layoutOf v = laidOut (eqb v 1) 0 3
 
 abbrev pub layoutIn : List ℕ → Layout
 layoutIn s = layoutOf (version s)
