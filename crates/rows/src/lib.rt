@@ -1,0 +1,1 @@
+// Sets of nodes as rows of bits.
