@@ -1,0 +1,1 @@
+// The losses of a plan: one for each fault.
