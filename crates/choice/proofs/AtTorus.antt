@@ -1,5 +1,5 @@
 -- The laws of the choices at the machine of document 01: clear legs by walks, lengths by distance.
-use Prim.Native.Nat.{ℕ, suc, _+_, _<_}
+use Prim.Native.Nat.{ℕ, suc, _+_, _<_, _≤_}
 use mathlib.Core.Path.{_≡_, refl}
 use mathlib.Core.Bool.{Bool, true}
 use mathlib.Core.List.{[], _∷_}
@@ -24,7 +24,7 @@ use Rattle.choice.specs.Pair.{routeBy}
 use Rattle.choice.proofs.Lists.{below-targets}
 use Rattle.choice.proofs.Listed.{lists-admits}
 use Rattle.choice.proofs.Further as Further
-use Rattle.choice.proofs.Direct as Direct
+use Rattle.choice.proofs.Shortest as Shortest
 
 -- The targets of an admitted choice are nodes.
 below-inside : (s : Shape) (c : Choice) → Below (nodeCount s) (targetsOf c) → Inside (torus s) c
@@ -34,6 +34,10 @@ below-inside s (l ∷ ls) h = (h .0, below-inside s ls (h .1))
 
 pub admits-inside : (s : Shape) (S D : ℕ) → D < nodeCount s → (c : Choice) → AdmitsIn s S D c → Inside (torus s) c
 admits-inside s S D hD c a = below-inside s c (below-targets (nodeCount s) S c (rw (a .ends) hD) (a .inside))
+
+-- No way by a node is shorter than the leg.
+pub leg-triangle : (s : Shape) → shapeError s ≡ 0 → (p v t : ℕ) → p < nodeCount s → v < nodeCount s → t < nodeCount s → legLength s p t ≤ legLength s p v + legLength s v t
+leg-triangle s h p v t hp hv ht = triangle s h (distance s p v) p v t hp hv ht refl
 
 module _ (s : Shape) (h : shapeError s ≡ 0) (sound : ℕ → ℕ → Bool) (S D : ℕ) (hS : S < nodeCount s) (hD : D < nodeCount s) where
   -- An empty leg is clear.
@@ -49,9 +53,7 @@ module _ (s : Shape) (h : shapeError s ≡ 0) (sound : ℕ → ℕ → Bool) (S 
   -- No choice comes before a clear direct adaptive leg.
   pub direct-first : clear (torus s) sound (leg D Adaptive) S ≡ true → routeBy s sound S D ≡ some (leg D Adaptive ∷ [])
   unfolding routeBy planned firstBy
-  direct-first c =
-      Direct.direct-first (legLength s) (nodeCount s) (distance-self s) (λ p v t hp hv ht. triangle s h (distance s p v) p v t hp hv ht refl)
-      (clear (torus s) sound) mostVias S D hS hD c
+  direct-first c = Shortest.direct-first (legLength s) (nodeCount s) (distance-self s) (leg-triangle s h) (clear (torus s) sound) mostVias S D hS hD c
 
   -- Two accounts of the sound links that agree where there are links give one route.
   pub route-same : (other : ℕ → ℕ → Bool) → ((n d : ℕ) → n < nodeCount s → link s n d ≡ true → sound n d ≡ other n d) → routeBy s sound S D ≡ routeBy s other S D

@@ -4,7 +4,10 @@ pub mod Listed
 pub mod Tidy
 pub mod Further
 pub mod OneVia
-pub mod Direct
+pub mod Shortest
+pub mod Zero
+pub mod Forced
 pub mod AtTorus
+pub mod Search
 pub mod Demand
 pub mod Worked

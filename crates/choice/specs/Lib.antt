@@ -1,6 +1,7 @@
 pub mod Choice
 pub mod OneVia
 pub mod Further
+pub mod Search
 pub mod Answer
 pub mod Outcome
 pub mod Pair
