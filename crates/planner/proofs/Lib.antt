@@ -5,6 +5,7 @@ pub mod KeyBytes
 pub mod Cells
 pub mod Decoded
 pub mod Planned
+pub mod NextOutside
 pub mod Pairs
 pub mod OneDestination
 pub mod Planning

@@ -6,3 +6,4 @@ pub mod KeyNumber
 pub mod KeyByte
 pub mod OneDestination
 pub mod Steps
+pub mod Outside

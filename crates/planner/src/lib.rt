@@ -3,5 +3,6 @@ mod choose;
 mod key_byte;
 mod key_number;
 pub mod one_destination;
+mod outside;
 pub mod pair;
 pub mod sheets;
