@@ -4,3 +4,8 @@ pub mod ByKind
 pub mod Parts
 pub mod Listing
 pub mod Sound
+pub mod Back
+pub mod Links
+pub mod Lies
+pub mod Clearing
+pub mod AtPlan

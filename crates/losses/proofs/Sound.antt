@@ -1,5 +1,5 @@
 -- The links that a plan's losses leave sound are the plan's sound links.
-use Prim.Native.Nat.{ℕ, _+_, _-_, _*_, _/_, _≤_, _<_}
+use Prim.Native.Nat.{ℕ, _+_, _-_, _*_, _/_, _<_}
 use native.Mathlib.Omega.{arith}
 use mathlib.Core.Path.{_≡_, refl, sym, ap, _∙_, subst}
 use mathlib.Core.Bool.{Bool, true, false, not, _&&_, _||_}
@@ -7,7 +7,6 @@ use mathlib.Core.Logic.{⊎-elim}
 use mathlib.Core.List.{List}
 use lib.ListN.{getD}
 use lib.Dec.{eqb}
-use borrow.Author.Tests.{eqb-true, ltb-true, ne-eqb}
 use Rattle.theory.proofs.Bools.{eqb-same}
 use Rattle.theory.proofs.Cases.{test}
 use Rattle.shape.specs.declared.shape.Shape.{Shape}
@@ -18,7 +17,6 @@ use Rattle.machine.specs.Number.{nodeCount, coordsOf, Inside}
 use Rattle.machine.specs.Hop.{plusDir, opposite, link, neighbour}
 use Rattle.machine.specs.ByCoords.{movedAt}
 use Rattle.machine.proofs.ByCoords.{neighbour-coords}
-use Rattle.machine.proofs.Nodes.{Node}
 use Rattle.plan.specs.declared.layout.Fault.{Fault}
 use Rattle.plan.specs.Layout.{shapeOf, faultCount, faultAt, faultsOf}
 use Rattle.plan.specs.Kinds.{linkKind, nodeKind, kindDim, kindDir}
@@ -26,7 +24,7 @@ use Rattle.plan.specs.Checks.{large, torusPlans, faultExists, planError}
 use Rattle.plan.proofs.Listed.{fault-exists}
 use Rattle.plan.proofs.Readings.{is-plan}
 use Rattle.dead.specs.Dead as Dead
-use Rattle.dead.specs.Dead.{some, deadLink}
+use Rattle.dead.specs.Dead.{deadLink}
 use Rattle.dead.proofs.Links.{kind-low, names-of-node, names-of-link, exists-of}
 use Rattle.dead.proofs.Laws.{sound-or-dead}
 use Rattle.choice.specs.Pair.{soundIn}
