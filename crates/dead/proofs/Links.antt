@@ -110,13 +110,13 @@ from-is s m e (suc k) n d t =
 
 -- ---- what a fault names, by its kind
 module _ (f : Fault) (n d to : ℕ) where
-  names-of-node : nodeKind (f .kind) ≡ true → names f n d to ≡ (eqb (f .node) n || eqb (f .node) to)
+  pub names-of-node : nodeKind (f .kind) ≡ true → names f n d to ≡ (eqb (f .node) n || eqb (f .node) to)
   unfolding names namesNode namesLink
   names-of-node h =
       let e = eqb-true (f .kind) 3 h in
       rw (h, le-ltb (f .kind) 3 (omega arith)) (or-off (eqb (f .node) n || eqb (f .node) to))
 
-  names-of-link : nodeKind (f .kind) ≡ false → linkKind (f .kind) ≡ true → names f n d to ≡ ((eqb d (kindDir (f .kind)) && eqb (f .node) n) || (eqb d (opposite (kindDir (f .kind))) && eqb (f .node) to))
+  pub names-of-link : nodeKind (f .kind) ≡ false → linkKind (f .kind) ≡ true → names f n d to ≡ ((eqb d (kindDir (f .kind)) && eqb (f .node) n) || (eqb d (opposite (kindDir (f .kind))) && eqb (f .node) to))
   unfolding names namesNode namesLink
   names-of-link h l = rw (h, l)
 

@@ -1,2 +1,11 @@
+pub mod SomeBelow
+pub mod Same
+pub mod ByKind
 pub mod Parts
 pub mod Listing
+pub mod Sound
+pub mod Back
+pub mod Links
+pub mod Lies
+pub mod Clearing
+pub mod AtPlan

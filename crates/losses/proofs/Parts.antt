@@ -13,7 +13,7 @@ use Rattle.machine.specs.Number.{coordsOf, Inside}
 use Rattle.machine.specs.Node.{coordsAnswer}
 use Rattle.machine.proofs.Numbers.{inside}
 use Rattle.plan.specs.declared.layout.Fault.{Fault}
-use Rattle.plan.specs.Kinds.{nodeKind, kindDir}
+use Rattle.plan.specs.Kinds.{nodeKind}
 use Rattle.plan.specs.Checks.{faultExists}
 use Rattle.dead.proofs.Links.{kind-low, exists-of}
 use Rattle.dead.proofs.Answers.{exists-node}

@@ -7,7 +7,6 @@ use lib.ListN.{getD}
 use lib.Dec.{ltb, eqb}
 use Rattle.shape.specs.declared.shape.Shape.{Shape}
 use Rattle.shape.specs.declared.shape.Coords.{Coords}
-use Rattle.shape.specs.declared.shape.Dim.the-variants.{X, Y, Z}
 use Rattle.shape.specs.Shape.{extentOf, coordOf}
 use Rattle.machine.specs.declared.leg.Mode.{Mode}
 use Rattle.machine.specs.Number.{coordsOf}
@@ -63,6 +62,7 @@ linkMeets ties m s u plus a t =
 unfoldable pub linksMeet : (ℕ → Bool) → Mode → Shape → Coords → ℕ → Coords → Coords → Bool
 linksMeet ties m s u plus a t = linkMeets ties m s u plus a t || linkMeets ties m s (movedAt s u (plus + 1)) plus a t
 
+-- Any link of u, which is a node of the shape.
 unfoldable pub nodeMeets : (ℕ → Bool) → Mode → Shape → Coords → Coords → Coords → Bool
 nodeMeets ties m s u a t = linksMeet ties m s u 0 a t || (linksMeet ties m s u 2 a t || linksMeet ties m s u 4 a t)
 

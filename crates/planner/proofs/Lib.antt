@@ -4,6 +4,8 @@ pub mod Order
 pub mod KeyBytes
 pub mod Cells
 pub mod Decoded
+pub mod ViaNumbers
+pub mod General
 pub mod Planned
 pub mod NextOutside
 pub mod Pairs
