@@ -1,2 +1,5 @@
 pub mod Bits
 pub mod Rows
+pub mod Product
+-- The code's own steps.
+pub mod Planes
