@@ -17,6 +17,12 @@ use Rattle.rows.specs.Product.{Less, Are, product}
 use Rattle.rows.specs.Planes.{keptRow, planeTo, planeIf, productTo}
 use Rattle.rows.proofs.Bits.{bit-and, bit-past, bit-not}
 
+module _ {A : Type 0} (d : A) where
+  pub getD-same : (n k : ℕ) → getD (replicate n d) k d ≡ d
+  getD-same zero k = refl
+  getD-same (suc n) zero = refl
+  getD-same (suc n) (suc k) = getD-same n k
+
 -- ---- a list filled from the front
 pub record Filled (f : ℕ → ℕ) (n : ℕ) (l : List ℕ) (i : ℕ) : Type 0 where
   pub most : i ≤ n

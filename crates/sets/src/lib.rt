@@ -1,0 +1,1 @@
+// The legs that are clear, as sets of nodes.
