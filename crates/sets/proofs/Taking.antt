@@ -1,0 +1,113 @@
+-- Losses taken away one after the other.
+use Prim.Native.Nat.{ℕ, suc, _+_, _-_, _*_, _/_, _%_, _≤_, _<_, min}
+use native.Mathlib.Omega.{arith}
+use native.Mathlib.Numerals.{add-one}
+use mathlib.Core.Path.{_≡_, refl, sym, ap, _∙_}
+use mathlib.Core.Bool.{Bool, true, false, cond, not, _&&_, _||_}
+use mathlib.Core.List.{List}
+use lib.ListN.{length, getD}
+use lib.Dec.{ltb, eqb}
+use borrow.Author.Tests.{lt-ltb, le-ltb, eq-eqb, ne-eqb}
+use Rattle.rows.specs.Bits.{bit}
+use Rattle.rows.specs.Product.{nodeAt, Less, Are, product}
+use Rattle.rows.proofs.Taking.{less-none, less-same}
+use Rattle.losses.specs.Loss.{lossKind, someBelow}
+use Rattle.sets.specs.Part.{kindDim, kindOwn, column, maskIn, partIn, deadIn, lossIn}
+use Rattle.sets.specs.Clear.{someIn, clearIn}
+
+-- ---- the column of a dimension
+pub column-own : (kind d own v : ℕ) → own ≡ kindDim kind → own ≡ d → v ≡ kindOwn kind → v ≡ column kind d
+unfolding column
+column-own kind d own v e q h = rw (eq-eqb (kindDim kind) d (sym e ∙ q)) h
+
+pub column-before : (kind d own : ℕ) → own ≡ kindDim kind → (own ≡ d → ⊥) → d < own → 0 ≡ column kind d
+unfolding column
+column-before kind d own e q h = rw (ne-eqb (kindDim kind) d (λ w. q (e ∙ w)), lt-ltb d (kindDim kind) (omega (arith, e)))
+
+pub column-behind : (kind d own : ℕ) → own ≡ kindDim kind → (own ≡ d → ⊥) → own ≤ d → 3 ≡ column kind d
+unfolding column
+column-behind kind d own e q h = rw (ne-eqb (kindDim kind) d (λ w. q (e ∙ w)), le-ltb d (kindDim kind) (omega (arith, e)))
+
+-- ---- one loss
+pub part-is :
+    (ends : List ℕ) (kind w x y z : ℕ) (old new : List ℕ) →
+    x ≡ maskIn ends kind 0 (w % 16) → y ≡ maskIn ends kind 1 (w / 16 % 16) → z ≡ maskIn ends kind 2 (w / 256 % 16) → Less (product x y z) old new →
+    Less (λ r x. partIn ends kind w (nodeAt r x)) old new
+unfolding partIn product
+part-is ends kind w x y z old new ex ey ez p = less-same _ _ old new p (λ r b l m. rw (ex, ey, ez))
+
+-- What is taken away one after the other is taken away together.
+less-then : (f g : ℕ → ℕ → Bool) (old mid new : List ℕ) → Less f old mid → Less g mid new → Less (λ r x. f r x || g r x) old new
+less-then f g old mid new p q = record {
+  long = q .long ∙ p .long;
+  bits = λ w r x l m. q .bits (p .long ∙ w) r x l m ∙ rw (p .bits w r x l m) (go (bit (getD old r 0) x) (f r x) (g r x));
+}
+  where
+    go : (v a b : Bool) → ((v && not a) && not b) ≡ (v && not (a || b))
+    go true true b = refl
+    go true false b = refl
+    go false a b = refl
+
+pub dead-is :
+    (ends : List ℕ) (w : ℕ) (one two three four : List ℕ) →
+    Less (λ r x. partIn ends 9 w (nodeAt r x)) one two → Less (λ r x. partIn ends 10 w (nodeAt r x)) two three → Less (λ r x. partIn ends 11 w (nodeAt r x)) three four →
+    Less (λ r x. deadIn ends w (nodeAt r x)) one four
+unfolding deadIn
+dead-is ends w one two three four p q t = less-then _ _ one two four p (less-then _ _ two three four q t)
+
+pub loss-part : (ends : List ℕ) (w : ℕ) (old new : List ℕ) → w / 4096 < 9 → Less (λ r x. partIn ends (w / 4096) w (nodeAt r x)) old new → Less (λ r x. lossIn ends w (nodeAt r x)) old new
+unfolding lossIn
+loss-part ends w old new h p = less-same _ _ old new p (λ r x l m. rw (lt-ltb (w / 4096) 9 h))
+
+pub loss-dead : (ends : List ℕ) (w : ℕ) (old new : List ℕ) → 9 ≤ w / 4096 → w / 4096 ≡ 9 → Less (λ r x. deadIn ends w (nodeAt r x)) old new → Less (λ r x. lossIn ends w (nodeAt r x)) old new
+unfolding lossIn
+loss-dead ends w old new h e p = less-same _ _ old new p (λ r x l m. rw (le-ltb (w / 4096) 9 h, eq-eqb (w / 4096) 9 e))
+
+pub loss-none : (ends : List ℕ) (w : ℕ) (old : List ℕ) → 9 ≤ w / 4096 → (w / 4096 ≡ 9 → ⊥) → Less (λ r x. lossIn ends w (nodeAt r x)) old old
+unfolding lossIn
+loss-none ends w old h ne = less-none _ old (λ r x l m. rw (le-ltb (w / 4096) 9 h, ne-eqb (w / 4096) 9 ne))
+
+-- ---- one loss after the other
+pub record Clearing (bx by bz : ℕ) (ends losses rows : List ℕ) (n i : ℕ) : Type 0 where
+  pub most : i ≤ n
+  pub clipped : n ≤ 256
+  pub are : Are (λ r x. product bx by bz r x && not (someIn ends losses i r x)) rows
+
+pub clear-begin : (bx by bz : ℕ) (ends losses rows : List ℕ) (count n : ℕ) → n ≡ min count 256 → Are (product bx by bz) rows → Clearing bx by bz ends losses rows n 0
+unfolding someIn someBelow
+clear-begin bx by bz ends losses rows count n e p = record {
+  most = omega arith;
+  clipped = omega arith;
+  are = record { long = p .long; bits = λ r x l m. p .bits r x l m ∙ go (product bx by bz r x) };
+}
+  where
+    go : (b : Bool) → b ≡ (b && not false)
+    go true = refl
+    go false = refl
+
+pub clear-turn :
+    (bx by bz : ℕ) (ends losses rows next : List ℕ) (n i w : ℕ) → Clearing bx by bz ends losses rows n i → i < n → w ≡ getD losses i 0 →
+    Less (λ r x. lossIn ends w (nodeAt r x)) rows next → Clearing bx by bz ends losses next n (i + 1)
+unfolding someIn someBelow
+clear-turn bx by bz ends losses rows next n i w p h e q = record {
+  most = omega arith;
+  clipped = p .clipped;
+  are = record {
+    long = q .long ∙ p .are .long;
+    bits = λ r x l m. q .bits (p .are .long) r x l m ∙ rw (p .are .bits r x l m, e, add-one i) (go (product bx by bz r x) (lossIn ends (getD losses i 0) (nodeAt r x)) (someBelow i (λ j. lossIn ends (getD losses j 0) (nodeAt r x))));
+  };
+}
+  where
+    go : (v a b : Bool) → ((v && not b) && not a) ≡ (v && not (a || b))
+    go true true true = refl
+    go true true false = refl
+    go true false true = refl
+    go true false false = refl
+    go false a b = refl
+
+pub clear-end : (bx by bz : ℕ) (ends losses rows : List ℕ) (count n i : ℕ) → n ≡ min count 256 → Clearing bx by bz ends losses rows n i → n ≤ i → Are (clearIn bx by bz ends losses count) rows
+unfolding clearIn
+clear-end bx by bz ends losses rows count n i e p h =
+    let m = p .most in
+    let q : i ≡ min count 256 = omega arith in
+    record { long = p .are .long; bits = λ r x l k. p .are .bits r x l k ∙ rw q }

@@ -1,0 +1,75 @@
+// The nodes of a product with a clear leg from one end, or to it, as rows of bits.
+use crate::part::column;
+use rows::product::less;
+use rows::product::product;
+ghost use mathlib.Core.Path.{_≡_};
+ghost use Prim.Native.Nat.{_≤_, _<_, min};
+ghost use Rattle.rows.specs.Product.{nodeAt, Less, Are};
+ghost use Rattle.sets.specs.Part.{maskIn, partIn, deadIn, lossIn};
+ghost use Rattle.sets.specs.Clear.{clearIn};
+
+fn mask_in(ends: &[u16; 288], kind: u16, d: u16, c: u16) -> u16
+    requires { ⌜ (d < 3) × (c < 16) ⌝ }
+    ensures { λ r. ⌜ r ≡ maskIn (now (ends .entry)) kind d c ⌝ }
+{
+    let i = 96 * d + 16 * column(kind, d) + c;
+    ends[i as usize]
+}
+
+fn less_part(rows: &mut [u16; 256], ends: &[u16; 288], kind: u16, w: u16)
+    ensures { λ _. ⌜ Less (λ r x. partIn (now (ends .entry)) kind w (nodeAt r x)) (now (rows .entry)) (now (rows .exit)) ⌝ }
+{
+    let x = mask_in(ends, kind, 0, w % 16);
+    let y = mask_in(ends, kind, 1, w / 16 % 16);
+    let z = mask_in(ends, kind, 2, w / 256 % 16);
+    less(rows, x, y, z);
+}
+
+fn less_dead(rows: &mut [u16; 256], ends: &[u16; 288], w: u16)
+    ensures { λ _. ⌜ Less (λ r x. deadIn (now (ends .entry)) w (nodeAt r x)) (now (rows .entry)) (now (rows .exit)) ⌝ }
+{
+    less_part(rows, ends, 9, w);
+    less_part(rows, ends, 10, w);
+    less_part(rows, ends, 11, w);
+}
+
+fn less_loss(rows: &mut [u16; 256], ends: &[u16; 288], w: u16)
+    ensures { λ _. ⌜ Less (λ r x. lossIn (now (ends .entry)) w (nodeAt r x)) (now (rows .entry)) (now (rows .exit)) ⌝ }
+{
+    let kind = w / 4096;
+    if kind < 9 {
+        less_part(rows, ends, kind, w);
+        return;
+    }
+    if kind == 9 {
+        less_dead(rows, ends, w);
+    }
+}
+
+// How many of the losses are looked at.
+fn clipped(count: usize) -> usize
+    ensures { λ r. ⌜ r ≡ min count 256 ⌝ }
+{
+    if count < 256 { count } else { 256 }
+}
+
+// `ends`: the masks of one end. The nodes of the product of the places in bx, by and bz whose leg to that end, or from it, meets none of the losses.
+pub fn clear_in(
+    bx: u16,
+    by: u16,
+    bz: u16,
+    ends: &[u16; 288],
+    losses: &[u16; 256],
+    count: usize,
+) -> [u16; 256]
+    ensures { λ r. ⌜ Are (clearIn bx by bz (now (ends .entry)) (now (losses .entry)) count) r ⌝ }
+{
+    let mut rows = product(bx, by, bz);
+    let n = clipped(count);
+    let mut i: usize = 0;
+    while i < n {
+        less_loss(&mut rows, ends, losses[i]);
+        i = i + 1;
+    }
+    rows
+}

@@ -1,0 +1,3 @@
+// The legs that are clear where some losses are all that is lost: as sets of nodes, and one by itself.
+pub mod clear;
+mod part;
