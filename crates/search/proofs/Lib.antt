@@ -1,0 +1,2 @@
+pub mod Clip
+pub mod Seeking

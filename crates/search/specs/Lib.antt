@@ -1,0 +1,3 @@
+pub mod FirstVia
+-- The code's own steps; no other crate cites them.
+pub mod Planes
