@@ -8,3 +8,4 @@ pub mod KeyByte
 pub mod OneDestination
 pub mod Steps
 pub mod Outside
+pub mod Known

@@ -1,0 +1,82 @@
+-- The code's own steps: what is known of an accepted plan p while a route from S to D is sought.
+use Prim.Native.Nat.{ℕ, _+_, _*_, _≤_, _<_}
+use mathlib.Core.Path.{_≡_}
+use mathlib.Core.Logic.{_⊎_}
+use mathlib.Core.Bool.{Bool, true, false}
+use mathlib.Core.List.{List}
+use lib.ListN.{length}
+use Rattle.theory.specs.Clear.{clear}
+use Rattle.shape.specs.declared.shape.Shape.{Shape}
+use Rattle.shape.specs.declared.shape.Coords.{Coords}
+use Rattle.machine.specs.declared.leg.Mode.{Mode}
+use Rattle.machine.specs.declared.leg.Mode.the-variants.{Adaptive, Deterministic}
+use Rattle.machine.specs.Number.{nodeCount, coordsOf}
+use Rattle.machine.specs.Hop.{distance}
+use Rattle.machine.specs.Torus.{leg, torus}
+use Rattle.plan.specs.Layout.{shapeOf}
+use Rattle.plan.specs.Checks.{large, planError}
+use Rattle.choice.specs.declared.outcome.Outcome.{Outcome}
+use Rattle.choice.specs.Outcome.{told}
+use Rattle.choice.specs.Pair.{soundIn, routeIn, chosen}
+use Rattle.rows.specs.Rows.{inSet}
+use Rattle.losses.specs.OfPlan.{AreLosses}
+
+-- The leg from u to v in mode m is clear.
+abbrev pub isClear : List ℕ → Mode → ℕ → ℕ → Bool
+isClear p m u v = clear (torus (shapeOf p)) (soundIn p) (leg v m) u
+
+-- The plan is accepted, s is its shape, and these are its losses.
+pub record OfPlan (p : List ℕ) (s : Shape) (words : List ℕ) (count : ℕ) : Type 0 where
+  pub plan : planError large p ≡ 0
+  pub shape : s ≡ shapeOf p
+  pub losses : AreLosses p words count
+
+-- n is a node, at these coordinates.
+pub record IsAt (p : List ℕ) (n : ℕ) (c : Coords) : Type 0 where
+  pub node : n < nodeCount (shapeOf p)
+  pub at : c ≡ coordsOf (shapeOf p) n
+
+-- A plan with a source and a destination.
+pub record Pair (p : List ℕ) (s : Shape) (S D : ℕ) (a t : Coords) : Type 0 where
+  pub plan : planError large p ≡ 0
+  pub shape : s ≡ shapeOf p
+  pub source : IsAt p S a
+  pub target : IsAt p D t
+
+-- The set of the nodes with a clear leg from S.
+abbrev pub FromSet : List ℕ → Mode → ℕ → List ℕ → Type 0
+FromSet p m S rows = (v : ℕ) → v < nodeCount (shapeOf p) → inSet (shapeOf p) rows 0 v ≡ isClear p m S v
+
+-- The set of the nodes with a clear leg to D, whose rows begin at place `at` of a run.
+abbrev pub ToSet : List ℕ → Mode → ℕ → List ℕ → ℕ → Type 0
+ToSet p m D rows at = (v : ℕ) → v < nodeCount (shapeOf p) → inSet (shapeOf p) rows at v ≡ isClear p m v D
+
+-- The same of the nodes on the shortest ways from S alone.
+abbrev pub ToBetween : List ℕ → Mode → ℕ → ℕ → List ℕ → ℕ → Type 0
+ToBetween p m S D rows at =
+    (v : ℕ) → v < nodeCount (shapeOf p) → distance (shapeOf p) S v + distance (shapeOf p) v D ≡ distance (shapeOf p) S D → inSet (shapeOf p) rows at v ≡ isClear p m v D
+
+-- Both sets to D, the adaptive one first.
+pub record BothTo (p : List ℕ) (D : ℕ) (rows : List ℕ) (at : ℕ) : Type 0 where
+  pub room : at + 512 ≤ length rows
+  pub adaptive : ToSet p Adaptive D rows at
+  pub deterministic : ToSet p Deterministic D rows (at + 256)
+
+-- A run with both sets to each node, 512 rows a node; or an empty run.
+pub record Filled (p work : List ℕ) : Type 0 where
+  pub each : (D : ℕ) → D < nodeCount (shapeOf p) → BothTo p D work (512 * D)
+
+abbrev pub Work : List ℕ → List ℕ → Type 0
+Work p work = (length work ≡ 0) ⊎ Filled p work
+
+abbrev pub routeTold : List ℕ → ℕ → ℕ → Outcome
+routeTold p S D = told (shapeOf p) S (chosen (routeIn p S D))
+
+abbrev pub isGiven : Outcome → Bool
+isGiven (Outcome.Given r len) = true
+isGiven (Outcome.Refused e) = false
+
+-- What the first steps of the search give: the route, or that the direct legs are not clear.
+pub record Near (p : List ℕ) (S D : ℕ) (r : Outcome) : Type 0 where
+  pub given : isGiven r ≡ true → r ≡ routeTold p S D
+  pub none : isGiven r ≡ false → isClear p Deterministic S D ≡ false
