@@ -9,3 +9,4 @@ pub mod Links
 pub mod Lies
 pub mod Clearing
 pub mod AtPlan
+pub mod DeadTarget

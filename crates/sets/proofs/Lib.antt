@@ -1,2 +1,4 @@
 pub mod Taking
 pub mod Columns
+pub mod Sets
+pub mod Legs

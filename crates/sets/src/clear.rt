@@ -1,9 +1,10 @@
 // The nodes of a product with a clear leg from one end, or to it, as rows of bits.
+use crate::part::clipped;
 use crate::part::column;
 use rows::product::less;
 use rows::product::product;
 ghost use mathlib.Core.Path.{_≡_};
-ghost use Prim.Native.Nat.{_≤_, _<_, min};
+ghost use Prim.Native.Nat.{_≤_, _<_};
 ghost use Rattle.rows.specs.Product.{nodeAt, Less, Are};
 ghost use Rattle.sets.specs.Part.{maskIn, partIn, deadIn, lossIn};
 ghost use Rattle.sets.specs.Clear.{clearIn};
@@ -44,13 +45,6 @@ fn less_loss(rows: &mut [u16; 256], ends: &[u16; 288], w: u16)
     if kind == 9 {
         less_dead(rows, ends, w);
     }
-}
-
-// How many of the losses are looked at.
-fn clipped(count: usize) -> usize
-    ensures { λ r. ⌜ r ≡ min count 256 ⌝ }
-{
-    if count < 256 { count } else { 256 }
 }
 
 // `ends`: the masks of one end. The nodes of the product of the places in bx, by and bz whose leg to that end, or from it, meets none of the losses.

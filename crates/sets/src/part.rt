@@ -1,6 +1,6 @@
 // A loss as products of masks: the column of masks in each dimension.
 ghost use mathlib.Core.Path.{_≡_};
-ghost use Prim.Native.Nat.{_<_};
+ghost use Prim.Native.Nat.{_<_, min};
 ghost use Rattle.sets.specs.Part.{kindDim, kindOwn, column};
 
 fn kind_dim(kind: u16) -> u16
@@ -35,4 +35,11 @@ pub fn column(kind: u16, d: u16) -> u16
         return 0;
     }
     3
+}
+
+// How many of the losses are looked at.
+pub fn clipped(count: usize) -> usize
+    ensures { λ r. ⌜ r ≡ min count 256 ⌝ }
+{
+    if count < 256 { count } else { 256 }
 }

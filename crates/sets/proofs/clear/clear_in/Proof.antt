@@ -8,7 +8,7 @@ use Rattle.sets.proofs.clear.clear_in.Tie as tie
 use Rattle.sets.proofs.clear.clear_in.Reads as reads
 use Rattle.sets.proofs.clear.clear_in.Lts as lts
 use Rattle.rows.proofs.product.product.Reads as product-reads
-use Rattle.sets.proofs.clear.clipped.Reads as clipped-reads
+use Rattle.sets.proofs.part.clipped.Reads as clipped-reads
 use Rattle.sets.proofs.clear.less_loss.Reads as less-loss-reads
 
 abbrev Inv-loop : tie.InvT-loop
