@@ -8,6 +8,7 @@ pub mod ViaNumbers
 pub mod General
 pub mod Planned
 pub mod NextOutside
+pub mod Knowing
 pub mod Pairs
 pub mod OneDestination
 pub mod Planning

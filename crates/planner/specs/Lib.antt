@@ -9,3 +9,4 @@ pub mod OneDestination
 pub mod Steps
 pub mod Outside
 pub mod Known
+pub mod Rows

@@ -5,4 +5,5 @@ mod key_number;
 pub mod one_destination;
 mod outside;
 pub mod pair;
+mod sets_of;
 pub mod sheets;
