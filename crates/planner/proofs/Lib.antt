@@ -9,6 +9,7 @@ pub mod General
 pub mod Planned
 pub mod NextOutside
 pub mod Knowing
+pub mod FirstSteps
 pub mod Pairs
 pub mod OneDestination
 pub mod Planning

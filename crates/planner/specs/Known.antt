@@ -1,10 +1,12 @@
 -- The code's own steps: what is known of an accepted plan p while a route from S to D is sought.
 use Prim.Native.Nat.{ℕ, _+_, _*_, _≤_, _<_}
 use mathlib.Core.Path.{_≡_}
-use mathlib.Core.Logic.{_⊎_}
+use mathlib.Core.Logic.{_⊎_, _↔_}
 use mathlib.Core.Bool.{Bool, true, false}
 use mathlib.Core.List.{List}
 use lib.ListN.{length}
+use lib.Dec.{ltb}
+use Rattle.numbers.specs.Numbers.{noClearChoice}
 use Rattle.theory.specs.Clear.{clear}
 use Rattle.shape.specs.declared.shape.Shape.{Shape}
 use Rattle.shape.specs.declared.shape.Coords.{Coords}
@@ -15,11 +17,13 @@ use Rattle.machine.specs.Hop.{distance}
 use Rattle.machine.specs.Torus.{leg, torus}
 use Rattle.plan.specs.Layout.{shapeOf}
 use Rattle.plan.specs.Checks.{large, planError}
+use Rattle.packet.specs.declared.route.Route.{Route}
 use Rattle.choice.specs.declared.outcome.Outcome.{Outcome}
 use Rattle.choice.specs.Outcome.{told}
 use Rattle.choice.specs.Pair.{soundIn, routeIn, chosen}
-use Rattle.rows.specs.Rows.{inSet}
+use Rattle.rows.specs.Rows.{inSet, inProduct}
 use Rattle.losses.specs.OfPlan.{AreLosses}
+use Rattle.planner.specs.KeyNumber.{pickOutcome}
 
 -- The leg from u to v in mode m is clear.
 abbrev pub isClear : List ℕ → Mode → ℕ → ℕ → Bool
@@ -80,3 +84,28 @@ isGiven (Outcome.Refused e) = false
 pub record Near (p : List ℕ) (S D : ℕ) (r : Outcome) : Type 0 where
   pub given : isGiven r ≡ true → r ≡ routeTold p S D
   pub none : isGiven r ≡ false → isClear p Deterministic S D ≡ false
+
+-- The product of these masks has just the nodes on the shortest ways from S to D.
+abbrev pub IsBox : List ℕ → ℕ → ℕ → ℕ → ℕ → ℕ → Type 0
+IsBox p S D bx by bz =
+    (v : ℕ) → v < nodeCount (shapeOf p) → (inProduct bx by bz (coordsOf (shapeOf p) v) ≡ true) ↔ (distance (shapeOf p) S v + distance (shapeOf p) v D ≡ distance (shapeOf p) S D)
+
+-- By a via with two adaptive legs, directly with a deterministic one, or neither.
+unfoldable pub nearRoute : ℕ → Bool → ℕ → Outcome
+nearRoute via straight len =
+    pickOutcome (ltb via 4096) (Outcome.Given (Route.Via via Adaptive Adaptive) len)
+    (pickOutcome straight (Outcome.Given (Route.Direct Deterministic) len) (Outcome.Refused noClearChoice))
+
+-- All that the first steps rest on.
+pub record Nearing (p : List ℕ) (s : Shape) (S D len bx by bz : ℕ) (fa : List ℕ) (straight : Bool) (to : List ℕ) (at : ℕ) : Type 0 where
+  pub plan : planError large p ≡ 0
+  pub shape : s ≡ shapeOf p
+  pub source : S < nodeCount (shapeOf p)
+  pub target : D < nodeCount (shapeOf p)
+  pub distance : len ≡ distance (shapeOf p) S D
+  pub box : IsBox p S D bx by bz
+  pub out : FromSet p Adaptive S fa
+  pub back : ToBetween p Adaptive S D to at
+  pub room : at + 256 ≤ length to
+  pub direct : isClear p Adaptive S D ≡ false
+  pub one : straight ≡ isClear p Deterministic S D

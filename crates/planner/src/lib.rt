@@ -2,6 +2,7 @@
 mod choose;
 mod key_byte;
 mod key_number;
+mod near;
 pub mod one_destination;
 mod outside;
 pub mod pair;
