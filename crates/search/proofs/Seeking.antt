@@ -31,6 +31,15 @@ use Rattle.search.specs.Planes.{Clipped, meet, InPlane}
 pub clash : {A : Type 0} (b : Bool) → b ≡ true → b ≡ false → A
 clash b e f = absurd (true≢false (sym e ∙ f))
 
+-- ---- a node's bit in the rows of a set, and of a set in a run
+pub in-set : (rows : List ℕ) (c : Coords) → inRows rows 0 c ≡ bit (getD rows (16 * c .z + c .y) 0) (c .x)
+unfolding inRows
+in-set rows c = let e : 0 + (c .y + 16 * c .z) ≡ 16 * c .z + c .y = omega arith in ap (λ (r : ℕ). bit (getD rows r 0) (c .x)) e
+
+pub in-run : (rows : List ℕ) (at r : ℕ) (c : Coords) → r ≡ at + (16 * c .z + c .y) → inRows rows at c ≡ bit (getD rows r 0) (c .x)
+unfolding inRows
+in-run rows at r c e = let f : at + (c .y + 16 * c .z) ≡ r = omega arith in ap (λ (r : ℕ). bit (getD rows r 0) (c .x)) f
+
 -- ---- in a plane
 module _ (bx by base : ℕ) (from to : List ℕ) (at : ℕ) where
   pub record Plane (y : ℕ) : Type 0 where
@@ -72,6 +81,15 @@ pub count-all : (s : Shape) → shapeError s ≡ 0 → nodeCount s ≤ 4096
 unfolding nodeCount
 count-all s h = count-most s h
 
+-- The steps of the number of a row's first node do not overflow.
+pub row-steps : (s : Shape) → shapeError s ≡ 0 → (y z : ℕ) → y < s .y → z < s .z → (s .y * z < 256) × (y + s .y * z < 256) × (s .x * (y + s .y * z) < 4096)
+row-steps s h y z hy hz =
+    let row : y + s .y * z < s .y * s .z = digits-below y (s .y) z (s .z) hy hz in
+    let rows : s .y * s .z ≤ 256 = mul-le-mul (sound s h Y .high) (sound s h Z .high) in
+    let most : y + s .y * z ≤ 255 = omega arith in
+    let all : s .x * (y + s .y * z) ≤ 16 * 255 = mul-le-mul (sound s h X .high) most in
+    (omega arith, omega arith, omega arith)
+
 -- ---- through the planes
 pub record Space (bx by bz : ℕ) (from to : List ℕ) (at z : ℕ) : Type 0 where
   pub most : z ≤ 16
@@ -102,14 +120,6 @@ module _ (bx by bz : ℕ) (from to : List ℕ) (at : ℕ) where
     z : bit bz (c .z) ≡ true
     met : bit (meet bx from to at (16 * c .z + c .y)) (c .x) ≡ true
 
-  in-from : (c : Coords) → inRows from 0 c ≡ bit (getD from (16 * c .z + c .y) 0) (c .x)
-  unfolding inRows
-  in-from c = let e : 0 + (c .y + 16 * c .z) ≡ 16 * c .z + c .y = omega arith in ap (λ (r : ℕ). bit (getD from r 0) (c .x)) e
-
-  in-to : (c : Coords) → inRows to at c ≡ bit (getD to (at + (16 * c .z + c .y)) 0) (c .x)
-  unfolding inRows
-  in-to c = let e : at + (c .y + 16 * c .z) ≡ at + (16 * c .z + c .y) = omega arith in ap (λ (r : ℕ). bit (getD to r 0) (c .x)) e
-
   abbrev allOf : Coords → Bool
   allOf c = inProduct bx by bz c && (inRows from 0 c && inRows to at c)
 
@@ -120,7 +130,7 @@ module _ (bx by bz : ℕ) (from to : List ℕ) (at : ℕ) where
       let b = and-true (bit bx (c .x)) _ (a .0) in
       let d = and-true (bit by (c .y)) _ (b .1) in
       let g = and-true (inRows from 0 c) _ (a .1) in
-      record { x = b .0; y = d .0; z = d .1; met = meet-bit (16 * c .z + c .y) (c .x) ∙ rw (b .0, ← in-from c, ← in-to c, g .0, g .1) }
+      record { x = b .0; y = d .0; z = d .1; met = meet-bit (16 * c .z + c .y) (c .x) ∙ rw (b .0, ← in-set from c, ← in-run to at (at + (16 * c .z + c .y)) c refl, g .0, g .1) }
 
   module _ (s : Shape) (h : shapeError s ≡ 0) (hx : bx < 2 ^ (s .x)) (hy : by < 2 ^ (s .y)) (hz : bz < 2 ^ (s .z)) where
     low : (y : ℕ) → y < s .y → y < 16
@@ -175,7 +185,7 @@ module _ (bx by bz : ℕ) (from to : List ℕ) (at : ℕ) where
       all-here =
           let a = and-true (bit bx x && bit (getD from (16 * z + y) 0) x) _ bits in
           let b = and-true (bit bx x) _ (a .0) in
-          rw (in-from here, in-to here, bit-x, w .listed ly, p .listed lz, b .1, a .1)
+          rw (in-set from here, in-run to at (at + (16 * z + y)) here refl, bit-x, w .listed ly, p .listed lz, b .1, a .1)
 
       -- No via comes before it.
       earlier : (c : Coords) → Inside s c → numberOf s c < numberOf s here → allOf c ≡ true → ⊥
@@ -206,14 +216,10 @@ module _ (bx by bz : ℕ) (from to : List ℕ) (at : ℕ) where
                 (λ e. e);
           }
 
-      -- The steps of its number do not overflow.
-      pub number-steps : (s .y * z < 256) × (y + s .y * z < 256) × (s .x * (y + s .y * z) < 4096) × (x + s .x * (y + s .y * z) < 4096)
+      -- The last step of its number does not overflow.
+      pub number-step : x + s .x * (y + s .y * z) < 4096
       unfolding numberOf
-      number-steps =
-          let row : y + s .y * z < s .y * s .z = digits-below y (s .y) z (s .z) (inside-here .y) (inside-here .z) in
-          let rows : s .y * s .z ≤ 256 = mul-le-mul (sound s h Y .high) (sound s h Z .high) in
-          let l : x + s .x * (y + s .y * z) < nodeCount s = number-below s h here inside-here in
-          (omega arith, omega arith, omega (arith, l, count-all s h), omega (arith, l, count-all s h))
+      number-step = let l : x + s .x * (y + s .y * z) < nodeCount s = number-below s h here inside-here in omega (arith, l, count-all s h)
 
 -- ---- of any input
 first-same : (n r : ℕ) (f g : ℕ → Bool) → ((v : ℕ) → v < n → f v ≡ g v) → FirstOf n f r → FirstOf n g r

@@ -1,3 +1,7 @@
 pub mod FirstVia
--- The code's own steps; no other crate cites them.
+pub mod BestVia
+-- The code's own steps. Other crates cite Number alone.
+pub mod Number
 pub mod Planes
+pub mod PartOf
+pub mod RowNumber

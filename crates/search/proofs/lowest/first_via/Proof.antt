@@ -1,7 +1,7 @@
 use native.Mathlib.Omega.{arith}
 use borrow.Author.Needs.{needs}
 use Prim.Native.Nat.{_-_}
-use Rattle.search.proofs.Seeking.{Space, space-begin, space-onward, space-found, space-none, number-steps, further}
+use Rattle.search.proofs.Seeking.{Space, space-begin, space-onward, space-found, space-none, inside-here, row-steps, number-step, further}
 use Rattle.search.proofs.lowest.first_via.Statement.{statement}
 use Rattle.search.proofs.lowest.first_via.Tie as tie
 use Rattle.search.proofs.lowest.first_via.Reads as reads
@@ -89,19 +89,19 @@ cast-result-5 c = omega arith
 
 -- src/lowest.rt:66:60
 mul-result : tie.Need-mul-result Inv-loop μ-loop
-mul-result c = let w = number-steps _ _ _ _ _ _ _ (c .before .before .before .before .before .before .before .before .before .before .before .pre .0) (c .before .before .before .before .before .before .before .before .before .before .before .pre .1 .1 .0) (c .before .before .before .before .before .before .before .before .before .before .before .pre .1 .1 .1) (c .before .before .before .before .before .before .before .before .before .before .before .pre .1 .1 .2) _ _ _ (c .before .before .before .before .before .before .before .before .loop .inv) (c .before .before .before .before .before .before .before .loop-test .taken) (c .before .before .before .before .before .before .in-plane .ensures) (c .before .before .before .before .before .if1 .taken) (c .before .before .next-set2 .ensures) in omega (arith, w .0)
+mul-result c = let i = inside-here _ _ _ _ _ _ _ (c .before .before .before .before .before .before .before .before .before .before .before .pre .0) (c .before .before .before .before .before .before .before .before .before .before .before .pre .1 .1 .0) (c .before .before .before .before .before .before .before .before .before .before .before .pre .1 .1 .1) (c .before .before .before .before .before .before .before .before .before .before .before .pre .1 .1 .2) _ _ _ (c .before .before .before .before .before .before .before .before .loop .inv) (c .before .before .before .before .before .before .before .loop-test .taken) (c .before .before .before .before .before .before .in-plane .ensures) (c .before .before .before .before .before .if1 .taken) (c .before .before .next-set2 .ensures) in let w = row-steps _ (c .before .before .before .before .before .before .before .before .before .before .before .pre .0) _ _ (i .y) (i .z) in omega (arith, w .0)
 
 -- src/lowest.rt:66:49
 add-result : tie.Need-add-result Inv-loop μ-loop
-add-result c = let w = number-steps _ _ _ _ _ _ _ (c .before .before .before .before .before .before .before .before .before .before .before .pre .0) (c .before .before .before .before .before .before .before .before .before .before .before .pre .1 .1 .0) (c .before .before .before .before .before .before .before .before .before .before .before .pre .1 .1 .1) (c .before .before .before .before .before .before .before .before .before .before .before .pre .1 .1 .2) _ _ _ (c .before .before .before .before .before .before .before .before .loop .inv) (c .before .before .before .before .before .before .before .loop-test .taken) (c .before .before .before .before .before .before .in-plane .ensures) (c .before .before .before .before .before .if1 .taken) (c .before .before .next-set2 .ensures) in omega (arith, w .1)
+add-result c = let i = inside-here _ _ _ _ _ _ _ (c .before .before .before .before .before .before .before .before .before .before .before .pre .0) (c .before .before .before .before .before .before .before .before .before .before .before .pre .1 .1 .0) (c .before .before .before .before .before .before .before .before .before .before .before .pre .1 .1 .1) (c .before .before .before .before .before .before .before .before .before .before .before .pre .1 .1 .2) _ _ _ (c .before .before .before .before .before .before .before .before .loop .inv) (c .before .before .before .before .before .before .before .loop-test .taken) (c .before .before .before .before .before .before .in-plane .ensures) (c .before .before .before .before .before .if1 .taken) (c .before .before .next-set2 .ensures) in let w = row-steps _ (c .before .before .before .before .before .before .before .before .before .before .before .pre .0) _ _ (i .y) (i .z) in omega (arith, w .1)
 
 -- src/lowest.rt:66:31
 mul-result-2 : tie.Need-mul-result-2 Inv-loop μ-loop
-mul-result-2 c = let w = number-steps _ _ _ _ _ _ _ (c .before .before .before .before .before .before .before .before .before .before .before .pre .0) (c .before .before .before .before .before .before .before .before .before .before .before .pre .1 .1 .0) (c .before .before .before .before .before .before .before .before .before .before .before .pre .1 .1 .1) (c .before .before .before .before .before .before .before .before .before .before .before .pre .1 .1 .2) _ _ _ (c .before .before .before .before .before .before .before .before .loop .inv) (c .before .before .before .before .before .before .before .loop-test .taken) (c .before .before .before .before .before .before .in-plane .ensures) (c .before .before .before .before .before .if1 .taken) (c .before .before .next-set2 .ensures) in omega (arith, w .2)
+mul-result-2 c = let i = inside-here _ _ _ _ _ _ _ (c .before .before .before .before .before .before .before .before .before .before .before .pre .0) (c .before .before .before .before .before .before .before .before .before .before .before .pre .1 .1 .0) (c .before .before .before .before .before .before .before .before .before .before .before .pre .1 .1 .1) (c .before .before .before .before .before .before .before .before .before .before .before .pre .1 .1 .2) _ _ _ (c .before .before .before .before .before .before .before .before .loop .inv) (c .before .before .before .before .before .before .before .loop-test .taken) (c .before .before .before .before .before .before .in-plane .ensures) (c .before .before .before .before .before .if1 .taken) (c .before .before .next-set2 .ensures) in let w = row-steps _ (c .before .before .before .before .before .before .before .before .before .before .before .pre .0) _ _ (i .y) (i .z) in omega (arith, w .2)
 
 -- src/lowest.rt:66:20
 add-result-2 : tie.Need-add-result-2 Inv-loop μ-loop
-add-result-2 c = let w = number-steps _ _ _ _ _ _ _ (c .before .before .before .before .before .before .before .before .before .before .before .pre .0) (c .before .before .before .before .before .before .before .before .before .before .before .pre .1 .1 .0) (c .before .before .before .before .before .before .before .before .before .before .before .pre .1 .1 .1) (c .before .before .before .before .before .before .before .before .before .before .before .pre .1 .1 .2) _ _ _ (c .before .before .before .before .before .before .before .before .loop .inv) (c .before .before .before .before .before .before .before .loop-test .taken) (c .before .before .before .before .before .before .in-plane .ensures) (c .before .before .before .before .before .if1 .taken) (c .before .before .next-set2 .ensures) in omega (arith, w .3)
+add-result-2 c = omega (arith, number-step _ _ _ _ _ _ _ (c .before .before .before .before .before .before .before .before .before .before .before .pre .0) (c .before .before .before .before .before .before .before .before .before .before .before .pre .1 .1 .0) (c .before .before .before .before .before .before .before .before .before .before .before .pre .1 .1 .1) (c .before .before .before .before .before .before .before .before .before .before .before .pre .1 .1 .2) _ _ _ (c .before .before .before .before .before .before .before .before .loop .inv) (c .before .before .before .before .before .before .before .loop-test .taken) (c .before .before .before .before .before .before .in-plane .ensures) (c .before .before .before .before .before .if1 .taken) (c .before .before .next-set2 .ensures))
 
 -- src/lowest.rt:66:13
 returns : tie.Need-returns Inv-loop μ-loop

@@ -1,0 +1,40 @@
+-- What the contracts of the searches say of a sound shape, of nodes by their numbers, and of a run that is long enough.
+use Prim.Native.Nat.{ℕ, _+_, _≤_, _<_}
+use mathlib.Core.Path.{_≡_}
+use mathlib.Core.Bool.{Bool, true, _&&_}
+use mathlib.Core.List.{List}
+use lib.Dec.{ltb}
+use lib.ListN.{length}
+use borrow.Author.Tests.{eq-eqb, lt-ltb, le-leb}
+use Rattle.shape.specs.declared.shape.Shape.{Shape}
+use Rattle.shape.specs.declared.shape.Coords.{Coords}
+use Rattle.shape.specs.Shape.{shapeError}
+use Rattle.machine.specs.Number.{nodeCount, coordsOf, Inside}
+use Rattle.machine.specs.Hop.{distance}
+use Rattle.machine.proofs.ByCoords.{distance-at}
+use Rattle.machine.proofs.Numbers.{inside}
+use Rattle.rows.specs.Rows.{inSet}
+use Rattle.search.specs.FirstVia.{hasRows, inAll, isVia}
+use Rattle.search.specs.Number.{viaNumber}
+use Rattle.search.specs.BestVia.{within, askable, numberIn}
+
+long-enough : (len at n : ℕ) → at + n ≤ len → hasRows len at n ≡ true
+unfolding hasRows
+long-enough len at n h = le-leb (at + n) len h
+
+pub via-is :
+    (s : Shape) → shapeError s ≡ 0 → (bx by bz : ℕ) (from to : List ℕ) (at : ℕ) → at + 256 ≤ length to →
+    (v : ℕ) → isVia s bx by bz from to at v ≡ inAll s bx by bz from to at v
+unfolding isVia
+via-is s h bx by bz from to at k v = rw (eq-eqb (shapeError s) 0 h, long-enough (length to) at 256 k)
+
+inside-within : (s : Shape) (c : Coords) → Inside s c → within s c ≡ true
+unfolding within
+inside-within s c i = rw (lt-ltb (c .x) (s .x) (i .x), lt-ltb (c .y) (s .y) (i .y), lt-ltb (c .z) (s .z) (i .z))
+
+pub number-is :
+    (s : Shape) → shapeError s ≡ 0 → (S D : ℕ) → S < nodeCount s → D < nodeCount s → (fa fd to : List ℕ) (at : ℕ) → at + 512 ≤ length to →
+    (v : ℕ) → numberIn s (coordsOf s S) (coordsOf s D) fa fd to at v ≡ viaNumber (distance s S v + distance s v D) v (inSet s fa 0 v) (inSet s fd 0 v) (inSet s to at v) (inSet s to (at + 256) v)
+unfolding numberIn askable
+number-is s h S D hS hD fa fd to at k v =
+    rw (eq-eqb (shapeError s) 0 h, inside-within s (coordsOf s S) (inside s h S hS), inside-within s (coordsOf s D) (inside s h D hD), long-enough (length to) at 512 k, distance-at s S v, distance-at s v D)
