@@ -10,6 +10,7 @@ pub mod Planned
 pub mod NextOutside
 pub mod Knowing
 pub mod FirstSteps
+pub mod LastStep
 pub mod Pairs
 pub mod OneDestination
 pub mod Planning

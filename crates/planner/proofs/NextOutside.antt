@@ -66,7 +66,7 @@ module _ (s : Shape) (h : shapeError s ≡ 0) (rows : List ℕ) where
   -- The loop: from the node `from` on all before x in row (y, z), whose first node is `first`, are in the set.
   pub record Looking (from x y z first : ℕ) : Type 0 where
     pub first-is : first ≡ s .x * (y + s .y * z)
-    pub x-in : x < s .x
+    pub x-in : x ≤ s .x
     pub y-in : y < s .y
     pub z-in : z ≤ s .z
     pub at-end : z ≡ s .z → (x ≡ 0) × (y ≡ 0)
@@ -130,12 +130,12 @@ module _ (s : Shape) (h : shapeError s ≡ 0) (rows : List ℕ) where
         let f = g .first-is in
         let set = next .set (omega (arith, x-small)) in
         record {
-          stands = record { node = omega arith; x = m; y = g .y-in; z = g .z-in; end = λ e. absurd (omega arith) };
+          stands = record { node = omega arith; x = omega arith; y = g .y-in; z = g .z-in; end = λ e. absurd (omega arith) };
           onward = omega (arith, g .onward, set .0);
           skipped = λ v a b. all-passed found (omega arith) (omega arith) v a b;
           found = λ _.
               let e : found + s .x * (y + s .y * z) ≡ first + found = omega arith in
-              rw (← e) (at-place found y z m (g .y-in) l ∙ rw (← here) (not-true (bit row found) (sym (others-bit found (omega (arith, x-small))) ∙ set .1)));
+              (m, rw (← e) (at-place found y z m (g .y-in) l ∙ rw (← here) (not-true (bit row found) (sym (others-bit found (omega (arith, x-small))) ∙ set .1))));
         }
 
     pub onto : s .x ≤ found → (ny nz : ℕ) → ny ≡ cond (ltb (y + 1) (s .y)) (y + 1) 0 → nz ≡ cond (ltb (y + 1) (s .y)) z (z + 1) → Looking from 0 ny nz (first + s .x)
@@ -160,7 +160,7 @@ module _ (s : Shape) (h : shapeError s ≡ 0) (rows : List ℕ) where
         made : {p q : ℕ} → ny ≡ p → nz ≡ q → ny < s .y → nz ≤ s .z → first + s .x ≡ s .x * (ny + s .y * nz) → (nz ≡ s .z → (_≡_ {A = ℕ} 0 0) × (ny ≡ 0)) → Looking from 0 ny nz (first + s .x)
         made a b hy hz e end = record {
           first-is = e;
-          x-in = sound s h X .low;
+          x-in = omega arith;
           y-in = hy;
           z-in = hz;
           at-end = end;
@@ -176,7 +176,7 @@ module _ (s : Shape) (h : shapeError s ≡ 0) (rows : List ℕ) where
       let f = g .first-is in
       let zy : s .x * (y + s .y * z) ≡ s .x * (0 + s .y * z) = ap (λ (k : ℕ). s .x * (k + s .y * z)) (o .1) in
       record {
-        stands = record { node = omega arith; x = sound s h X .low; y = sound s h Y .low; z = e; end = λ _. (refl, refl) };
+        stands = record { node = omega arith; x = omega arith; y = sound s h Y .low; z = e; end = λ _. (refl, refl) };
         onward = omega (arith, g .onward, o .0);
         skipped = λ v a b. g .skipped v a (omega arith);
         found = λ k. absurd (omega arith);

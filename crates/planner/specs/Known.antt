@@ -109,3 +109,14 @@ pub record Nearing (p : List ℕ) (s : Shape) (S D len bx by bz : ℕ) (fa : Lis
   pub room : at + 256 ≤ length to
   pub direct : isClear p Adaptive S D ≡ false
   pub one : straight ≡ isClear p Deterministic S D
+
+-- All that the search over all vias rests on.
+pub record Faring (p : List ℕ) (s : Shape) (S D : ℕ) (a t : Coords) (fa fd to : List ℕ) (at : ℕ) : Type 0 where
+  pub plan : planError large p ≡ 0
+  pub shape : s ≡ shapeOf p
+  pub source : IsAt p S a
+  pub target : IsAt p D t
+  pub adaptive : FromSet p Adaptive S fa
+  pub deterministic : FromSet p Deterministic S fd
+  pub both : BothTo p D to at
+  pub blocked : isClear p Deterministic S D ≡ false

@@ -12,10 +12,10 @@ use Rattle.planner.specs.declared.outside.At.{At}
 abbrev pub placeOf : At → Coords
 placeOf at = record { x = at .x; y = at .y; z = at .z }
 
--- A node with its coordinates; or behind the last one the node count, at (0, 0, extent of Z).
+-- A node with its coordinates, or the place behind the last node of a row; behind the last node of all the node count, at (0, 0, extent of Z).
 pub record Stands (s : Shape) (at : At) : Type 0 where
   pub node : at .node ≡ numberOf s (placeOf at)
-  pub x : at .x < s .x
+  pub x : at .x ≤ s .x
   pub y : at .y < s .y
   pub z : at .z ≤ s .z
   pub end : at .z ≡ s .z → (at .x ≡ 0) × (at .y ≡ 0)
@@ -25,4 +25,4 @@ pub record NextOutside (s : Shape) (rows : List ℕ) (at r : At) : Type 0 where
   pub stands : Stands s r
   pub onward : at .node ≤ r .node
   pub skipped : (v : ℕ) → at .node ≤ v → v < r .node → inSet s rows 0 v ≡ true
-  pub found : r .z < s .z → inSet s rows 0 (r .node) ≡ false
+  pub found : r .z < s .z → (r .x < s .x) × (inSet s rows 0 (r .node) ≡ false)

@@ -1,5 +1,6 @@
 // Planning: a pair, and the sheet of a source.
 mod choose;
+mod far;
 mod key_byte;
 mod key_number;
 mod near;

@@ -8,7 +8,7 @@ ghost use lib.Dec.{ltb};
 ghost use Rattle.shape.specs.Shape.{shapeError};
 ghost use Rattle.planner.specs.Outside.{Stands, NextOutside};
 
-// A node with its coordinates; behind the last one the node count, at (0, 0, extent of Z).
+// A node with its coordinates, or the place behind the last node of a row; behind the last node of all the node count, at (0, 0, extent of Z).
 pub struct At {
     pub node: u16,
     pub x: u8,

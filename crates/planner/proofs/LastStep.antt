@@ -1,0 +1,77 @@
+-- The least number of all vias gives the route, where neither direct leg is clear.
+use Prim.Native.Nat.{ℕ, _+_, _*_, _≤_, _<_}
+use native.Mathlib.Omega.{arith}
+use mathlib.Core.Path.{_≡_, refl, sym, ap, _∙_}
+use mathlib.Core.Logic.{_⊎_, inl, inr, ⊎-elim}
+use mathlib.Core.Bool.{Bool, true, false, cond, _&&_}
+use mathlib.Core.List.{List}
+use lib.ListN.{length}
+use lib.Dec.{ltb, eqb}
+use borrow.Author.Tests.{eq-eqb, lt-ltb, le-leb}
+use Rattle.shape.specs.declared.shape.Shape.{Shape}
+use Rattle.shape.specs.declared.shape.Coords.{Coords}
+use Rattle.shape.specs.Shape.{shapeError}
+use Rattle.machine.specs.declared.leg.Mode.the-variants.{Adaptive, Deterministic}
+use Rattle.machine.specs.Number.{nodeCount, coordsOf, Inside}
+use Rattle.machine.specs.Hop.{distance}
+use Rattle.machine.specs.ByCoords.{distanceAt}
+use Rattle.machine.proofs.Numbers.{inside}
+use Rattle.machine.proofs.ByCoords.{distance-at}
+use Rattle.plan.specs.Layout.{shapeOf}
+use Rattle.plan.specs.Checks.{large, planError}
+use Rattle.choice.specs.declared.outcome.Outcome.{Outcome}
+use Rattle.choice.specs.Pair.{soundIn}
+use Rattle.rows.specs.Rows.{inSet}
+use Rattle.search.specs.FirstVia.{hasRows}
+use Rattle.search.specs.Number as Number
+use Rattle.search.specs.BestVia.{within, askable, numberIn, NumberOf, LeastOf}
+use Rattle.planner.specs.KeyNumber.{unclear, decoded}
+use Rattle.planner.specs.ViaNumber.{viaNumberOf, viaNumberBy, viaNumberIn}
+use Rattle.planner.specs.Known.{isClear, IsAt, routeTold, Faring}
+use Rattle.planner.proofs.General.{general-planned}
+use Rattle.planner.proofs.Knowing.{shape-ok}
+
+same-number : (len v : ℕ) (a1 d1 a2 d2 : Bool) → Number.viaNumber len v a1 d1 a2 d2 ≡ viaNumberOf a1 d1 a2 d2 len v
+unfolding Number.viaNumber viaNumberOf
+same-number len v a1 false a2 d2 = refl
+same-number len v a1 true a2 false = refl
+same-number len v a1 true a2 true = omega arith
+
+inside-within : (s : Shape) (c : Coords) → Inside s c → within s c ≡ true
+unfolding within
+inside-within s c i = rw (lt-ltb (c .x) (s .x) (i .x), lt-ltb (c .y) (s .y) (i .y), lt-ltb (c .z) (s .z) (i .z))
+
+module _ (p : List ℕ) (s : Shape) (S D : ℕ) (a t : Coords) (fa fd to : List ℕ) (at : ℕ) (g : Faring p s S D a t fa fd to at) where
+  ok : shapeError (shapeOf p) ≡ 0
+  ok = shape-ok p (g .plan)
+
+  asked : askable (shapeOf p) (coordsOf (shapeOf p) S) (coordsOf (shapeOf p) D) (length to) at ≡ true
+  unfolding askable hasRows
+  asked =
+      rw (eq-eqb (shapeError (shapeOf p)) 0 ok, inside-within (shapeOf p) (coordsOf (shapeOf p) S) (inside (shapeOf p) ok S (g .source .node)), inside-within (shapeOf p) (coordsOf (shapeOf p) D) (inside (shapeOf p) ok D (g .target .node)), le-leb (at + 512) (length to) (g .both .room))
+
+  number-is : (v : ℕ) → v < nodeCount (shapeOf p) → numberIn s a t fa fd to at v ≡ viaNumberIn (shapeOf p) (soundIn p) S D v
+  unfolding numberIn viaNumberBy
+  number-is v l =
+      rw (
+        g .shape,
+        g .source .at,
+        g .target .at,
+        asked,
+        g .adaptive v l,
+        g .deterministic v l,
+        g .both .adaptive v l,
+        g .both .deterministic v l,
+        ← distance-at (shapeOf p) S v,
+        ← distance-at (shapeOf p) v D,
+      )
+      (same-number _ v _ _ _ _)
+
+  count-is : nodeCount s ≡ nodeCount (shapeOf p)
+  count-is = ap nodeCount (g .shape)
+
+  pub far : (r : ℕ) → LeastOf (nodeCount s) (numberIn s a t fa fd to at) r → (o : Outcome) → o ≡ decoded r → o ≡ routeTold p S D
+  far r least o e =
+      e ∙ general-planned (shapeOf p) ok (soundIn p) S D (g .source .node) (g .target .node) (g .blocked) r
+      (λ v l. omega (arith, least .each v (omega (arith, count-is)), number-is v l))
+      (⊎-elim inl (λ w. inr (w .v, omega (arith, w .below, count-is), w .is ∙ number-is (w .v) (omega (arith, w .below, count-is)))) (least .one))
