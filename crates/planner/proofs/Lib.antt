@@ -14,4 +14,5 @@ pub mod LastStep
 pub mod Pairs
 pub mod OneDestination
 pub mod Planning
+pub mod Listed
 pub mod Writing

@@ -87,11 +87,11 @@ entry-dest d (Refused e) = refl
 
 module _ (L : Limits) (p : List ℕ) (S : ℕ) (s : Source L p S) where
   module _ (D : ℕ) (node : isNode (shapeOf p) D ≡ true) where
-    pair-dead : deadNode (faultsOf p) D ≡ true → pair L p S D ≡ Refused deadEnd
+    pub pair-dead : deadNode (faultsOf p) D ≡ true → pair L p S D ≡ Refused deadEnd
     unfolding pair pairError answered
     pair-dead d = rw (s .plan, s .node, node, s .alive, d)
 
-    pair-alive : deadNode (faultsOf p) D ≡ false → pair L p S D ≡ chosen (routeIn p S D)
+    pub pair-alive : deadNode (faultsOf p) D ≡ false → pair L p S D ≡ chosen (routeIn p S D)
     pair-alive d = pair-chosen L p S D (s .plan) (s .node) node (s .alive) d
 
     -- A destination's answer is 10, 11 or an admitted choice.
@@ -106,7 +106,7 @@ module _ (L : Limits) (p : List ℕ) (S : ℕ) (s : Source L p S) where
         by-chosen (some c) e admitted = rw e (route c (admitted c e))
 
     -- A destination not listed is direct and adaptive.
-    unlisted : lists (pair L p S D) ≡ false → pair L p S D ≡ Given (leg D Adaptive ∷ [])
+    pub unlisted : lists (pair L p S D) ≡ false → pair L p S D ≡ Given (leg D Adaptive ∷ [])
     unlisted =
         answer-is (λ x. lists x ≡ false → x ≡ Given (leg D Adaptive ∷ [])) (lists-refused D deadEnd) (lists-refused D noClearChoice)
         (admitted-legs (λ c. lists (Given c) ≡ false → Given c ≡ Given (leg D Adaptive ∷ [])) (shapeOf p) S D (unlisted-direct D) (λ v m n _. lists-via D v m n))
