@@ -28,10 +28,11 @@ use Rattle.choice.specs.Pair.{soundIn, routeIn, pairError, chosen, pair}
 use Rattle.choice.proofs.AtTorus.{empty-adaptive, direct-first}
 use Rattle.choice.proofs.Demand.{pair-chosen, found-planned, demand}
 use Rattle.routes.specs.declared.layout.Entry.{Entry}
-use Rattle.routes.specs.Layout.{written}
+use Rattle.routes.specs.Layout.{written, mostEntries}
 use Rattle.routes.specs.Said.{saidBy, entryFor}
 use Rattle.routes.specs.Checks.{entryGood, entriesGood, routesGood, sheetError}
 use Rattle.routes.specs.Says.{saysOf, says}
+use Rattle.routes.proofs.Rising.{routed}
 use Rattle.routes.proofs.Entries.{passed}
 use Rattle.routes.proofs.Saying.{admitted-legs, says-choice, says-refused, choice-good, dead-good, none-good}
 use Rattle.route_value.specs.Reading.{reading}
@@ -182,6 +183,9 @@ module _ (L : Limits) (p : List ℕ) (S : ℕ) (s : Source L p S) where
   routes-good : routesGood written (shapeOf p) S all ≡ true
   unfolding routesGood
   routes-good = rw (s .node) (entries-good (nodeCount (shapeOf p)) 0 0 (omega arith) (omega arith))
+
+  pub sheet-few : length all ≤ mostEntries
+  sheet-few = routed written (shapeOf p) S all routes-good .few
 
   pub sheet-accepted : sheetError L p (plannedSheet L p S) ≡ 0
   unfolding plannedSheet

@@ -38,16 +38,19 @@ use Rattle.routes.specs.declared.layout.Entry.{Entry}
 use Rattle.routes.specs.Layout as Layout
 use Rattle.routes.specs.Layout.{noEntry}
 use Rattle.routes.specs.Said.{entryFor, heard}
+use Rattle.routes.specs.Checks.{sheetError}
 use Rattle.routes.specs.Writing.{writeError}
 use Rattle.routes.proofs.Saying.{entry-told}
 use Rattle.route_value.specs.declared.reading.Routes.{Routes}
-use Rattle.route_value.specs.Writing.{sheetBytes, routeEntries, sheetOf}
+use Rattle.route_value.specs.Writing.{sheetBytes, routeEntries, sheetOf, countError}
+use Rattle.route_value.proofs.Writings.{entries-count}
+use Rattle.route_value.proofs.Putting.{few-routes}
 use Rattle.planner.specs.OneDestination.{outcomeTo}
 use Rattle.planner.specs.Sheet.{sourceError, lists, entriesFrom, plannedSheet}
 use Rattle.planner.specs.Steps.{isListed, pickEntry, counted, lastAt}
 use Rattle.planner.proofs.Planned.{nodes-most}
 use Rattle.planner.proofs.OneDestination.{Ready, dest-planned}
-use Rattle.planner.proofs.Planning.{Source, source-of, self-unlisted, sheet-accepted}
+use Rattle.planner.proofs.Planning.{Source, source-of, self-unlisted, sheet-few, sheet-accepted}
 
 -- ---- the checks
 checks : (a b : Bool) → cond a (cond b deadEnd 0) nodeOutside ≡ (declined (not a) nodeOutside then declined b deadEnd then 0)
@@ -260,18 +263,31 @@ unfolding roomError written outAfter
 refused-source p S zero o q ne = absurd (ne refl)
 refused-source p S (suc e) o q ne = (rw (sym q), rw (sym q))
 
-room-is : (p : List ℕ) (S : ℕ) (r : Routes) (o : List ℕ) → sourceError large p S ≡ 0 → r .source ≡ S → routeEntries r ≡ entriesFrom large p S 0 (nodeCount (shapeOf p)) →
-    (sheetOf r ≡ plannedSheet large p S) × (writeError large p (sheetOf r) o ≡ roomError (sourceError large p S) (plannedSheet large p S) o)
-unfolding sheetOf plannedSheet
-room-is p S r o h es ee =
-    let sheet : sheetOf r ≡ plannedSheet large p S = ap (λ x. sheetBytes Layout.written x (routeEntries r)) es ∙ ap (sheetBytes Layout.written S) ee in
-    (sheet, rw (sheet, h, sheet-accepted large p S (source-of large p S h)))
+module _ (p : List ℕ) (S e : ℕ) (r : Routes) (o : List ℕ) (w : Written) (out : List ℕ) (ee : e ≡ sourceError large p S) (z : e ≡ 0)
+    (made : (r .source ≡ S) × (routeEntries r ≡ entriesFrom large p S 0 (nodeCount (shapeOf p)))) where
+  none : sourceError large p S ≡ 0
+  none = sym ee ∙ z
 
-pub written-is :
-    (p : List ℕ) (S e : ℕ) (r : Routes) (o : List ℕ) (w : Written) (out : List ℕ) → e ≡ sourceError large p S → e ≡ 0 →
-    (r .source ≡ S) × (routeEntries r ≡ entriesFrom large p S 0 (nodeCount (shapeOf p))) →
-    (w ≡ written (writeError large p (sheetOf r) o) (sheetOf r)) × (out ≡ outAfter (writeError large p (sheetOf r) o) (sheetOf r) o) →
-    (w ≡ written (roomError (sourceError large p S) (plannedSheet large p S) o) (plannedSheet large p S)) × (out ≡ outAfter (roomError (sourceError large p S) (plannedSheet large p S) o) (plannedSheet large p S) o)
-written-is p S e r o w out ee z made h =
-    let t = room-is p S r o (sym ee ∙ z) (made .0) (made .1) in
-    rw (sym (t .1), sym (t .0)) h
+  sheet-is : sheetOf r ≡ plannedSheet large p S
+  unfolding sheetOf plannedSheet
+  sheet-is = ap (λ x. sheetBytes Layout.written x (routeEntries r)) (made .0) ∙ ap (sheetBytes Layout.written S) (made .1)
+
+  -- The sheet of these routes is the planned sheet: writing it by checks that accept it is writing the planned sheet.
+  by-checks : (k : ℕ) → k ≡ 0 →
+      (w ≡ written (roomError k (sheetOf r) o) (sheetOf r)) × (out ≡ outAfter (roomError k (sheetOf r) o) (sheetOf r) o) →
+      (w ≡ written (roomError (sourceError large p S) (plannedSheet large p S) o) (plannedSheet large p S)) × (out ≡ outAfter (roomError (sourceError large p S) (plannedSheet large p S) o) (plannedSheet large p S) o)
+  by-checks k q h = rw (none, ← q, ← sheet-is) h
+
+  -- Written with the check of a route sheet.
+  pub written-is :
+      (w ≡ written (writeError large p (sheetOf r) o) (sheetOf r)) × (out ≡ outAfter (writeError large p (sheetOf r) o) (sheetOf r) o) →
+      (w ≡ written (roomError (sourceError large p S) (plannedSheet large p S) o) (plannedSheet large p S)) × (out ≡ outAfter (roomError (sourceError large p S) (plannedSheet large p S) o) (plannedSheet large p S) o)
+  written-is h = by-checks (sheetError large p (sheetOf r)) (ap (sheetError large p) sheet-is ∙ sheet-accepted large p S (source-of large p S none)) h
+
+  -- And with no such check.
+  pub put-is :
+      (w ≡ written (roomError (countError r) (sheetOf r) o) (sheetOf r)) × (out ≡ outAfter (roomError (countError r) (sheetOf r) o) (sheetOf r) o) →
+      (w ≡ written (roomError (sourceError large p S) (plannedSheet large p S) o) (plannedSheet large p S)) × (out ≡ outAfter (roomError (sourceError large p S) (plannedSheet large p S) o) (plannedSheet large p S) o)
+  put-is h =
+      let n : r .count ≡ length (entriesFrom large p S 0 (nodeCount (shapeOf p))) = sym (entries-count r) ∙ ap length (made .1) in
+      by-checks (countError r) (few-routes r (omega (arith, n, sheet-few large p S (source-of large p S none)))) h

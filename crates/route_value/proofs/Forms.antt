@@ -3,13 +3,14 @@ use Prim.Native.Nat.{ℕ, suc, _+_, _*_, _≤_, _<_}
 use native.Mathlib.Numerals.{add-one}
 use native.Mathlib.Omega.{arith}
 use mathlib.Core.Path.{_≡_, refl, ap, _∙_}
-use mathlib.Core.List.{List, _++_}
-use lib.ListN.{length, take}
-use lib.Seq.{sets, sets-eq, length-sets, getD-append-add}
-use Rattle.sheet.specs.Bytes.{byte, AreBytes, listFrom}
+use mathlib.Core.List.{List, [], _∷_, _++_}
+use lib.ListN.{length, take, drop, set}
+use lib.Seq.{sets, sets-eq, length-sets, getD-append-add, drop-set-lt}
+use Rattle.sheet.specs.Bytes.{byte, AreBytes, upperByte, lowerByte, listFrom}
+use Rattle.sheet.specs.Records.{recordsBytes}
 use Rattle.sheet.proofs.Records.{word-of, upper-of, lower-of, word-below}
 use Rattle.sheet.proofs.Forms.{Lawful}
-use Rattle.sheet.proofs.Encoding.{Encoding, onward}
+use Rattle.sheet.proofs.Encoding.{Encoding, begin, onward, ended}
 use Rattle.routes.specs.declared.layout.Entry.{Entry}
 use Rattle.routes.specs.Layout.{Format, EntryFits, formatBy, written, entriesAt, entryForm}
 use Rattle.route_value.specs.Writing.{headBytes}
@@ -65,6 +66,15 @@ entry-row l i e =
     let e₃ : a + 3 ≡ suc (suc (suc a)) = omega arith in
     rw (e₄, e₃, e₂, add-one a)
 
+-- An entry stored byte by byte.
+pub entry-stored :
+    (l : List ℕ) (i : ℕ) (e : Entry) (a b c d : ℕ) → a ≡ upperByte (e .dest) → b ≡ lowerByte (e .dest) → c ≡ upperByte (e .via) → d ≡ lowerByte (e .via) →
+    (let at = entriesAt + 5 * i in set (set (set (set (set l at a) (at + 1) b) (at + 2) (e .kind)) (at + 3) c) (at + 4) d) ≡ putEntry l i e
+unfolding putEntry
+entry-stored l i e a b c d ea eb ec ed =
+    let four : entriesAt + 5 * i + 4 ≡ entriesAt + 5 * i + 3 + 1 = omega arith in
+    rw (ea, eb, ec, ed, four)
+
 pub head-length : (l : List ℕ) (S n : ℕ) → length (putHead l S n) ≡ length l
 head-length l S n = ap length (head-row l S n) ∙ length-sets l 0 (headBytes written S n)
 
@@ -75,9 +85,33 @@ pub head-take : (l : List ℕ) (S n : ℕ) → entriesAt ≤ length l → take e
 unfolding headBytes
 head-take l S n h = rw (head-row l S n, sets-eq (headBytes written S n) l 0 (omega arith))
 
--- The loop that writes the entries behind the head.
-abbrev pub Encoded : ℕ → (ℕ → Entry) → List ℕ → List ℕ → ℕ → Type 0
-Encoded n f head bytes i = Encoding (entryForm written) (lawful-written .long) entriesAt n f head bytes i
+-- What stands past a row of bytes is untouched.
+drop-sets : (vs l : List ℕ) (i k : ℕ) → i + length vs ≤ k → drop k (sets l i vs) ≡ drop k l
+drop-sets [] l i k h = refl
+drop-sets (a ∷ vs) l i k h = drop-sets vs (set l i a) (suc i) k (omega arith) ∙ drop-set-lt k l i a (omega arith)
 
-pub entry-put : (n : ℕ) (f : ℕ → Entry) (head bytes : List ℕ) (i : ℕ) → Encoded n f head bytes i → (e : Entry) (after : List ℕ) → e ≡ f i → after ≡ putEntry bytes i e → i < n → Encoded n f head after (i + 1)
-entry-put n f head bytes i g e after q p h = onward (entryForm written) (lawful-written .long) entriesAt n f head bytes i g e after q (p ∙ entry-row bytes i e) h
+pub head-past : (l : List ℕ) (S n k : ℕ) → entriesAt ≤ k → drop k (putHead l S n) ≡ drop k l
+unfolding headBytes
+head-past l S n k h = ap (drop k) (head-row l S n) ∙ drop-sets (headBytes written S n) l 0 k (omega arith)
+
+-- The loop that writes the entries behind the head: i of n are written, and what stands past the sheet is untouched.
+pub record Encoded (n : ℕ) (f : ℕ → Entry) (head bytes : List ℕ) (i : ℕ) : Type 0 where
+  pub made : Encoding (entryForm written) (lawful-written .long) entriesAt n f head bytes i
+  pub past : drop (entriesAt + 5 * n) bytes ≡ drop (entriesAt + 5 * n) head
+
+module _ (n : ℕ) (f : ℕ → Entry) (head : List ℕ) where
+  pub first-entry : entriesAt + 5 * n ≤ length head → Encoded n f head head 0
+  first-entry h = record { made = begin (entryForm written) (lawful-written .long) entriesAt n f head h; past = refl }
+
+  module _ (bytes : List ℕ) (i : ℕ) (g : Encoded n f head bytes i) where
+    pub entry-room : i < n → entriesAt + 5 * i + 5 ≤ length bytes
+    entry-room h = omega (arith, g .made .room, g .made .long)
+
+    pub entry-put : (e : Entry) (after : List ℕ) → e ≡ f i → after ≡ putEntry bytes i e → i < n → Encoded n f head after (i + 1)
+    entry-put e after q p h = record {
+      made = onward (entryForm written) (lawful-written .long) entriesAt n f head bytes i (g .made) e after q (p ∙ entry-row bytes i e) h;
+      past = ap (drop (entriesAt + 5 * n)) (p ∙ entry-row bytes i e) ∙ drop-sets (entryForm written .bytes e) bytes (entriesAt + 5 * i) (entriesAt + 5 * n) (omega arith) ∙ g .past;
+    }
+
+    pub last-entry : n ≤ i → take (entriesAt + 5 * n) bytes ≡ take entriesAt head ++ recordsBytes (entryForm written) (listFrom f 0 n)
+    last-entry h = ended (entryForm written) (lawful-written .long) entriesAt n f head bytes i (g .made) h

@@ -1,14 +1,15 @@
 -- Reading what was written: the sheet of a source and a list of entries.
 use Prim.Native.Nat.{ℕ, _+_, _*_, _≤_, _<_}
 use native.Mathlib.Omega.{arith}
-use mathlib.Core.Path.{_≡_, refl, ap, _∙_}
+use mathlib.Core.Path.{_≡_, refl, sym, ap, _∙_}
 use mathlib.Core.Bool.{true}
 use mathlib.Core.List.{List, _++_}
-use lib.ListN.{length, getD, take}
+use lib.ListN.{length, getD, take, drop, take-append-drop}
+use lib.Seq.{take-append-seam}
 use borrow.Author.Tests.{le-leb, eq-eqb}
 use Rattle.sheet.specs.Bytes.{listFrom}
 use Rattle.sheet.specs.Head.{version, lengthIs}
-use Rattle.sheet.specs.Records.{recordsBytes}
+use Rattle.sheet.specs.Output.{outAfter}
 use Rattle.sheet.proofs.Records.{word-of, from-length, as-list}
 use Rattle.sheet.proofs.Heads.{version-read, length-read}
 use Rattle.sheet.proofs.Forms.{records-length, record-read}
@@ -22,7 +23,7 @@ use Rattle.route_value.specs.Reading.{entryArray, routesOf}
 use Rattle.route_value.specs.Writing.{headBytes, sheetBytes, routeEntries, sheetOf}
 use Rattle.route_value.specs.Value.{routesWith}
 use Rattle.route_value.specs.Steps.{putHead}
-use Rattle.route_value.proofs.Forms.{lawful-written, head-take}
+use Rattle.route_value.proofs.Forms.{lawful-written, head-take, head-past, Encoded, last-entry}
 
 module _ (S : ℕ) (es : List Entry) where
   -- The sheet that is written.
@@ -79,7 +80,26 @@ pub entries-count : (r : Routes) → length (routeEntries r) ≡ r .count
 unfolding routeEntries
 entries-count r = from-length (λ i. getD (r .entries) i noEntry) (r .count) 0
 
--- What is made entry by entry behind its head is the sheet.
-pub whole : (r : Routes) (l head t : List ℕ) → head ≡ putHead l (r .source) (r .count) → entriesAt ≤ length l → t ≡ take entriesAt head ++ recordsBytes (entryForm written) (listFrom (λ k. getD (r .entries) k noEntry) 0 (r .count)) → t ≡ sheetOf r
-unfolding sheetOf sheetBytes routeEntries
-whole r l head t e h q = q ∙ rw (e, head-take l (r .source) (r .count) h, from-length (λ k. getD (r .entries) k noEntry) (r .count) 0)
+pub sheet-size : (r : Routes) → length (sheetOf r) ≡ entriesAt + 5 * r .count
+unfolding sheetOf
+sheet-size r = sheet-length (r .source) (routeEntries r) ∙ ap (λ n. 7 + 5 * n) (entries-count r)
+
+-- What is made entry by entry behind its head is the sheet, and what stands past it is untouched.
+module _ (r : Routes) (l head bytes : List ℕ) (i : ℕ) (e : head ≡ putHead l (r .source) (r .count)) (h : entriesAt + 5 * r .count ≤ length l) where
+  abbrev entry : ℕ → Entry
+  entry k = getD (r .entries) k noEntry
+
+  front : Encoded (r .count) entry head bytes i → r .count ≤ i → take (entriesAt + 5 * r .count) bytes ≡ sheetOf r
+  unfolding sheetOf sheetBytes routeEntries
+  front g k = last-entry (r .count) entry head bytes i g k ∙ rw (e, head-take l (r .source) (r .count) (omega arith), from-length entry (r .count) 0)
+
+  pub whole : Encoded (r .count) entry head bytes i → r .count ≤ i → bytes ≡ outAfter 0 (sheetOf r) l
+  unfolding outAfter
+  whole g k =
+      let n = entriesAt + 5 * r .count in
+      let past : drop n bytes ≡ drop n l = g .past ∙ ap (drop n) e ∙ head-past l (r .source) (r .count) n (omega arith) in
+      sym (take-append-drop n bytes) ∙ rw (front g k, past, sheet-size r)
+
+pub front-whole : (r : Routes) (bytes l : List ℕ) → bytes ≡ outAfter 0 (sheetOf r) l → take (entriesAt + 5 * r .count) bytes ≡ sheetOf r
+unfolding outAfter
+front-whole r bytes l h = rw (h, ← sheet-size r) (take-append-seam (sheetOf r) (drop (length (sheetOf r)) l))

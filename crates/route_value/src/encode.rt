@@ -5,11 +5,14 @@ use routes::layout::ENTRIES_AT;
 use routes::layout::ENTRY_SIZE;
 use routes::layout::VERSION;
 use routes::layout::size_after;
+use sheet::lower;
 use sheet::put_byte;
 use sheet::put_word;
+use sheet::upper;
 ghost use mathlib.Core.Path.{_≡_};
 ghost use Prim.Native.Nat.{_+_, _*_, _≤_};
-ghost use lib.ListN.{length, take};
+ghost use lib.ListN.{length};
+ghost use Rattle.sheet.specs.Output.{outAfter};
 ghost use Rattle.routes.specs.Layout.{written, entriesAt, entrySize, mostEntries};
 ghost use Rattle.route_value.specs.Steps.{putHead, putEntry};
 ghost use Rattle.route_value.specs.Writing.{sheetOf};
@@ -24,27 +27,29 @@ fn put_head(bytes: &mut [u8], source: u16, count: u16)
     put_word(bytes, 5, count);
 }
 
-fn put_entry(bytes: &mut [u8], i: u16, e: Entry)
+fn put_entry(bytes: &mut [u8], i: usize, e: Entry)
+    requires { ⌜ entriesAt + entrySize written * i + entrySize written ≤ length (now bytes) ⌝ }
     ensures { λ _. ⌜ now (bytes .exit) ≡ putEntry (now (bytes .entry)) i e ⌝ }
 {
-    let at = ENTRIES_AT + ENTRY_SIZE * (i as usize);
-    put_word(bytes, at, e.dest);
-    put_byte(bytes, at + 2, e.kind);
-    put_word(bytes, at + 3, e.via);
+    let at = ENTRIES_AT + ENTRY_SIZE * i;
+    bytes[at] = upper(e.dest);
+    bytes[at + 1] = lower(e.dest);
+    bytes[at + 2] = e.kind;
+    bytes[at + 3] = upper(e.via);
+    bytes[at + 4] = lower(e.via);
 }
 
-// The sheet at the front of `bytes`.
+// The sheet at the front of `bytes`; what follows it there is untouched.
 pub fn encode(routes: Routes, bytes: &mut [u8])
     requires { ⌜ routes .count ≤ mostEntries ⌝ }
     requires { ⌜ entriesAt + entrySize written * routes .count ≤ length (now bytes) ⌝ }
-    ensures { λ _. ⌜ take (entriesAt + entrySize written * routes .count) (now (bytes .exit)) ≡ sheetOf routes ⌝ }
+    ensures { λ _. ⌜ now (bytes .exit) ≡ outAfter 0 (sheetOf routes) (now (bytes .entry)) ⌝ }
 {
-    let count = routes.count;
-    let entries = routes.entries;
-    put_head(bytes, routes.source, count);
-    let mut i: u16 = 0;
+    put_head(bytes, routes.source, routes.count);
+    let count = routes.count as usize;
+    let mut i: usize = 0;
     while i < count {
-        put_entry(bytes, i, entries[i as usize]);
+        put_entry(bytes, i, routes.entries[i]);
         i = i + 1;
     }
 }

@@ -6,4 +6,5 @@ mod writing;
 pub use reading::Reading;
 pub use reading::Routes;
 pub use reading::read;
+pub use writing::put_routes;
 pub use writing::write;

@@ -1,4 +1,6 @@
-use Rattle.route_value.specs.Steps.{putEntry}
+use native.Mathlib.Omega.{arith}
+use lib.ListN.{length-set}
+use Rattle.route_value.proofs.Forms.{entry-stored}
 use borrow.Author.Needs.{needs}
 use Rattle.route_value.proofs.encode.put_entry.Statement.{statement}
 use Rattle.route_value.proofs.encode.put_entry.Tie as tie
@@ -9,27 +11,50 @@ mul-at c = search needs
 add-at : tie.Need-add-at
 add-at c = search needs
 
-put-word-requires : tie.Need-put-word-requires
-put-word-requires c κs = search needs
+upper-requires : tie.Need-upper-requires
+upper-requires c κs = search needs
 
-add-put-byte : tie.Need-add-put-byte
-add-put-byte c = search needs
+slice-write-bytes : tie.Need-slice-write-bytes
+slice-write-bytes c = search needs
 
-put-byte-requires : tie.Need-put-byte-requires
-put-byte-requires c κs = search needs
+lower-requires : tie.Need-lower-requires
+lower-requires c κs = search needs
 
-add-put-word : tie.Need-add-put-word
-add-put-word c = search needs
+add-bytes : tie.Need-add-bytes
+add-bytes c = search needs
 
-put-word-requires-2 : tie.Need-put-word-requires-2
-put-word-requires-2 c κs = search needs
+slice-write-bytes-2 : tie.Need-slice-write-bytes-2
+slice-write-bytes-2 c = simp length-set (omega arith)
+
+add-bytes-2 : tie.Need-add-bytes-2
+add-bytes-2 c = search needs
+
+slice-write-bytes-3 : tie.Need-slice-write-bytes-3
+slice-write-bytes-3 c = simp length-set (omega arith)
+
+upper-requires-2 : tie.Need-upper-requires-2
+upper-requires-2 c κs = search needs
+
+add-bytes-3 : tie.Need-add-bytes-3
+add-bytes-3 c = search needs
+
+slice-write-bytes-4 : tie.Need-slice-write-bytes-4
+slice-write-bytes-4 c = simp length-set (omega arith)
+
+lower-requires-2 : tie.Need-lower-requires-2
+lower-requires-2 c κs = search needs
+
+add-bytes-4 : tie.Need-add-bytes-4
+add-bytes-4 c = search needs
+
+slice-write-bytes-5 : tie.Need-slice-write-bytes-5
+slice-write-bytes-5 c = simp length-set (omega arith)
 
 same-length : tie.Need-same-length
 same-length c = search needs
 
 returns : tie.Need-returns
-unfolding putEntry
-returns c = cc
+returns c = entry-stored _ _ _ _ _ _ _ (c .before .before .before .upper .ensures) (c .before .before .lower .ensures) (c .before .upper2 .ensures) (c .lower2 .ensures)
 
 pub put-entry-spec : {M : Type 1} → statement M
 put-entry-spec =
@@ -37,10 +62,18 @@ put-entry-spec =
     (tie.spec
     mul-at
     add-at
-    put-word-requires
-    add-put-byte
-    put-byte-requires
-    add-put-word
-    put-word-requires-2
+    upper-requires
+    slice-write-bytes
+    lower-requires
+    add-bytes
+    slice-write-bytes-2
+    add-bytes-2
+    slice-write-bytes-3
+    upper-requires-2
+    add-bytes-3
+    slice-write-bytes-4
+    lower-requires-2
+    add-bytes-4
+    slice-write-bytes-5
     same-length
     returns)

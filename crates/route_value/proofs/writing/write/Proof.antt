@@ -2,6 +2,7 @@ use mathlib.Core.Path.{_≡_}
 use lib.ListN.{length, length-map}
 use Rattle.routes.specs.Layout.{mostEntries}
 use Rattle.route_value.proofs.Many.{too-many}
+use Rattle.route_value.proofs.Writings.{front-whole}
 use Rattle.sheet.proofs.Outputs.{refused}
 use native.Mathlib.Omega.{arith}
 use borrow.Author.Needs.{needs}
@@ -47,7 +48,7 @@ same-length : tie.Need-same-length
 same-length c = search needs
 
 returns-2 : tie.Need-returns-2
-returns-2 c = rw (← c .before .before .before .before .before .before .encode .ensures) (c .before .before .write-front .ensures)
+returns-2 c = rw (← front-whole _ _ _ (c .before .before .before .before .before .before .encode .ensures)) (c .before .before .write-front .ensures)
 
 pub write-spec : {M : Type 1} → statement M
 write-spec =
