@@ -2,6 +2,7 @@
 use Prim.Native.Nat.{ℕ, zero, suc, _+_, _-_, _≤_, _<_}
 use native.Mathlib.Omega.{arith}
 use native.Mathlib.Numerals.{add-one}
+use native.Mathlib.Nat.{mul-zero, mul-assoc}
 use mathlib.Core.Path.{_≡_, refl, sym, ap, _∙_}
 use mathlib.Core.Bool.{Bool, true, false, cond, not, true≢false}
 use mathlib.Core.List.{List, [], _∷_, _++_}
@@ -11,15 +12,21 @@ use lib.Dec.{eqb}
 use borrow.Author.Tests.{eq-eqb, ne-eqb, lt-ltb}
 use Rattle.numbers.specs.Numbers.{nodeOutside, deadEnd}
 use Rattle.theory.specs.Checks.{declined, _then_}
-use Rattle.theory.proofs.Cases.{by-order}
+use Rattle.theory.proofs.Cases.{by-order, by-le}
 use Rattle.sheet.specs.declared.output.Written.{Written}
 use Rattle.sheet.specs.Bytes.{listFrom}
 use Rattle.sheet.specs.Output.{roomError, written, outAfter}
 use Rattle.sheet.proofs.Records.{from-same}
 use Rattle.shape.specs.declared.shape.Shape.{Shape}
+use Rattle.shape.specs.declared.shape.Coords.{Coords}
+use Rattle.shape.specs.declared.shape.Dim.the-variants.{X, Y, Z}
+use Rattle.shape.specs.Shape.{shapeError}
+use Rattle.shape.proofs.Shapes.{sound}
 use Rattle.machine.specs.declared.leg.Mode.{Mode}
 use Rattle.machine.specs.declared.leg.Mode.the-variants.{Adaptive, Deterministic}
-use Rattle.machine.specs.Number.{nodeCount}
+use Rattle.machine.specs.Number.{nodeCount, numberOf, coordsOf, Inside}
+use Rattle.machine.proofs.Numbers.{coords-number, number-below}
+use Rattle.rows.specs.Rows.{inSet}
 use Rattle.machine.specs.Node.{isNode, countAnswer}
 use Rattle.machine.proofs.Nodes.{node-of}
 use Rattle.plan.specs.Layout.{shapeOf, faultsOf}
@@ -27,7 +34,6 @@ use Rattle.plan.specs.Checks.{large, planError}
 use Rattle.plan.specs.Reading.{isPlan}
 use Rattle.dead.specs.Dead.{deadNode, bitOf, maskAnswer, nodeAnswer}
 use Rattle.dead.proofs.Table.{is-node}
-use Rattle.tables.specs.Table.{outwardAnswer}
 use Rattle.packet.specs.declared.route.Route.{Route}
 use Rattle.choice.specs.declared.outcome.Outcome.{Outcome}
 use Rattle.choice.specs.Choice.{det, lengthOf}
@@ -45,11 +51,13 @@ use Rattle.route_value.specs.declared.reading.Routes.{Routes}
 use Rattle.route_value.specs.Writing.{sheetBytes, routeEntries, sheetOf, countError}
 use Rattle.route_value.proofs.Writings.{entries-count}
 use Rattle.route_value.proofs.Putting.{few-routes}
-use Rattle.planner.specs.OneDestination.{outcomeTo}
+use Rattle.planner.specs.declared.outside.At.{At}
+use Rattle.planner.specs.Outside.{placeOf, Stands, NextOutside}
+use Rattle.planner.specs.Known.{isClear, IsAt, Ready}
 use Rattle.planner.specs.Sheet.{sourceError, lists, entriesFrom, plannedSheet}
-use Rattle.planner.specs.Steps.{isListed, pickEntry, counted, lastAt}
-use Rattle.planner.proofs.Planned.{nodes-most}
-use Rattle.planner.proofs.OneDestination.{Ready, dest-planned}
+use Rattle.planner.proofs.Knowing.{shape-ok}
+use Rattle.planner.proofs.FirstSteps.{nodes-few}
+use Rattle.planner.proofs.Listed.{unclear-listed, clear-unlisted}
 use Rattle.planner.proofs.Planning.{Source, source-of, self-unlisted, sheet-few, sheet-accepted}
 
 -- ---- the checks
@@ -67,20 +75,6 @@ source-error p s S zero a b es ee ea eb =
     let d : b ≡ deadNode (faultsOf p) S = eb ∙ rw (eq-eqb (planError large p) 0 z) in
     rw (z, sym es, sym ea, sym d) (checks a b)
 source-error p s S (suc e) a b es ee ea eb = rw (sym ee, ne-eqb (suc e) 0 (λ z. omega arith))
-
--- ---- a destination's entry
-listed-mode : (m : Mode) (len : ℕ) → isListed (Outcome.Given (Route.Direct m) len) ≡ not (eqb (det m) 0)
-unfolding isListed
-listed-mode Adaptive len = refl
-listed-mode Deterministic len = refl
-
-told-listed : (s : Shape) (S : ℕ) (a : Answer) → isListed (told s S a) ≡ lists a
-unfolding isListed told toldAs lists
-told-listed s S (Given []) = refl
-told-listed s S (Given (l ∷ [])) = listed-mode (l .mode) (lengthOf s S (l ∷ []))
-told-listed s S (Given (l ∷ m ∷ [])) = refl
-told-listed s S (Given (l ∷ m ∷ n ∷ ls)) = refl
-told-listed s S (Refused n) = refl
 
 -- ---- lists built at their end
 from-last : (f : ℕ → Entry) (n i : ℕ) → listFrom f i (n + 1) ≡ listFrom f i n ++ (f (i + n) ∷ [])
@@ -125,7 +119,7 @@ module _ (p : List ℕ) (S : ℕ) where
     x = pair large p S d
 
     most : nodeCount (shapeOf p) ≤ 4096
-    most = nodes-most (shapeOf p) (node-of (shapeOf p) S (s .node) .sound)
+    most = nodes-few (shapeOf p) (node-of (shapeOf p) S (s .node) .sound)
 
     pub bound : listed ≤ 4096
     bound = omega (arith, most, g .few)
@@ -172,89 +166,131 @@ module _ (p : List ℕ) (S : ℕ) where
       sum = ap (λ a. first entries listed ++ a) (sym (rest ∙ rw h)) ∙ g .sum;
     }
 
-    next-by : (more : Bool) (at : ℕ) → more ≡ lists x → at ≡ lastAt listed → Listing p S (set entries at (pickEntry more (entryFor d x) (getD entries at noEntry))) (counted listed more) (d + 1)
-    unfolding lastAt
-    next-by true at em ea = rw (ea, lt-ltb listed 4095 (room (sym em))) (next-listed (sym em))
-    next-by false at em ea = rw (set-get entries at) (next-unlisted (sym em))
-
-    pub onward :
-        (shape : Shape) (masks dead from : List ℕ) → Ready p S shape masks dead from →
-        (o : Outcome) (more : Bool) (at : ℕ) (new put : Entry) (next : ℕ) →
-        o ≡ outcomeTo shape masks dead from S d →
-        more ≡ isListed o →
-        at ≡ lastAt listed →
-        new ≡ entryFor d (heard d o) →
-        put ≡ pickEntry more new (getD entries at noEntry) →
-        next ≡ counted listed more →
-        Listing p S (set entries at put) next (d + 1)
-    onward shape masks dead from ready o more at new put next eo em ea en ep ex =
+    -- The entry of a destination that is listed.
+    pub entered : isClear p Adaptive S d ≡ false → (o : Outcome) (e : Entry) → o ≡ told (shapeOf p) S x → e ≡ entryFor d (heard d o) → (listed < 4095) × Listing p S (set entries listed e) (listed + 1) (d + 1)
+    entered c o e eo ee =
         let node = is-node (shapeOf p) d (record { sound = node-of (shapeOf p) S (s .node) .sound; below = l }) in
-        let is : o ≡ told (shapeOf p) S x = eo ∙ dest-planned p S shape masks dead from ready d node in
-        let listing : more ≡ lists x = em ∙ ap isListed is ∙ told-listed (shapeOf p) S x in
-        let made : new ≡ entryFor d x = en ∙ ap (λ y. entryFor d (heard d y)) is ∙ entry-told (shapeOf p) S d x in
-        rw (ep, ex, made) (next-by more at listing ea)
+        let h = unclear-listed p S s d node c in
+        let made : e ≡ entryFor d x = ee ∙ ap (λ y. entryFor d (heard d y)) eo ∙ entry-told (shapeOf p) S d x in
+        (room h, rw made (next-listed h))
+
+  -- Destinations that are not listed are passed over.
+  module _ (s : Source large p S) (entries : List Entry) (listed : ℕ) where
+    pub passed : (k d : ℕ) → d + k ≤ nodeCount (shapeOf p) → ((v : ℕ) → d ≤ v → v < d + k → isClear p Adaptive S v ≡ true) → Listing p S entries listed d → Listing p S entries listed (d + k)
+    passed zero d m c g = let z : d + 0 ≡ d = omega arith in rw z g
+    passed (suc k) d m c g =
+        let node = is-node (shapeOf p) d (record { sound = node-of (shapeOf p) S (s .node) .sound; below = omega arith }) in
+        let one : Listing p S entries listed (d + 1) = next-unlisted s entries listed d g (omega arith) (clear-unlisted p S s d node (c d (omega arith) (omega arith))) in
+        let z : d + suc k ≡ (d + 1) + k = omega arith in
+        rw z (passed k (d + 1) (omega arith) (λ v a b. c v (omega arith) (omega arith)) one)
 
   pub ended : (entries : List Entry) (listed d : ℕ) → Listing p S entries listed d → nodeCount (shapeOf p) ≤ d → first entries listed ≡ entriesFrom large p S 0 (nodeCount (shapeOf p))
   unfolding entriesFrom
   ended entries listed d g h = let z : nodeCount (shapeOf p) - d ≡ 0 = omega arith in sym (append-nil (first entries listed)) ∙ rw z at (g .sum)
 
-pub ready-of :
-    (p : List ℕ) (S : ℕ) (s : Shape) (masks dead from : List ℕ) → sourceError large p S ≡ 0 → s ≡ shapeOf p →
-    ((n : ℕ) → getD masks n 0 ≡ maskAnswer large p n) →
-    ((n : ℕ) → getD dead n 0 ≡ bitOf (nodeAnswer large p n)) →
-    ((n : ℕ) → getD from n 0 ≡ outwardAnswer s masks S n) →
-    Ready p S s masks dead from
-ready-of p S s masks dead from h es links nodes out =
-    let k = source-of large p S h in
-    record { plan = k .plan; source = k .node; alive = k .alive; shape = es; links = links; nodes = nodes; out = out }
+-- ---- all that holds at a turn
+pub record Going (p : List ℕ) (s : Shape) (words : List ℕ) (count : ℕ) (dead ta td work : List ℕ) (S : ℕ) (a : Coords) (fa fd : List ℕ) (entries : List Entry) (listed : ℕ) (at : At) : Type 0 where
+  pub ready : Ready p s words count dead ta td work S a fa fd
+  pub stands : Stands s at
+  pub out : at .z < s .z → (at .x < s .x) × (inSet s fa 0 (at .node) ≡ false)
+  pub listing : Listing p S entries listed (at .node)
 
--- All that holds at a turn.
-pub record Going (p : List ℕ) (S : ℕ) (s : Shape) (masks dead from : List ℕ) (all : ℕ) (entries : List Entry) (listed d : ℕ) : Type 0 where
-  pub accepted : sourceError large p S ≡ 0
-  pub ready : Ready p S s masks dead from
-  pub count : all ≡ nodeCount (shapeOf p)
-  pub listing : Listing p S entries listed d
+module _ (p : List ℕ) (s : Shape) (words : List ℕ) (count : ℕ) (dead ta td work : List ℕ) (S : ℕ) (a : Coords) (fa fd : List ℕ) (ready : Ready p s words count dead ta td work S a fa fd) where
+  abbrev same : s ≡ shapeOf p
+  same = ready .prepared .of-plan .shape
 
-pub going :
-    (p : List ℕ) (S : ℕ) (s : Shape) (masks dead from : List ℕ) (all : ℕ) → sourceError large p S ≡ 0 → s ≡ shapeOf p →
-    ((n : ℕ) → getD masks n 0 ≡ maskAnswer large p n) →
-    ((n : ℕ) → getD dead n 0 ≡ bitOf (nodeAnswer large p n)) →
-    ((n : ℕ) → getD from n 0 ≡ outwardAnswer s masks S n) →
-    all ≡ countAnswer s →
-    Going p S s masks dead from all (replicate 4095 noEntry) 0 0
-going p S s masks dead from all h es links nodes out c = record {
-  accepted = h;
-  ready = ready-of p S s masks dead from h es links nodes out;
-  count = c ∙ rw (es, eq-eqb _ 0 (node-of (shapeOf p) S (source-of large p S h .node) .sound));
-  listing = begin p S;
-}
+  abbrev accepted : planError large p ≡ 0
+  accepted = ready .prepared .of-plan .plan
 
-module _ (p : List ℕ) (S : ℕ) (s : Shape) (masks dead from : List ℕ) (all : ℕ) (entries : List Entry) (listed d : ℕ) (g : Going p S s masks dead from all entries listed d) where
-  pub few : (listed ≤ 4096) × (d ≤ 4096) × (all ≤ 4096)
-  few =
-      let m = nodes-most (shapeOf p) (node-of (shapeOf p) S (source-of large p S (g .accepted) .node) .sound) in
-      let w = g .listing .within in
-      let f = g .listing .few in
-      (omega arith, omega arith, omega (arith, g .count))
+  pub ok : shapeError s ≡ 0
+  ok = rw same (shape-ok p accepted)
 
-  pub turn :
-      d < all → (o : Outcome) (more : Bool) (at : ℕ) (new put : Entry) (next : ℕ) →
-      o ≡ outcomeTo s masks dead from S d →
-      more ≡ isListed o →
-      at ≡ lastAt listed →
-      new ≡ entryFor d (heard d o) →
-      put ≡ pickEntry more new (getD entries at noEntry) →
-      next ≡ counted listed more →
-      Going p S s masks dead from all (set entries at put) next (d + 1)
-  turn l o more at new put next eo em ea en ep ex = record {
-    accepted = g .accepted;
-    ready = g .ready;
-    count = g .count;
-    listing = onward p S (source-of large p S (g .accepted)) entries listed d (g .listing) (omega (arith, g .count)) s masks dead from (g .ready) o more at new put next eo em ea en ep ex;
-  }
+  source : Source large p S
+  source = record { plan = accepted; node = is-node (shapeOf p) S (record { sound = shape-ok p accepted; below = ready .source .node }); alive = ready .alive }
 
-  pub done : all ≤ d → first entries listed ≡ entriesFrom large p S 0 (nodeCount (shapeOf p))
-  done h = ended p S entries listed d (g .listing) (omega (arith, g .count))
+  pub starts : Stands s (record { node = 0; x = 0; y = 0; z = 0 })
+  unfolding numberOf
+  starts = record { node = simp mul-zero refl; x = omega arith; y = sound s ok Y .low; z = omega arith; end = λ e. (refl, refl) }
+
+  -- The node is one of the shape, or the count.
+  stands-below : (at : At) → Stands s at → at .node ≤ nodeCount s
+  unfolding numberOf nodeCount
+  stands-below at g =
+      by-le (s .z) (at .z)
+      (λ m. let e : at .z ≡ s .z = omega (arith, g .z) in let o = g .end e in
+      let q : at .node ≡ 0 + s .x * (0 + s .y * s .z) = g .node ∙ rw (o .0, o .1, e) in
+      let r : 0 + s .x * (0 + s .y * s .z) ≡ s .x * s .y * s .z = (let w : 0 + s .y * s .z ≡ s .y * s .z = omega arith in rw w (omega (arith, mul-assoc (s .x) (s .y) (s .z)))) in
+      omega arith)
+      (λ m.
+      let n = number-below s ok (record { x = s .x - 1; y = at .y; z = at .z }) (record { x = omega (arith, sound s ok X .low); y = g .y; z = m }) in
+      omega (arith, g .node, g .x, sound s ok X .low, n))
+
+  module _ (entries : List Entry) (listed : ℕ) (from r : At) (stand : Stands s from) (next : NextOutside s fa from r) (before : Listing p S entries listed (from .node)) where
+    pub found : Going p s words count dead ta td work S a fa fd entries listed r
+    found =
+        let few = stands-below r (next .stands) in
+        let up = next .onward in
+        let n = nodeCount-same in
+        let e : from .node + (r .node - from .node) ≡ r .node = omega arith in
+        record {
+          ready = ready;
+          stands = next .stands;
+          out = next .found;
+          listing = rw (← e) (passed p S source entries listed (r .node - from .node) (from .node) (omega arith)
+              (λ v x y. sym (ready .adaptive v (omega arith)) ∙ rw (← same) (next .skipped v x (omega arith))) before);
+        }
+      where
+        nodeCount-same : nodeCount s ≡ nodeCount (shapeOf p)
+        nodeCount-same = ap nodeCount same
+
+  module _ (entries : List Entry) (listed : ℕ) (at : At) (g : Going p s words count dead ta td work S a fa fd entries listed at) where
+    pub few : (listed ≤ 4096) × (at .node ≤ 4096)
+    few =
+        let m = nodes-few (shapeOf p) (shape-ok p accepted) in
+        let w = g .listing .within in
+        let f = g .listing .few in
+        (omega arith, omega arith)
+
+    module _ (l : at .z < s .z) where
+      here : Inside s (placeOf at)
+      here = record { x = g .out l .0; y = g .stands .y; z = l }
+
+      pub is-at : (t : Coords) → t ≡ placeOf at → IsAt p (at .node) t
+      is-at t e =
+          let below : at .node < nodeCount s = rw (g .stands .node) (number-below s ok (placeOf at) here) in
+          let c : coordsOf s (at .node) ≡ placeOf at = rw (g .stands .node) (coords-number s ok (placeOf at) here) in
+          record { node = rw same at below; at = e ∙ sym c ∙ ap (λ m. coordsOf m (at .node)) same }
+
+      pub unclear : isClear p Adaptive S (at .node) ≡ false
+      unclear = sym (ready .adaptive (at .node) (is-at (placeOf at) refl .node)) ∙ rw (← same) (g .out l .1)
+
+      pub places : (at .x < 16) × (at .node < 4096)
+      places = (omega (arith, g .out l .0, sound s ok X .high), omega (arith, is-at (placeOf at) refl .node, nodes-few (shapeOf p) (shape-ok p accepted)))
+
+      pub after : Stands s (record { node = at .node + 1; x = at .x + 1; y = at .y; z = at .z })
+      unfolding numberOf
+      after = record { node = omega (arith, g .stands .node); x = omega (arith, g .out l .0); y = g .stands .y; z = g .stands .z; end = λ e. absurd (omega arith) }
+
+      pub turn :
+          (o : Outcome) (e : Entry) (r : At) → o ≡ told (shapeOf p) S (pair large p S (at .node)) → e ≡ entryFor (at .node) (heard (at .node) o) →
+          NextOutside s fa (record { node = at .node + 1; x = at .x + 1; y = at .y; z = at .z }) r →
+          (listed < 4095) × Going p s words count dead ta td work S a fa fd (set entries listed e) (listed + 1) r
+      turn o e r eo ee next =
+          let n = entered p S source entries listed (at .node) (g .listing) (is-at (placeOf at) refl .node) unclear o e eo ee in
+          (n .0, found (set entries listed e) (listed + 1) _ r after next (n .1))
+
+    pub done : s .z ≤ at .z → first entries listed ≡ entriesFrom large p S 0 (nodeCount (shapeOf p))
+    unfolding numberOf nodeCount
+    done m =
+        let e : at .z ≡ s .z = omega (arith, g .stands .z) in
+        let o = g .stands .end e in
+        let q : at .node ≡ 0 + s .x * (0 + s .y * s .z) = g .stands .node ∙ rw (o .0, o .1, e) in
+        let r : 0 + s .x * (0 + s .y * s .z) ≡ s .x * s .y * s .z = (let w : 0 + s .y * s .z ≡ s .y * s .z = omega arith in rw w (omega (arith, mul-assoc (s .x) (s .y) (s .z)))) in
+        let n : nodeCount s ≡ nodeCount (shapeOf p) = ap nodeCount same in
+        ended p S entries listed (at .node) (g .listing) (omega arith)
+
+  pub begun : (r : At) → NextOutside s fa (record { node = 0; x = 0; y = 0; z = 0 }) r → Going p s words count dead ta td work S a fa fd (replicate 4095 noEntry) 0 r
+  begun r next = found (replicate 4095 noEntry) 0 _ r starts next (begin p S)
 
 -- ---- the sheet
 pub refused-source : (p : List ℕ) (S e : ℕ) (o : List ℕ) → e ≡ sourceError large p S → (e ≡ 0 → ⊥) →

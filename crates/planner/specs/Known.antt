@@ -4,7 +4,7 @@ use mathlib.Core.Path.{_≡_}
 use mathlib.Core.Logic.{_⊎_, _↔_}
 use mathlib.Core.Bool.{Bool, true, false}
 use mathlib.Core.List.{List}
-use lib.ListN.{length}
+use lib.ListN.{length, getD}
 use lib.Dec.{ltb}
 use Rattle.numbers.specs.Numbers.{noClearChoice}
 use Rattle.theory.specs.Clear.{clear}
@@ -15,14 +15,16 @@ use Rattle.machine.specs.declared.leg.Mode.the-variants.{Adaptive, Deterministi
 use Rattle.machine.specs.Number.{nodeCount, coordsOf}
 use Rattle.machine.specs.Hop.{distance}
 use Rattle.machine.specs.Torus.{leg, torus}
-use Rattle.plan.specs.Layout.{shapeOf}
+use Rattle.plan.specs.Layout.{shapeOf, faultsOf}
 use Rattle.plan.specs.Checks.{large, planError}
+use Rattle.dead.specs.Dead.{deadNode, bitOf, nodeAnswer}
 use Rattle.packet.specs.declared.route.Route.{Route}
 use Rattle.choice.specs.declared.outcome.Outcome.{Outcome}
 use Rattle.choice.specs.Outcome.{told}
 use Rattle.choice.specs.Pair.{soundIn, routeIn, chosen}
 use Rattle.rows.specs.Rows.{inSet, inProduct}
 use Rattle.losses.specs.OfPlan.{AreLosses}
+use Rattle.masks.specs.Masks.{Masked}
 use Rattle.planner.specs.KeyNumber.{pickOutcome}
 
 -- The leg from u to v in mode m is clear.
@@ -120,3 +122,42 @@ pub record Faring (p : List ℕ) (s : Shape) (S D : ℕ) (a t : Coords) (fa fd t
   pub deterministic : FromSet p Deterministic S fd
   pub both : BothTo p D to at
   pub blocked : isClear p Deterministic S D ≡ false
+
+-- What depends on the plan alone: its shape, losses and dead nodes, the masks of all targets, and the sets to all nodes where the run has them.
+pub record Prepared (p : List ℕ) (s : Shape) (words : List ℕ) (count : ℕ) (dead ta td work : List ℕ) : Type 0 where
+  pub of-plan : OfPlan p s words count
+  pub nodes : (n : ℕ) → getD dead n 0 ≡ bitOf (nodeAnswer large p n)
+  pub adaptive : Masked Adaptive false s ta
+  pub deterministic : Masked Deterministic false s td
+  pub sets : Work p work
+
+-- And on the source S, which is sound: the nodes with a clear leg from it.
+pub record Ready (p : List ℕ) (s : Shape) (words : List ℕ) (count : ℕ) (dead ta td work : List ℕ) (S : ℕ) (a : Coords) (fa fd : List ℕ) : Type 0 where
+  pub prepared : Prepared p s words count dead ta td work
+  pub source : IsAt p S a
+  pub alive : deadNode (faultsOf p) S ≡ false
+  pub adaptive : FromSet p Adaptive S fa
+  pub deterministic : FromSet p Deterministic S fd
+
+-- All that planning one destination rests on, by the sets to all nodes, or by the losses and the masks of all targets.
+pub record BySets (p : List ℕ) (s : Shape) (work : List ℕ) (S D : ℕ) (a t : Coords) (fa fd : List ℕ) (straight : Bool) : Type 0 where
+  pub plan : planError large p ≡ 0
+  pub shape : s ≡ shapeOf p
+  pub source : IsAt p S a
+  pub target : IsAt p D t
+  pub adaptive : FromSet p Adaptive S fa
+  pub deterministic : FromSet p Deterministic S fd
+  pub both : BothTo p D work (512 * D)
+  pub direct : isClear p Adaptive S D ≡ false
+  pub one : straight ≡ isClear p Deterministic S D
+
+pub record ByLosses (p : List ℕ) (s : Shape) (words : List ℕ) (count : ℕ) (ta td : List ℕ) (S D : ℕ) (a t : Coords) (fa fd : List ℕ) (straight : Bool) : Type 0 where
+  pub of-plan : OfPlan p s words count
+  pub masks : Masked Adaptive false s ta
+  pub others : Masked Deterministic false s td
+  pub source : IsAt p S a
+  pub target : IsAt p D t
+  pub adaptive : FromSet p Adaptive S fa
+  pub deterministic : FromSet p Deterministic S fd
+  pub direct : isClear p Adaptive S D ≡ false
+  pub one : straight ≡ isClear p Deterministic S D

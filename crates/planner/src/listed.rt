@@ -1,0 +1,130 @@
+// What a route sheet from a source lists: the destinations to which the direct adaptive leg is not clear.
+use crate::dest::outcome_to;
+use crate::outside::At;
+use crate::outside::next_outside;
+use crate::sets_of::from_set;
+use machine::leg::Mode;
+use route_value::Routes;
+use routes::Entry;
+use routes::kinds::entry_for;
+use routes::layout::MOST_ENTRIES;
+use shape::Coords;
+use shape::Shape;
+ghost use mathlib.Core.Path.{_≡_};
+ghost use mathlib.Core.Bool.{false};
+ghost use Rattle.machine.specs.Number.{nodeCount};
+ghost use Rattle.plan.specs.Layout.{shapeOf, faultsOf};
+ghost use Rattle.plan.specs.Checks.{large};
+ghost use Rattle.dead.specs.Dead.{deadNode};
+ghost use Rattle.route_value.specs.Writing.{routeEntries};
+ghost use Rattle.planner.specs.Sheet.{entriesFrom};
+ghost use Rattle.planner.specs.Known.{IsAt, Prepared, Ready};
+
+// The sets from the source, and what is known of the plan. Each destination is planned once.
+fn list(
+    plan: &[u8],
+    shape: Shape,
+    words: &[u16; 256],
+    count: usize,
+    dead: &[u8; 4096],
+    ta: &[u16; 4608],
+    td: &[u16; 4608],
+    work: &[u16],
+    source: u16,
+    a: Coords,
+    fa: &[u16; 256],
+    fd: &[u16; 256],
+) -> Routes
+    requires { ⌜ Ready (now plan) shape (now words) count (now dead) (now ta) (now td) (now work) source a (now fa) (now fd) ⌝ }
+    ensures { λ r. ⌜ (r .source ≡ source) × (routeEntries r ≡ entriesFrom large (now (plan .entry)) source 0 (nodeCount (shapeOf (now (plan .entry))))) ⌝ }
+{
+    let mut entries = [Entry {
+        dest: 0,
+        kind: 0,
+        via: 0,
+    }; MOST_ENTRIES];
+    let mut listed: usize = 0;
+    let mut at = next_outside(
+        shape,
+        fa,
+        At {
+            node: 0,
+            x: 0,
+            y: 0,
+            z: 0,
+        },
+    );
+    while at.z < shape.z {
+        let dest = at.node;
+        let t = Coords {
+            x: at.x,
+            y: at.y,
+            z: at.z,
+        };
+        let outcome = outcome_to(
+            plan,
+            shape,
+            words,
+            count,
+            dead,
+            ta,
+            td,
+            work,
+            source,
+            a,
+            fa,
+            fd,
+            dest,
+            t,
+        );
+        entries[listed] = entry_for(dest, outcome);
+        listed = listed + 1;
+        at = next_outside(
+            shape,
+            fa,
+            At {
+                node: dest + 1,
+                x: t.x + 1,
+                y: t.y,
+                z: t.z,
+            },
+        );
+    }
+    let entry_count = listed as u16;
+    Routes {
+        source: source,
+        count: entry_count,
+        entries: entries,
+    }
+}
+
+// From a sound source. The empty run `work` has no sets.
+pub fn routes_from(
+    plan: &[u8],
+    shape: Shape,
+    words: &[u16; 256],
+    count: usize,
+    dead: &[u8; 4096],
+    ta: &[u16; 4608],
+    td: &[u16; 4608],
+    work: &[u16],
+    source: u16,
+    a: Coords,
+) -> Routes
+    requires { ⌜ Prepared (now plan) shape (now words) count (now dead) (now ta) (now td) (now work) ⌝ }
+    requires { ⌜ IsAt (now plan) source a ⌝ }
+    requires { ⌜ deadNode (faultsOf (now plan)) source ≡ false ⌝ }
+    ensures { λ r. ⌜ (r .source ≡ source) × (routeEntries r ≡ entriesFrom large (now (plan .entry)) source 0 (nodeCount (shapeOf (now (plan .entry))))) ⌝ }
+{
+    let fa = from_set(plan, Mode::Adaptive, shape, words, count, source, a);
+    let fd = from_set(
+        plan,
+        Mode::Deterministic,
+        shape,
+        words,
+        count,
+        source,
+        a,
+    );
+    list(plan, shape, words, count, dead, ta, td, work, source, a, &fa, &fd)
+}
