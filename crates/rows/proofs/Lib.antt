@@ -1,3 +1,4 @@
 pub mod Bits
 pub mod Rowing
 pub mod Taking
+pub mod Combined
