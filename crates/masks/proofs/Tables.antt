@@ -15,16 +15,64 @@ use Rattle.shape.specs.declared.shape.Shape.{Shape}
 use Rattle.shape.specs.declared.shape.Coords.{Coords}
 use Rattle.shape.specs.declared.shape.Dim.{Dim}
 use Rattle.shape.specs.declared.shape.Dim.the-variants.{X, Y, Z}
-use Rattle.shape.specs.Shape.{shapeError, extentOf, coordOf}
+use Rattle.shape.specs.Shape.{shapeError, extentOf, wrappedIn, coordOf}
 use Rattle.shape.proofs.Shapes.{sound}
 use Rattle.machine.specs.declared.leg.Mode.{Mode}
 use Rattle.machine.specs.Hop.{pickDim}
 use Rattle.rows.proofs.Taking.{getD-same}
-use Rattle.masks.specs.Masks.{dimAt, maskAt, tableAt, endAt, endsAt, gatherAt, Ended, Masked}
+use Rattle.rows.specs.Bits.{rowOf}
+use Rattle.masks.specs.Ranges.{waysRow, endWay, anyWay}
+use Rattle.masks.specs.Masks.{endCell, maskOf, dimAt, maskAt, tableAt, endAt, endsAt, gatherAt, Ended, Masked}
 use Rattle.masks.specs.Laid.{Laid, laidTo}
 
 pub extent-most : (s : Shape) → shapeError s ≡ 0 → (d : Dim) (e : ℕ) → e ≡ extentOf s d → e ≤ 16
 extent-most s h d e q = rw q (sound s h d .high)
+
+-- ---- an element: of an end that is no place, and of one that is
+module _ (mode : Mode) (from : Bool) (s : Shape) (i : ℕ) (dim : Dim) where
+  pub end-none : (at : Coords) (len end : ℕ) → dim ≡ dimAt (i / 96) → len ≡ extentOf s dim → end ≡ coordOf at dim → len ≤ end → 0 ≡ endAt mode from s at i
+  unfolding endAt maskOf
+  end-none at len end ed el ee h = rw (← ed, ← el, ← ee, le-ltb end len h)
+
+  pub end-some :
+      (at : Coords) (len : ℕ) (ring : Bool) (end r : ℕ) → dim ≡ dimAt (i / 96) → len ≡ extentOf s dim → ring ≡ wrappedIn s dim → end ≡ coordOf at dim → end < len →
+      r ≡ rowOf (endCell mode from len ring (i % 96 / 16) (i % 16) end) len → r ≡ endAt mode from s at i
+  unfolding endAt maskOf
+  end-some at len ring end r ed el er ee h q = q ∙ rw (← ed, ← el, ← er, ← ee, lt-ltb end len h)
+
+  pub mask-none : (len : ℕ) → dim ≡ dimAt (i / 1536) → len ≡ extentOf s dim → len ≤ i / 96 % 16 → 0 ≡ maskAt mode from s i
+  unfolding maskAt maskOf
+  mask-none len ed el h = rw (← ed, ← el, le-ltb (i / 96 % 16) len h)
+
+  pub mask-some :
+      (len : ℕ) (ring : Bool) (r : ℕ) → dim ≡ dimAt (i / 1536) → len ≡ extentOf s dim → ring ≡ wrappedIn s dim → i / 96 % 16 < len →
+      r ≡ rowOf (endCell mode from len ring (i % 96 / 16) (i % 16) (i / 96 % 16)) len → r ≡ maskAt mode from s i
+  unfolding maskAt maskOf
+  mask-some len ring r ed el er h q = q ∙ rw (← ed, ← el, ← er, lt-ltb (i / 96 % 16) len h)
+
+-- ---- the ways of an end
+module _ (from : Bool) (s : Shape) (dim : Dim) where
+  pub end-way : (at : Coords) (d len : ℕ) (ring : Bool) (end r : ℕ) → dim ≡ dimAt d → len ≡ extentOf s dim → ring ≡ wrappedIn s dim → end ≡ coordOf at dim → r ≡ waysRow from len ring end → r ≡ endWay from s at d
+  unfolding endWay
+  end-way at d len ring end r ed el er ee q = q ∙ rw (← ed, ← el, ← er, ← ee)
+
+  pub any-way : (k len : ℕ) (ring : Bool) (r : ℕ) → dim ≡ dimAt (k / 16) → len ≡ extentOf s dim → ring ≡ wrappedIn s dim → r ≡ waysRow from len ring (k % 16) → r ≡ anyWay from s k
+  unfolding anyWay
+  any-way k len ring r ed el er q = q ∙ rw (← ed, ← el, ← er)
+
+  pub end-ways :
+      (at : Coords) (ways : List ℕ) (d len : ℕ) (ring : Bool) (end : ℕ) → d < 3 → ((d : ℕ) → d < 3 → getD ways d 0 ≡ endWay from s at d) →
+      dim ≡ dimAt d → len ≡ extentOf s dim → ring ≡ wrappedIn s dim → end ≡ coordOf at dim → getD ways d 0 ≡ waysRow from len ring end
+  unfolding endWay
+  end-ways at ways d len ring end h f ed el er ee = f d h ∙ rw (← ed, ← el, ← er, ← ee)
+
+  pub any-ways :
+      (ways : List ℕ) (i len : ℕ) (ring : Bool) → i < 4608 → ((k : ℕ) → k < 48 → getD ways k 0 ≡ anyWay from s k) →
+      dim ≡ dimAt (i / 1536) → len ≡ extentOf s dim → ring ≡ wrappedIn s dim → getD ways (i / 96) 0 ≡ waysRow from len ring (i / 96 % 16)
+  unfolding anyWay
+  any-ways ways i len ring h f ed el er =
+      let e : i / 96 / 16 ≡ i / 1536 = omega arith in
+      f (i / 96) (omega arith) ∙ rw (e, ← ed, ← el, ← er)
 
 pub table-is : (mode : Mode) (from : Bool) (s : Shape) (e : ℕ) → e ≡ shapeError s → e ≡ 0 → (i v : ℕ) → v ≡ maskAt mode from s i → v ≡ tableAt mode from s i
 unfolding tableAt

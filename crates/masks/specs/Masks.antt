@@ -5,7 +5,7 @@ use mathlib.Core.Path.{_≡_}
 use mathlib.Core.Bool.{Bool, cond}
 use mathlib.Core.List.{List}
 use lib.ListN.{getD}
-use lib.Dec.{eqb}
+use lib.Dec.{eqb, ltb}
 use Rattle.shape.specs.declared.shape.Shape.{Shape}
 use Rattle.shape.specs.declared.shape.Coords.{Coords}
 use Rattle.shape.specs.declared.shape.Dim.{Dim}
@@ -20,8 +20,9 @@ use Rattle.masks.specs.Cell.{cell}
 unfoldable pub endCell : Mode → Bool → ℕ → Bool → ℕ → ℕ → ℕ → ℕ → Bool
 endCell mode from len ring column c at x = cell mode len ring column c (cond from at x) (cond from x at)
 
+-- 0 where the end is no place of the dimension.
 unfoldable pub maskOf : Mode → Bool → ℕ → Bool → ℕ → ℕ → ℕ → ℕ
-maskOf mode from len ring column c at = rowOf (endCell mode from len ring column c at) len
+maskOf mode from len ring column c at = cond (ltb at len) (rowOf (endCell mode from len ring column c at) len) 0
 
 abbrev pub dimAt : ℕ → Dim
 dimAt n = pickDim (eqb n 0) X (pickDim (eqb n 1) Y Z)

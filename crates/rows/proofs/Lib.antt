@@ -2,3 +2,4 @@ pub mod Bits
 pub mod Rowing
 pub mod LowestBit
 pub mod Taking
+pub mod Combined

@@ -1,15 +1,14 @@
 -- The lowest set bit.
-use Prim.Native.Nat.{ℕ, zero, suc, _+_, _-_, _*_, _/_, _%_, _^_, _≤_, _<_}
+use Prim.Native.Nat.{ℕ, zero, suc, _+_, _-_, _/_, _%_, _^_, _≤_, _<_}
 use native.Mathlib.Omega.{arith}
-use native.Mathlib.Nat.{add-zero, div-one}
+use native.Mathlib.Nat.{div-one}
 use mathlib.Core.Path.{_≡_, refl, sym, ap, _∙_}
-use mathlib.Core.Bool.{Bool, true, false, true≢false}
-use lib.Dec.{eqb}
+use mathlib.Core.Bool.{true, false, true≢false}
 use lib.Pow.{shr-le}
 use lib.Count.{trailingZeros, under}
 use Rattle.theory.proofs.Cases.{by-le}
 use Rattle.rows.specs.Bits.{bit}
-use Rattle.rows.proofs.Bits.{double, halves, bit-zero, bit-suc, bit-past, same-bits}
+use Rattle.rows.proofs.Bits.{double, halves, bit-zero, bit-suc, bit-past}
 use Rattle.rows.specs.NextSet.{NextSet}
 
 pub record Lowest (n z : ℕ) : Type 0 where

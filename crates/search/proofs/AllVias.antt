@@ -1,9 +1,9 @@
 -- The rows of all planes are the vias of the shape.
 use Prim.Native.Nat.{ℕ, _+_, _*_, _^_, _≤_, _<_}
 use native.Mathlib.Omega.{arith}
-use mathlib.Core.Path.{_≡_, refl, sym, ap, _∙_}
-use mathlib.Core.Logic.{_⊎_, inl, inr, ⊎-elim}
-use mathlib.Core.Bool.{Bool, true, false, cond, _&&_}
+use mathlib.Core.Path.{_≡_, refl, sym, _∙_}
+use mathlib.Core.Logic.{inl, inr, ⊎-elim}
+use mathlib.Core.Bool.{Bool, true, false, _&&_}
 use mathlib.Core.List.{List}
 use lib.Dec.{ltb, eqb}
 use lib.ListN.{length, getD}
@@ -18,13 +18,13 @@ use Rattle.shape.proofs.Shapes.{sound}
 use Rattle.machine.specs.Number.{nodeCount, numberOf, coordsOf, Inside}
 use Rattle.machine.specs.ByCoords.{distanceAt}
 use Rattle.machine.proofs.Numbers.{number-below, coords-number, number-coords, inside}
-use Rattle.rows.specs.Bits.{bit, rowOf}
-use Rattle.rows.specs.Rows.{inRows, inSet}
+use Rattle.rows.specs.Bits.{bit}
+use Rattle.rows.specs.Rows.{inSet}
 use Rattle.rows.proofs.Bits.{row-below}
 use Rattle.search.specs.Number.{unclear, viaNumber}
 use Rattle.search.specs.BestVia.{within, askable, numberIn, NumberOf, LeastOf}
 use Rattle.search.specs.PartOf.{partOf, partRow, PartsOf, LevelsOf}
-use Rattle.search.specs.RowNumber.{Lowers, RowHas, SpaceHas}
+use Rattle.search.specs.RowNumber.{Lowers, SpaceHas}
 use Rattle.search.proofs.Clip.{rows-fit}
 use Rattle.search.proofs.Scatter.{part-most, level-has, level-is}
 use Rattle.search.proofs.Seeking.{in-set, in-run}

@@ -2,10 +2,10 @@
 use Prim.Native.Nat.{ℕ, _+_, _*_, _^_, _≤_, _<_}
 use native.Mathlib.Omega.{arith}
 use native.Mathlib.Nat.{mod-eq-of-lt}
-use mathlib.Core.Path.{_≡_, refl, sym, _∙_}
-use mathlib.Core.Logic.{_⊎_, inl, inr}
+use mathlib.Core.Path.{_≡_, sym, _∙_}
+use mathlib.Core.Logic.{inl, inr}
 use mathlib.Core.List.{List}
-use lib.Bits.{bitAnd, and-mask, and-comm}
+use lib.Bits.{and-mask, and-comm}
 use lib.ListN.{length, getD}
 use Rattle.theory.proofs.Cases.{by-order}
 use Rattle.shape.specs.declared.shape.Shape.{Shape}

@@ -1,22 +1,21 @@
 -- One row: the first level with a via decides, since one more hop is more than the modes can save; there the fewest deterministic legs, then the lowest place.
-use Prim.Native.Nat.{ℕ, suc, min, _+_, _*_, _/_, _%_, _^_, _≤_, _<_}
+use Prim.Native.Nat.{ℕ, min, _+_, _*_, _/_, _%_, _^_, _≤_, _<_}
 use native.Mathlib.Omega.{arith}
 use mathlib.Core.Path.{_≡_, refl, sym, ap, _∙_}
-use mathlib.Core.Logic.{_⊎_, inl, inr, ⊎-elim}
-use mathlib.Core.Bool.{Bool, true, false, cond, _&&_, _||_}
+use mathlib.Core.Logic.{inl, inr}
+use mathlib.Core.Bool.{Bool, true, false, _&&_, _||_}
 use mathlib.Core.List.{List}
 use lib.Bits.{bitAnd, bitOr, and-le-l}
 use lib.ListN.{getD}
-use lib.Dec.{eqb}
 use borrow.Author.Tests.{eq-eqb, ne-eqb}
 use Rattle.theory.proofs.Bools.{and-true, or-false}
 use Rattle.theory.proofs.Cases.{test, by-le, by-order}
 use Rattle.rows.specs.Bits.{bit}
 use Rattle.rows.specs.NextSet.{NextSet}
-use Rattle.rows.proofs.Bits.{bit-and, bit-or, bit-past, same-bits}
+use Rattle.rows.proofs.Bits.{bit-and, bit-or, same-bits}
 use Rattle.rows.proofs.LowestBit.{none-set}
 use Rattle.search.specs.Number.{unclear, detOf, viaNumber}
-use Rattle.search.specs.RowNumber.{Lowers, LevelOf, placePart, PlaceOf, LeastPlace, RowHas}
+use Rattle.search.specs.RowNumber.{Lowers, LevelOf, placePart, LeastPlace, RowHas}
 use Rattle.search.proofs.Lowering.{kept}
 use Rattle.search.proofs.Seeking.{clash}
 

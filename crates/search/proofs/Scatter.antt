@@ -1,5 +1,5 @@
 -- What the places of a dimension make of a length: place by place, and by levels.
-use Prim.Native.Nat.{ℕ, suc, _+_, _*_, _^_, _≤_, _<_}
+use Prim.Native.Nat.{ℕ, _+_, _*_, _^_, _≤_, _<_}
 use native.Mathlib.Omega.{arith}
 use native.Mathlib.Numerals.{add-one}
 use native.Mathlib.Decide.{ℕ-discrete}
@@ -11,12 +11,11 @@ use lib.ListN.{length, getD, set, replicate, length-set, getD-replicate}
 use lib.Pow.{pow-mono}
 use lib.Seq.{getD-set-same, getD-set-other}
 use borrow.Author.Tests.{eq-eqb, ne-eqb, eqb-true}
-use Rattle.shape.specs.Axis.{axisDistance}
 use Rattle.shape.proofs.AxisLaws.{axis-below}
 use Rattle.rows.specs.Bits.{bit, rowOf}
 use Rattle.rows.proofs.Bits.{double, row-below, row-bit, row-past}
 use Rattle.theory.proofs.Cases.{by-le}
-use Rattle.search.specs.PartOf.{partOf, partRow, PartsOf, LevelsOf}
+use Rattle.search.specs.PartOf.{partOf, partRow, LevelsOf}
 use Rattle.search.proofs.Seeking.{clash}
 
 pub part-most : (len : ℕ) (ring : Bool) (p q x : ℕ) → len ≤ 16 → p < len → q < len → x < len → partOf len ring p q x ≤ 30

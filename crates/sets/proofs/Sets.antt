@@ -6,7 +6,7 @@ use mathlib.Core.List.{List}
 use native.Mathlib.Omega.{arith}
 use lib.Dec.{ltb, eqb}
 use lib.ListN.{getD}
-use borrow.Author.Tests.{eq-eqb}
+use borrow.Author.Tests.{eq-eqb, lt-ltb}
 use Rattle.shape.specs.declared.shape.Shape.{Shape}
 use Rattle.shape.specs.declared.shape.Coords.{Coords}
 use Rattle.shape.specs.declared.shape.Dim.the-variants.{X, Y, Z}
@@ -16,6 +16,7 @@ use Rattle.machine.specs.declared.leg.Mode.{Mode}
 use Rattle.machine.specs.Number.{nodeCount, coordsOf, Inside}
 use Rattle.machine.specs.Hop.{rule}
 use Rattle.machine.proofs.Numbers.{inside}
+use Rattle.machine.proofs.ByCoords.{inside-at}
 use Rattle.rows.specs.Bits.{bit, rowOf}
 use Rattle.rows.specs.Rows.{inRows, inSet, inProduct}
 use Rattle.rows.specs.Product.{nodeAt, Are, product}
@@ -43,7 +44,7 @@ column-below kind d = go (eqb (kindDim kind) d) (ltb d (kindDim kind)) (ltb kind
     go false true c e = omega arith
     go false false c e = omega arith
 
-module _ (mode : Mode) (from : Bool) (s : Shape) (h : shapeError s ≡ 0) (e : Coords) (ends : List ℕ) (full : Ended mode from s e ends) where
+module _ (mode : Mode) (from : Bool) (s : Shape) (h : shapeError s ≡ 0) (e : Coords) (ie : Inside s e) (ends : List ℕ) (full : Ended mode from s e ends) where
   mask-is : (kind d c : ℕ) → d < 3 → c < 16 → maskIn ends kind d c ≡ maskOf mode from (extentOf s (dimAt d)) (wrappedIn s (dimAt d)) (column kind d) c (coordOf e (dimAt d))
   unfolding maskIn endsAt endAt
   mask-is kind d c hd hc =
@@ -57,7 +58,7 @@ module _ (mode : Mode) (from : Bool) (s : Shape) (h : shapeError s ≡ 0) (e : C
   mask-bit : (kind d c x : ℕ) → d < 3 → c < 16 → x < extentOf s (dimAt d) → bit (maskIn ends kind d c) x ≡ endCell mode from (extentOf s (dimAt d)) (wrappedIn s (dimAt d)) (column kind d) c (coordOf e (dimAt d)) x
   unfolding maskOf
   mask-bit kind d c x hd hc hx =
-      ap (λ (v : ℕ). bit v x) (mask-is kind d c hd hc)
+      ap (λ (v : ℕ). bit v x) (mask-is kind d c hd hc ∙ rw (lt-ltb (coordOf e (dimAt d)) (extentOf s (dimAt d)) (inside-at s e ie (dimAt d))))
       ∙ row-bit (endCell mode from (extentOf s (dimAt d)) (wrappedIn s (dimAt d)) (column kind d) c (coordOf e (dimAt d))) (extentOf s (dimAt d)) x hx
 
   abbrev fromTo : Coords → Coords → Coords
@@ -86,11 +87,11 @@ from-to false a t = refl
 
 -- The rows, at coordinates inside the shape: in the product, and no loss lies on the leg between e and them.
 pub clear-at :
-    (mode : Mode) (from : Bool) (s : Shape) (h : shapeError s ≡ 0) (e : Coords) (bx by bz : ℕ) (ends losses rows : List ℕ) (count : ℕ) → count ≤ 256 →
+    (mode : Mode) (from : Bool) (s : Shape) (h : shapeError s ≡ 0) (e : Coords) (ie : Inside s e) (bx by bz : ℕ) (ends losses rows : List ℕ) (count : ℕ) → count ≤ 256 →
     Ended mode from s e ends → Are (clearIn bx by bz ends losses count) rows → (c : Coords) → Inside s c →
     inRows rows 0 c ≡ (inProduct bx by bz c && not (onLeg rule mode s losses count (cond from e c) (cond from c e)))
 unfolding inRows clearIn product someIn
-clear-at mode from s h e bx by bz ends losses rows count few full are c ic =
+clear-at mode from s h e ie bx by bz ends losses rows count few full are c ic =
     let cx = ic .x in
     let cy = ic .y in
     let cz = ic .z in
@@ -101,21 +102,21 @@ clear-at mode from s h e bx by bz ends losses rows count few full are c ic =
     let ry : r % 16 ≡ c .y = omega arith in
     let rz : r / 16 ≡ c .z = omega arith in
     let n : min count 256 ≡ count = omega arith in
-    let met : someBelow count (λ i. lossIn ends (getD losses i 0) c) ≡ onLeg rule mode s losses count (cond from e c) (cond from c e) = some-bit mode from s h e ends full c ic losses count ∙ rw (from-to from e c, from-to from c e) in
+    let met : someBelow count (λ i. lossIn ends (getD losses i 0) c) ≡ onLeg rule mode s losses count (cond from e c) (cond from c e) = some-bit mode from s h e ie ends full c ic losses count ∙ rw (from-to from e c, from-to from c e) in
     are .bits r (c .x) (omega arith) (omega arith) ∙ rw (ry, rz, n) (ap (λ (b : Bool). inProduct bx by bz c && not b) met)
 
 -- The same of a node.
 pub clear-set :
-    (mode : Mode) (from : Bool) (s : Shape) (h : shapeError s ≡ 0) (e : Coords) (bx by bz : ℕ) (ends losses rows : List ℕ) (count : ℕ) → count ≤ 256 →
+    (mode : Mode) (from : Bool) (s : Shape) (h : shapeError s ≡ 0) (e : Coords) (ie : Inside s e) (bx by bz : ℕ) (ends losses rows : List ℕ) (count : ℕ) → count ≤ 256 →
     Ended mode from s e ends → Are (clearIn bx by bz ends losses count) rows → (m : ℕ) → m < nodeCount s →
     inSet s rows 0 m ≡ (inProduct bx by bz (coordsOf s m) && not (onLeg rule mode s losses count (cond from e (coordsOf s m)) (cond from (coordsOf s m) e)))
 unfolding inSet
-clear-set mode from s h e bx by bz ends losses rows count few full are m hm =
-    clear-at mode from s h e bx by bz ends losses rows count few full are (coordsOf s m) (inside s h m hm)
+clear-set mode from s h e ie bx by bz ends losses rows count few full are m hm =
+    clear-at mode from s h e ie bx by bz ends losses rows count few full are (coordsOf s m) (inside s h m hm)
 
 -- The same of a node in the product.
 pub clear-in :
-    (mode : Mode) (from : Bool) (s : Shape) (h : shapeError s ≡ 0) (e : Coords) (bx by bz : ℕ) (ends losses rows : List ℕ) (count : ℕ) → count ≤ 256 →
+    (mode : Mode) (from : Bool) (s : Shape) (h : shapeError s ≡ 0) (e : Coords) (ie : Inside s e) (bx by bz : ℕ) (ends losses rows : List ℕ) (count : ℕ) → count ≤ 256 →
     Ended mode from s e ends → Are (clearIn bx by bz ends losses count) rows → (m : ℕ) → m < nodeCount s → inProduct bx by bz (coordsOf s m) ≡ true →
     inSet s rows 0 m ≡ not (onLeg rule mode s losses count (cond from e (coordsOf s m)) (cond from (coordsOf s m) e))
-clear-in mode from s h e bx by bz ends losses rows count few full are m hm i = clear-set mode from s h e bx by bz ends losses rows count few full are m hm ∙ rw i
+clear-in mode from s h e ie bx by bz ends losses rows count few full are m hm i = clear-set mode from s h e ie bx by bz ends losses rows count few full are m hm ∙ rw i

@@ -1,8 +1,8 @@
 // Whether one leg is clear: each loss is tried, dimension by dimension.
+use crate::cells::cell;
 use crate::part::clipped;
 use crate::part::column;
 use machine::leg::Mode;
-use masks::cells::cell;
 use shape::Coords;
 use shape::Dim;
 use shape::Shape;

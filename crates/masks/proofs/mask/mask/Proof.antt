@@ -1,78 +1,76 @@
-use Prim.Native.Nat.{ℕ, _+_, _-_, _*_, _^_, _≤_, _<_}
-use mathlib.Core.Path.{_≡_, refl, sym, _∙_}
-use native.Mathlib.Omega.{arith}
+use Rattle.masks.proofs.Columns.{column-0, column-1, column-2, column-3, column-4, column-5}
 use borrow.Author.Needs.{needs}
-use Rattle.rows.specs.Bits.{rowOf}
-use Rattle.masks.specs.Masks.{endCell, maskOf}
-use Rattle.rows.proofs.Rowing.{turn, last}
 use Rattle.masks.proofs.mask.mask.Statement.{statement}
 use Rattle.masks.proofs.mask.mask.Tie as tie
 use Rattle.masks.proofs.mask.mask.Reads as reads
 use Rattle.masks.proofs.mask.mask.Lts as lts
-use Rattle.masks.proofs.mask.end_cell.Reads as end-cell-reads
-use Rattle.masks.proofs.mask.pick_bit.Reads as pick-bit-reads
+use Rattle.masks.proofs.mask.before_row.Reads as before-row-reads
+use Rattle.masks.proofs.mask.behind_row.Reads as behind-row-reads
+use Rattle.masks.proofs.mask.link_row.Reads as link-row-reads
+use Rattle.masks.proofs.mask.links_row.Reads as links-row-reads
+use Rattle.masks.proofs.mask.way_row.Reads as way-row-reads
 
-abbrev Inv-loop : tie.InvT-loop
-Inv-loop mode from len ring column c at row₀ bit₀ x₀ row bit x = (len ≤ 16) × (x ≤ len) × (bit ≡ 2 ^ x) × (row ≡ rowOf (λ n. endCell mode from len ring column c at n) x)
+-- src/mask.rt:107:9
+before-row-requires : tie.Need-before-row-requires
+before-row-requires c κs = search needs
 
-abbrev μ-loop : tie.MeasureT-loop
-μ-loop mode from len ring column c at row₀ bit₀ x₀ row bit x = len - x
+-- src/mask.rt:107:9
+returns : tie.Need-returns
+returns c = column-0 _ _ _ _ _ _ _ _ (c .before .if1 .taken) (c .before-row .ensures)
 
--- src/masks.rt:104:5
-loop-holds : tie.Need-loop-holds Inv-loop μ-loop
-unfolding rowOf
-loop-holds c = let p = c .pre in (p, omega arith, refl, refl)
+-- src/mask.rt:110:9
+way-row-requires : tie.Need-way-row-requires
+way-row-requires c κs = search needs
 
--- src/masks.rt:105:24
-end-cell-requires : tie.Need-end-cell-requires Inv-loop μ-loop
-end-cell-requires c κs = search needs
+-- src/mask.rt:110:9
+returns-2 : tie.Need-returns-2
+returns-2 c = column-1 _ _ _ _ _ _ _ _ (c .before .if2 .taken) (c .way-row .ensures)
 
--- src/masks.rt:105:15
-pick-bit-requires : tie.Need-pick-bit-requires Inv-loop μ-loop
-pick-bit-requires c κs = search needs
+-- src/mask.rt:113:9
+way-row-requires-2 : tie.Need-way-row-requires-2
+way-row-requires-2 c κs = search needs
 
--- src/masks.rt:105:15
-add-row : tie.Need-add-row Inv-loop μ-loop
-add-row c = let i = c .before .before .before .loop .inv in let w = turn (λ n. endCell (c .before .before .before .before .args .mode) (c .before .before .before .before .args .from) (c .before .before .before .before .args .len) (c .before .before .before .before .args .ring) (c .before .before .before .before .args .column) (c .before .before .before .before .args .c) (c .before .before .before .before .args .at) n) (c .before .end-cell .result) _ _ _ _ (omega arith) (i .2) (i .3) (c .pick-bit .ensures) (sym (c .before .end-cell .ensures)) in omega (arith, w .fits)
+-- src/mask.rt:113:9
+returns-3 : tie.Need-returns-3
+returns-3 c = column-2 _ _ _ _ _ _ _ _ (c .before .if3 .taken) (c .way-row2 .ensures)
 
--- src/masks.rt:106:15
-mul-bit : tie.Need-mul-bit Inv-loop μ-loop
-mul-bit c = let i = c .before .before .before .loop .inv in let w = turn (λ n. endCell (c .before .before .before .before .args .mode) (c .before .before .before .before .args .from) (c .before .before .before .before .args .len) (c .before .before .before .before .args .ring) (c .before .before .before .before .args .column) (c .before .before .before .before .args .c) (c .before .before .before .before .args .at) n) (c .before .end-cell .result) _ _ _ _ (omega arith) (i .2) (i .3) (c .pick-bit .ensures) (sym (c .before .end-cell .ensures)) in omega (arith, w .twice)
+-- src/mask.rt:116:9
+behind-row-requires : tie.Need-behind-row-requires
+behind-row-requires c κs = search needs
 
--- src/masks.rt:107:13
-add-x : tie.Need-add-x Inv-loop μ-loop
-add-x c = omega arith
+-- src/mask.rt:116:9
+returns-4 : tie.Need-returns-4
+returns-4 c = column-3 _ _ _ _ _ _ _ _ (c .before .if4 .taken) (c .behind-row .ensures)
 
--- src/masks.rt:104:5
-loop-less : tie.Need-loop-less Inv-loop μ-loop
-loop-less c = omega arith
+-- src/mask.rt:119:9
+link-row-requires : tie.Need-link-row-requires
+link-row-requires c κs = search needs
 
--- src/masks.rt:104:5
-loop-again : tie.Need-loop-again Inv-loop μ-loop
-loop-again c = let i = c .before .before .before .loop .inv in let w = turn (λ n. endCell (c .before .before .before .before .args .mode) (c .before .before .before .before .args .from) (c .before .before .before .before .args .len) (c .before .before .before .before .args .ring) (c .before .before .before .before .args .column) (c .before .before .before .before .args .c) (c .before .before .before .before .args .at) n) (c .before .end-cell .result) _ _ _ _ (omega arith) (i .2) (i .3) (c .pick-bit .ensures) (sym (c .before .end-cell .ensures)) in (i .0, omega arith, w .next, w .more)
+-- src/mask.rt:119:9
+returns-5 : tie.Need-returns-5
+returns-5 c = column-4 _ _ _ _ _ _ _ _ (c .before .if5 .taken) (c .link-row .ensures)
 
--- src/masks.rt:109:5
-cast-result : tie.Need-cast-result Inv-loop μ-loop
-cast-result c = let i = c .before .loop .inv in omega (arith, last _ _ _ _ (i .0) (i .1) (i .3))
+-- src/mask.rt:121:5
+links-row-requires : tie.Need-links-row-requires
+links-row-requires c κs = search needs
 
--- src/masks.rt:97:1
-returns : tie.Need-returns Inv-loop μ-loop
-unfolding maskOf
-returns c = let i = c .before .loop .inv in let e : c .before .loop .x ≡ c .before .before .args .len = omega arith in i .3 ∙ rw e
+-- src/mask.rt:102:1
+returns-6 : tie.Need-returns-6
+returns-6 c = column-5 _ _ _ _ _ _ _ _ (c .before .before .before .before .before .if1 .left) (c .before .before .before .before .if2 .left) (c .before .before .before .if3 .left) (c .before .before .if4 .left) (c .before .if5 .left) (c .links-row .ensures)
 
 pub mask-spec : {M : Type 1} → statement M
 mask-spec =
     tie.close
     (tie.spec
-    Inv-loop
-    μ-loop
-    loop-holds
-    end-cell-requires
-    pick-bit-requires
-    add-row
-    mul-bit
-    add-x
-    loop-less
-    loop-again
-    cast-result
-    returns)
+    before-row-requires
+    returns
+    way-row-requires
+    returns-2
+    way-row-requires-2
+    returns-3
+    behind-row-requires
+    returns-4
+    link-row-requires
+    returns-5
+    links-row-requires
+    returns-6)

@@ -4,30 +4,22 @@ use native.Mathlib.Omega.{arith}
 use borrow.Author.Needs.{needs}
 use Rattle.rows.proofs.next.next_set.Statement.{statement}
 use Rattle.rows.proofs.next.next_set.Tie as tie
-use Rattle.rows.proofs.next.next_set.Reads as reads
-use Rattle.rows.proofs.next.next_set.Lts as lts
 
--- src/next.rt:15:9
 returns : tie.Need-returns
 returns c = past-end _ _ (c .if1 .taken)
 
--- src/next.rt:17:16
 shr-rest : tie.Need-shr-rest
 shr-rest c = search needs
 
--- src/next.rt:19:9
 returns-2 : tie.Need-returns-2
 returns-2 c = none-left _ _ (c .if2 .taken)
 
--- src/next.rt:21:9
 cast-result : tie.Need-cast-result
 cast-result c = let w = some-left _ _ _ (omega arith) (omega arith) (c .if2 .left) refl in omega (arith, w .0)
 
--- src/next.rt:21:5
 add-result : tie.Need-add-result
 add-result c = let w = some-left _ _ _ (omega arith) (omega arith) (c .if2 .left) refl in omega (arith, w .0)
 
--- src/next.rt:11:1
 returns-3 : tie.Need-returns-3
 returns-3 c = let w = some-left _ _ _ (omega arith) (omega arith) (c .if2 .left) refl in w .1
 

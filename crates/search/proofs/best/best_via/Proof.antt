@@ -4,24 +4,16 @@ use Rattle.search.proofs.AllVias.{unasked}
 use borrow.Author.Needs.{needs}
 use Rattle.search.proofs.best.best_via.Statement.{statement}
 use Rattle.search.proofs.best.best_via.Tie as tie
-use Rattle.search.proofs.best.best_via.Reads as reads
-use Rattle.search.proofs.best.best_via.Lts as lts
-use Rattle.search.proofs.best.asked.Reads as asked-reads
-use Rattle.search.proofs.best.is_askable.Reads as is-askable-reads
 
--- src/best.rt:241:9
 is-askable-requires : tie.Need-is-askable-requires
 is-askable-requires c κs = search needs
 
--- src/best.rt:242:9
 returns : tie.Need-returns
 returns c = unasked _ _ _ _ _ _ _ (sym (c .before .is-askable .ensures) ∙ not-true _ (c .if1 .taken))
 
--- src/best.rt:244:5
 asked-requires : tie.Need-asked-requires
 asked-requires c κs = sym (c .before .is-askable .ensures) ∙ not-false _ (c .if1 .left)
 
--- src/best.rt:230:1
 returns-2 : tie.Need-returns-2
 returns-2 c = search needs
 

@@ -2,19 +2,13 @@ use Rattle.search.specs.BestVia.{within}
 use borrow.Author.Needs.{needs}
 use Rattle.search.proofs.best.is_within.Statement.{statement}
 use Rattle.search.proofs.best.is_within.Tie as tie
-use Rattle.search.proofs.best.is_within.Reads as reads
-use Rattle.search.proofs.best.is_within.Lts as lts
-use Rattle.logic.proofs.both.Reads as both-reads
 
--- src/best.rt:199:25
 both-requires : tie.Need-both-requires
 both-requires c κs = search needs
 
--- src/best.rt:199:5
 both-requires-2 : tie.Need-both-requires-2
 both-requires-2 c κs = search needs
 
--- src/best.rt:196:1
 returns : tie.Need-returns
 unfolding within
 returns c = cc

@@ -6,9 +6,6 @@ use Rattle.search.specs.RowNumber.{Lowers, PlaneHas}
 use Prim.Native.Nat.{_-_, _≤_}
 use Rattle.search.proofs.best.plane.Statement.{statement}
 use Rattle.search.proofs.best.plane.Tie as tie
-use Rattle.search.proofs.best.plane.Reads as reads
-use Rattle.search.proofs.best.plane.Lts as lts
-use Rattle.search.proofs.best.row_of.Reads as row-of-reads
 
 abbrev Inv-loop : tie.InvT-loop
 Inv-loop shape xs ys least part fa fd to at z known best₀ y₀ best y = (y ≤ shape .y) × Lowers known best (PlaneHas shape xs ys part fa fd to at y z)
@@ -16,35 +13,27 @@ Inv-loop shape xs ys least part fa fd to at z known best₀ y₀ best y = (y ≤
 abbrev μ-loop : tie.MeasureT-loop
 μ-loop shape xs ys least part fa fd to at z known best₀ y₀ best y = shape .y - y
 
--- src/best.rt:106:5
 loop-holds : tie.Need-loop-holds Inv-loop μ-loop
 loop-holds c = (omega arith, rows-begin _ _ _ _ _ _ _ _ _ _)
 
--- src/best.rt:107:17
 cast-i : tie.Need-cast-i Inv-loop μ-loop
 cast-i c = omega arith
 
--- src/best.rt:108:47
 element-copy-out-row-of : tie.Need-element-copy-out-row-of Inv-loop μ-loop
 element-copy-out-row-of c = omega (arith, c .if1 .taken, sound _ (c .before .before .before .before .pre .0 .sound) Y .high)
 
--- src/best.rt:108:9
 row-of-requires : tie.Need-row-of-requires Inv-loop μ-loop
 row-of-requires c κs = let p = c .before .before .before .before .before .pre in (p .0, (c .before .if1 .taken, p .1 .0, omega (arith, p .1 .1, c .before .before .before .loop .inv .1 .low)))
 
--- src/best.rt:109:13
 add-y : tie.Need-add-y Inv-loop μ-loop
 add-y c = omega arith
 
--- src/best.rt:106:5
 loop-less : tie.Need-loop-less Inv-loop μ-loop
 loop-less c = omega arith
 
--- src/best.rt:106:5
 loop-again : tie.Need-loop-again Inv-loop μ-loop
 loop-again c = (omega (arith, c .before .before .if1 .taken), rows-on _ _ _ _ _ _ _ _ _ _ _ _ _ (c .before .before .before .before .loop .inv .1) (c .row-of .ensures))
 
--- src/best.rt:87:1
 returns : tie.Need-returns Inv-loop μ-loop
 returns c = rows-end _ _ _ _ _ _ _ _ _ _ _ _ (c .before .before .loop .inv .0) (c .if1 .left) (c .before .before .loop .inv .1)
 

@@ -2,31 +2,22 @@ use Rattle.search.proofs.PlaneLaws.{plane-far}
 use borrow.Author.Needs.{needs}
 use Rattle.search.proofs.best.plane_at.Statement.{statement}
 use Rattle.search.proofs.best.plane_at.Tie as tie
-use Rattle.search.proofs.best.plane_at.Reads as reads
-use Rattle.search.proofs.best.plane_at.Lts as lts
-use Rattle.search.proofs.best.plane.Reads as plane-reads
 
--- src/best.rt:134:17
 add-if1 : tie.Need-add-if1
 add-if1 c = search needs
 
--- src/best.rt:134:17
 add-if1-2 : tie.Need-add-if1-2
 add-if1-2 c = search needs
 
--- src/best.rt:134:16
 mul-if1 : tie.Need-mul-if1
 mul-if1 c = search needs
 
--- src/best.rt:135:9
 returns : tie.Need-returns
 returns c = plane-far _ _ _ _ _ _ _ _ _ _ _ _ (c .before .before .pre .0) (c .before .before .pre .1 .1 .1) (c .before .before .pre .1 .0) (c .if1 .taken)
 
--- src/best.rt:137:5
 plane-requires : tie.Need-plane-requires
 plane-requires c κs = search needs
 
--- src/best.rt:115:1
 returns-2 : tie.Need-returns-2
 returns-2 c = search needs
 

@@ -6,9 +6,6 @@ use Rattle.search.specs.RowNumber.{Lowers, SpaceHas}
 use Prim.Native.Nat.{_-_, _≤_}
 use Rattle.search.proofs.best.planes.Statement.{statement}
 use Rattle.search.proofs.best.planes.Tie as tie
-use Rattle.search.proofs.best.planes.Reads as reads
-use Rattle.search.proofs.best.planes.Lts as lts
-use Rattle.search.proofs.best.plane_at.Reads as plane-at-reads
 
 abbrev Inv-loop : tie.InvT-loop
 Inv-loop shape xs ys zs least low fa fd to at known best₀ z₀ best z = (z ≤ shape .z) × Lowers known best (SpaceHas shape xs ys zs fa fd to at z)
@@ -16,35 +13,27 @@ Inv-loop shape xs ys zs least low fa fd to at known best₀ z₀ best z = (z ≤
 abbrev μ-loop : tie.MeasureT-loop
 μ-loop shape xs ys zs least low fa fd to at known best₀ z₀ best z = shape .z - z
 
--- src/best.rt:160:5
 loop-holds : tie.Need-loop-holds Inv-loop μ-loop
 loop-holds c = (omega arith, planes-begin _ _ _ _ _ _ _ _ _)
 
--- src/best.rt:161:17
 cast-i : tie.Need-cast-i Inv-loop μ-loop
 cast-i c = omega arith
 
--- src/best.rt:162:52
 element-copy-out-plane-at : tie.Need-element-copy-out-plane-at Inv-loop μ-loop
 element-copy-out-plane-at c = omega (arith, c .if1 .taken, sound _ (c .before .before .before .before .pre .0 .sound) Z .high)
 
--- src/best.rt:162:9
 plane-at-requires : tie.Need-plane-at-requires Inv-loop μ-loop
 plane-at-requires c κs = let p = c .before .before .before .before .before .pre in (p .0, (p .1 .0, (c .before .if1 .taken, omega (arith, p .1 .1, c .before .before .before .loop .inv .1 .low))))
 
--- src/best.rt:163:13
 add-z : tie.Need-add-z Inv-loop μ-loop
 add-z c = omega arith
 
--- src/best.rt:160:5
 loop-less : tie.Need-loop-less Inv-loop μ-loop
 loop-less c = omega arith
 
--- src/best.rt:160:5
 loop-again : tie.Need-loop-again Inv-loop μ-loop
 loop-again c = (omega (arith, c .before .before .if1 .taken), planes-on _ _ _ _ _ _ _ _ _ _ _ _ (c .before .before .before .before .loop .inv .1) (c .plane-at .ensures))
 
--- src/best.rt:140:1
 returns : tie.Need-returns Inv-loop μ-loop
 returns c = planes-end _ _ _ _ _ _ _ _ _ _ _ (c .before .before .loop .inv .0) (c .if1 .left) (c .before .before .loop .inv .1)
 

@@ -2,67 +2,49 @@ use native.Mathlib.Omega.{arith}
 use Rattle.search.proofs.RowLaws.{row-far}
 use Rattle.search.proofs.best.row_at.Statement.{statement}
 use Rattle.search.proofs.best.row_at.Tie as tie
-use Rattle.search.proofs.best.row_at.Reads as reads
-use Rattle.search.proofs.best.row_at.Lts as lts
-use Rattle.search.proofs.level.row.Reads as row-reads
 
--- src/best.rt:45:17
 add-if1 : tie.Need-add-if1
 add-if1 c = omega arith
 
--- src/best.rt:45:16
 mul-if1 : tie.Need-mul-if1
 mul-if1 c = omega arith
 
--- src/best.rt:46:9
 returns : tie.Need-returns
 returns c = row-far _ _ _ _ _ _ _ _ _ (c .before .before .pre .0 .1) (c .before .before .pre .1) (c .if1 .taken)
 
--- src/best.rt:48:13
 add-a : tie.Need-add-a
 add-a c = omega arith
 
--- src/best.rt:49:13
 add-d : tie.Need-add-d
 add-d c = omega arith
 
--- src/best.rt:50:33
 mul-row : tie.Need-mul-row
 mul-row c = omega arith
 
--- src/best.rt:50:33
 element-copy-out-row : tie.Need-element-copy-out-row
 element-copy-out-row c = omega arith
 
--- src/best.rt:50:40
 mul-row-2 : tie.Need-mul-row-2
 mul-row-2 c = omega arith
 
--- src/best.rt:50:40
 element-copy-out-row-2 : tie.Need-element-copy-out-row-2
 element-copy-out-row-2 c = omega arith
 
--- src/best.rt:50:47
 mul-row-3 : tie.Need-mul-row-3
 mul-row-3 c = omega arith
 
--- src/best.rt:50:47
 shared-slice-read-row : tie.Need-shared-slice-read-row
 shared-slice-read-row c = omega arith
 
--- src/best.rt:50:54
 mul-row-4 : tie.Need-mul-row-4
 mul-row-4 c = omega arith
 
--- src/best.rt:50:54
 shared-slice-read-row-2 : tie.Need-shared-slice-read-row-2
 shared-slice-read-row-2 c = omega arith
 
--- src/best.rt:50:5
 row-requires : tie.Need-row-requires
 row-requires c κs = ((c .before .before .before .before .before .before .pre .0 .0, c .before .before .before .before .before .before .pre .0 .1), c .before .before .before .before .before .before .pre .1)
 
--- src/best.rt:29:1
 returns-2 : tie.Need-returns-2
 returns-2 c = c .row .ensures
 

@@ -4,32 +4,22 @@ use Rattle.shape.specs.declared.shape.Dim.the-variants.{Y, Z}
 use Rattle.shape.proofs.Shapes.{sound}
 use Rattle.search.proofs.best.row_of.Statement.{statement}
 use Rattle.search.proofs.best.row_of.Tie as tie
-use Rattle.search.proofs.best.row_of.Reads as reads
-use Rattle.search.proofs.best.row_of.Lts as lts
-use Rattle.search.proofs.best.row_at.Reads as row-at-reads
-use Rattle.search.proofs.best.row_start.Reads as row-start-reads
 
--- src/best.rt:80:16
 add-base : tie.Need-add-base
 add-base c = omega arith
 
--- src/best.rt:81:9
 row-start-requires : tie.Need-row-start-requires
 row-start-requires c κs = let q = c .before .pre .1 in (c .before .pre .0 .sound, q .0, q .1)
 
--- src/best.rt:82:13
 mul-r : tie.Need-mul-r
 mul-r c = omega arith
 
--- src/best.rt:82:13
 add-r : tie.Need-add-r
 add-r c = omega arith
 
--- src/best.rt:83:5
 row-at-requires : tie.Need-row-at-requires
 row-at-requires c κs = let p = c .before .before .pre in ((omega arith, p .1 .2, omega (arith, p .1 .0, p .1 .1, sound _ (p .0 .sound) Y .high, sound _ (p .0 .sound) Z .high), p .0 .run), p .0 .none)
 
--- src/best.rt:62:1
 returns : tie.Need-returns
 returns c = row-starts (c .before .before .before .args .shape) _ _ (c .before .before .before .args .fa .now) (c .before .before .before .args .fd .now) (c .before .before .before .args .to .now) (c .before .before .before .args .at) (c .before .before .before .args .y) (c .before .before .before .args .z) _ _ _ (c .before .row-start .ensures) (c .row-at .ensures)
 

@@ -3,30 +3,22 @@ use Rattle.search.proofs.Seeking.{row-steps}
 use borrow.Author.Needs.{needs}
 use Rattle.search.proofs.best.row_start.Statement.{statement}
 use Rattle.search.proofs.best.row_start.Tie as tie
-use Rattle.search.proofs.best.row_start.Reads as reads
-use Rattle.search.proofs.best.row_start.Lts as lts
 
--- src/best.rt:58:5
 cast-result : tie.Need-cast-result
 cast-result c = search needs
 
--- src/best.rt:58:34
 cast-result-2 : tie.Need-cast-result-2
 cast-result-2 c = search needs
 
--- src/best.rt:58:34
 mul-result : tie.Need-mul-result
 mul-result c = let w = row-steps _ (c .before .before .pre .0) _ _ (c .before .before .pre .1) (c .before .before .pre .2) in omega (arith, w .0)
 
--- src/best.rt:58:23
 add-result : tie.Need-add-result
 add-result c = let w = row-steps _ (c .before .before .pre .0) _ _ (c .before .before .pre .1) (c .before .before .pre .2) in omega (arith, w .1)
 
--- src/best.rt:58:5
 mul-result-2 : tie.Need-mul-result-2
 mul-result-2 c = let w = row-steps _ (c .before .before .pre .0) _ _ (c .before .before .pre .1) (c .before .before .pre .2) in omega (arith, w .2)
 
--- src/best.rt:54:1
 returns : tie.Need-returns
 returns c = search needs
 

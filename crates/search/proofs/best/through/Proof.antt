@@ -5,68 +5,48 @@ use Rattle.search.proofs.PlaneLaws.{ready, row-first}
 use borrow.Author.Needs.{needs}
 use Rattle.search.proofs.best.through.Statement.{statement}
 use Rattle.search.proofs.best.through.Tie as tie
-use Rattle.search.proofs.best.through.Reads as reads
-use Rattle.search.proofs.best.through.Lts as lts
-use Rattle.search.proofs.best.planes.Reads as planes-reads
-use Rattle.search.proofs.best.row_of.Reads as row-of-reads
-use Rattle.search.proofs.level.level.Reads as level-reads
-use Rattle.search.proofs.parts.least_part.Reads as least-part-reads
 
--- src/best.rt:186:9
 level-requires : tie.Need-level-requires
 level-requires c κs = search needs
 
--- src/best.rt:187:9
 least-part-requires : tie.Need-least-part-requires
 least-part-requires c κs = sound _ (c .before .before .pre .0 .0) Y .high
 
--- src/best.rt:188:14
 cast-sy : tie.Need-cast-sy
 cast-sy c = search needs
 
--- src/best.rt:189:14
 cast-sz : tie.Need-cast-sz
 cast-sz c = search needs
 
--- src/best.rt:190:40
 element-copy-out-row-of : tie.Need-element-copy-out-row-of
 element-copy-out-row-of c = omega (arith, c .before .before .before .before .before .pre .1 .0 .0 .z, sound _ (c .before .before .before .before .before .pre .0 .0) Z .high)
 
--- src/best.rt:190:48
 element-copy-out-row-of-2 : tie.Need-element-copy-out-row-of-2
 element-copy-out-row-of-2 c = omega (arith, c .before .before .before .before .before .before .pre .1 .0 .0 .y, sound _ (c .before .before .before .before .before .before .pre .0 .0) Y .high)
 
--- src/best.rt:190:9
 row-of-requires : tie.Need-row-of-requires
 row-of-requires c κs = let p = c .before .before .before .before .before .before .before .pre in (ready _ _ _ _ _ (p .0 .0) (c .before .before .before .before .before .level .ensures) (p .1 .1) (p .0 .1), (p .1 .0 .0 .y, p .1 .0 .0 .z, omega arith))
 
--- src/best.rt:191:14
 cast-dy : tie.Need-cast-dy
 cast-dy c = search needs
 
--- src/best.rt:192:14
 cast-dz : tie.Need-cast-dz
 cast-dz c = search needs
 
--- src/best.rt:193:40
 element-copy-out-row-of-3 : tie.Need-element-copy-out-row-of-3
 element-copy-out-row-of-3 c = omega (arith, c .before .before .before .before .before .before .before .before .before .before .pre .1 .0 .1 .z, sound _ (c .before .before .before .before .before .before .before .before .before .before .pre .0 .0) Z .high)
 
--- src/best.rt:193:48
 element-copy-out-row-of-4 : tie.Need-element-copy-out-row-of-4
 element-copy-out-row-of-4 c = omega (arith, c .before .before .before .before .before .before .before .before .before .before .before .pre .1 .0 .1 .y, sound _ (c .before .before .before .before .before .before .before .before .before .before .before .pre .0 .0) Y .high)
 
--- src/best.rt:193:9
 row-of-requires-2 : tie.Need-row-of-requires-2
 row-of-requires-2 c κs = let p = c .before .before .before .before .before .before .before .before .before .before .before .before .pre in (ready _ _ _ _ _ (p .0 .0) (c .before .before .before .before .before .before .before .before .before .before .level .ensures) (p .1 .1) (p .0 .1), (p .1 .0 .1 .y, p .1 .0 .1 .z, c .before .before .before .before .row-of .ensures .low))
 
--- src/best.rt:194:5
 planes-requires : tie.Need-planes-requires
 planes-requires c κs = let p = c .before .before .before .before .before .before .before .before .before .before .before .before .before .pre in (ready _ _ _ _ _ (p .0 .0) (c .before .before .before .before .before .before .before .before .before .before .before .level .ensures) (p .1 .1) (p .0 .1), (c .before .before .before .before .before .before .before .before .before .before .least-part .ensures, omega (arith, c .row-of2 .ensures .low, c .before .before .before .before .before .row-of .ensures .low)))
 
--- src/best.rt:169:1
 returns : tie.Need-returns
-returns c = let p = c .before .before .before .before .before .before .before .before .before .before .before .before .before .before .pre in row-first _ _ _ _ _ _ _ _ _ _ _ _ _ (p .1 .0 .0 .y) (p .1 .0 .0 .z) (c .before .before .before .before .before .before .row-of .ensures) (row-first _ _ _ _ _ _ _ _ _ _ _ _ _ (p .1 .0 .1 .y) (p .1 .0 .1 .z) (c .before .row-of2 .ensures) (c .planes .ensures))
+returns c = let p = c .before .before .before .before .before .before .before .before .before .before .before .before .before .before .pre in row-first _ _ _ _ _ _ _ _ _ _ _ (c .before .before .before .before .before .before .row-of .result) _ (p .1 .0 .0 .y) (p .1 .0 .0 .z) (c .before .before .before .before .before .before .row-of .ensures) (row-first _ _ _ _ _ _ _ _ (c .before .before .before .before .before .before .row-of .result) _ _ (c .before .row-of2 .result) _ (p .1 .0 .1 .y) (p .1 .0 .1 .z) (c .before .row-of2 .ensures) (c .planes .ensures))
 
 pub through-spec : {M : Type 1} → statement M
 through-spec =

@@ -3,18 +3,13 @@ use Rattle.search.proofs.RowLaws.{present, absent}
 use borrow.Author.Needs.{needs}
 use Rattle.search.proofs.level.absent.Statement.{statement}
 use Rattle.search.proofs.level.absent.Tie as tie
-use Rattle.search.proofs.level.absent.Reads as reads
-use Rattle.search.proofs.level.absent.Lts as lts
 
--- src/level.rt:31:14
 shr-b : tie.Need-shr-b
 shr-b c = search needs
 
--- src/level.rt:27:1
 returns : tie.Need-returns
 returns c = (present _ _ (c .if1 .taken), omega arith)
 
--- src/level.rt:27:1
 returns-2 : tie.Need-returns-2
 returns-2 c = (absent _ _ (c .if1 .left), omega arith)
 

@@ -3,8 +3,6 @@ use Prim.Native.Nat.{_-_}
 use Rattle.search.proofs.RowLaws.{Passed, passed-begin, passed-on, passed-found, passed-none}
 use Rattle.search.proofs.level.level.Statement.{statement}
 use Rattle.search.proofs.level.level.Tie as tie
-use Rattle.search.proofs.level.level.Reads as reads
-use Rattle.search.proofs.level.level.Lts as lts
 
 abbrev Inv-loop : tie.InvT-loop
 Inv-loop set xs least k₀ k = Passed set xs least k
@@ -12,39 +10,30 @@ Inv-loop set xs least k₀ k = Passed set xs least k
 abbrev μ-loop : tie.MeasureT-loop
 μ-loop set xs least k₀ k = 32 - k
 
--- src/level.rt:16:5
 loop-holds : tie.Need-loop-holds Inv-loop μ-loop
 loop-holds c = passed-begin _ _ _
 
--- src/level.rt:17:17
 cast-i : tie.Need-cast-i Inv-loop μ-loop
 cast-i c = omega arith
 
--- src/level.rt:18:18
 mul-if1 : tie.Need-mul-if1 Inv-loop μ-loop
 mul-if1 c = omega arith
 
--- src/level.rt:18:18
 element-copy-out-if1 : tie.Need-element-copy-out-if1 Inv-loop μ-loop
 element-copy-out-if1 c = omega arith
 
--- src/level.rt:19:13
 returns : tie.Need-returns Inv-loop μ-loop
 returns c = passed-found _ _ _ _ (c .before .before .before .loop .inv) (c .before .before .loop-test .taken) (c .if1 .taken)
 
--- src/level.rt:21:13
 add-k : tie.Need-add-k Inv-loop μ-loop
 add-k c = omega arith
 
--- src/level.rt:16:5
 loop-less : tie.Need-loop-less Inv-loop μ-loop
 loop-less c = omega arith
 
--- src/level.rt:16:5
 loop-again : tie.Need-loop-again Inv-loop μ-loop
 loop-again c = passed-on _ _ _ _ (c .before .before .before .loop .inv) (c .if1 .left)
 
--- src/level.rt:12:1
 returns-2 : tie.Need-returns-2 Inv-loop μ-loop
 returns-2 c = passed-none _ _ _ _ (c .before .loop .inv) (c .loop-test .left)
 

@@ -3,72 +3,52 @@ use Rattle.search.proofs.RowLaws.{first-bit, first-in, first-in-both, l
 use borrow.Author.Needs.{needs}
 use Rattle.search.proofs.level.of_level.Statement.{statement}
 use Rattle.search.proofs.level.of_level.Tie as tie
-use Rattle.search.proofs.level.of_level.Reads as reads
-use Rattle.search.proofs.level.of_level.Lts as lts
-use Rattle.rows.proofs.next.next_set.Reads as next-set-reads
-use Rattle.search.proofs.level.absent.Reads as absent-reads
 
--- src/level.rt:43:20
 next-set-requires : tie.Need-next-set-requires
 next-set-requires c κs = search needs
 
--- src/level.rt:43:20
 cast-result : tie.Need-cast-result
 cast-result c = search needs
 
--- src/level.rt:43:16
 mul-result : tie.Need-mul-result
 mul-result c = search needs
 
--- src/level.rt:43:9
 returns : tie.Need-returns
 returns c = least-none _ _ _ _ (first-in-both (c .before .before .args .set) _ _ _ (omega arith) (c .before .if1 .taken) (c .next-set .ensures))
 
--- src/level.rt:47:13
 next-set-requires-2 : tie.Need-next-set-requires-2
 next-set-requires-2 c κs = search needs
 
--- src/level.rt:48:28
 cast-result-2 : tie.Need-cast-result-2
 cast-result-2 c = search needs
 
--- src/level.rt:48:24
 mul-result-2 : tie.Need-mul-result-2
 mul-result-2 c = search needs
 
--- src/level.rt:48:16
 add-result : tie.Need-add-result
 add-result c = search needs
 
--- src/level.rt:48:39
 absent-requires : tie.Need-absent-requires
 absent-requires c κs = first-in (c .before .before .before .args .set) _ _ (omega arith) (c .before .if2 .taken) (c .next-set2 .ensures) .small
 
--- src/level.rt:48:16
 add-result-2 : tie.Need-add-result-2
 add-result-2 c = search needs
 
--- src/level.rt:48:9
 returns-2 : tie.Need-returns-2
 returns-2 c = least-one _ _ _ _ _ (c .before .before .before .if1 .left) (first-in (c .before .before .before .before .args .set) _ _ (omega arith) (c .before .before .if2 .taken) (c .before .next-set2 .ensures)) (c .absent .ensures .0)
 
--- src/level.rt:50:17
 next-set-requires-3 : tie.Need-next-set-requires-3
 next-set-requires-3 c κs = search needs
 
--- src/level.rt:50:17
 cast-result-3 : tie.Need-cast-result-3
 cast-result-3 c = search needs
 
--- src/level.rt:50:13
 mul-result-3 : tie.Need-mul-result-3
 mul-result-3 c = search needs
 
--- src/level.rt:50:5
 add-result-3 : tie.Need-add-result-3
 add-result-3 c = search needs
 
--- src/level.rt:37:1
 returns-3 : tie.Need-returns-3
 returns-3 c = least-two _ _ _ _ (c .before .if2 .left) (first-bit _ _ (omega arith) (c .before .before .before .pre) (c .next-set3 .ensures))
 

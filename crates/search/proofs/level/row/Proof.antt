@@ -3,73 +3,52 @@ use borrow.Author.Needs.{needs}
 use Rattle.search.proofs.RowLaws.{row-empty, row-none, row-found}
 use Rattle.search.proofs.level.row.Statement.{statement}
 use Rattle.search.proofs.level.row.Tie as tie
-use Rattle.search.proofs.level.row.Reads as reads
-use Rattle.search.proofs.level.row.Lts as lts
-use Rattle.search.proofs.level.lesser.Reads as lesser-reads
-use Rattle.search.proofs.level.level.Reads as level-reads
-use Rattle.search.proofs.level.of_level.Reads as of-level-reads
 
--- src/level.rt:78:9
 returns : tie.Need-returns
 returns c = row-empty _ _ _ _ _ _ _ _ _ (c .before .pre .0 .1) (c .before .pre .1) (c .if1 .taken)
 
--- src/level.rt:80:9
 level-requires : tie.Need-level-requires
 level-requires c κs = search needs
 
--- src/level.rt:82:9
 returns-2 : tie.Need-returns-2
 returns-2 c = row-none _ _ _ _ _ _ _ _ _ (c .before .before .before .pre .0 .1) (c .before .before .before .pre .1) _ (c .before .level .ensures) (c .if2 .taken)
 
--- src/level.rt:84:13
 cast-i : tie.Need-cast-i
 cast-i c = omega arith
 
--- src/level.rt:85:32
 cast-length : tie.Need-cast-length
 cast-length c = omega arith
 
--- src/level.rt:85:18
 add-length : tie.Need-add-length
 add-length c = omega arith
 
--- src/level.rt:86:32
 mul-of-level : tie.Need-mul-of-level
 mul-of-level c = omega arith
 
--- src/level.rt:86:32
 element-copy-out-of-level : tie.Need-element-copy-out-of-level
 element-copy-out-of-level c = omega arith
 
--- src/level.rt:86:9
 of-level-requires : tie.Need-of-level-requires
 of-level-requires c κs = c .before .before .level .ensures .some (omega arith)
 
--- src/level.rt:87:12
 mul-lesser : tie.Need-mul-lesser
 mul-lesser c = omega arith
 
--- src/level.rt:87:37
 mul-lesser-2 : tie.Need-mul-lesser-2
 mul-lesser-2 c = omega arith
 
--- src/level.rt:87:30
 add-lesser : tie.Need-add-lesser
 add-lesser c = omega arith
 
--- src/level.rt:87:12
 add-lesser-2 : tie.Need-add-lesser-2
 add-lesser-2 c = omega arith
 
--- src/level.rt:87:12
 add-lesser-3 : tie.Need-add-lesser-3
 add-lesser-3 c = let m = c .of-level .ensures .most in omega arith
 
--- src/level.rt:87:5
 lesser-requires : tie.Need-lesser-requires
 lesser-requires c κs = search needs
 
--- src/level.rt:61:1
 returns-3 : tie.Need-returns-3
 returns-3 c = row-found _ _ _ _ _ _ _ _ _ (c .before .before .before .before .before .before .pre .0 .1) (c .before .before .before .before .before .before .pre .1) _ (c .before .before .before .before .level .ensures) _ (omega arith) (c .before .of-level .ensures) _ (c .lesser .ensures)
 

@@ -3,22 +3,16 @@ use Rattle.search.proofs.Clip.{past-is, clipped}
 use borrow.Author.Needs.{needs}
 use Rattle.search.proofs.lowest.clip.Statement.{statement}
 use Rattle.search.proofs.lowest.clip.Tie as tie
-use Rattle.search.proofs.lowest.clip.Reads as reads
-use Rattle.search.proofs.lowest.clip.Lts as lts
 
--- src/lowest.rt:29:16
 shl-past : tie.Need-shl-past
 shl-past c = search needs
 
--- src/lowest.rt:30:14
 sub-result : tie.Need-sub-result
 sub-result c = let w = past-is (c .args .len) (search needs) in omega (arith, w .0, w .1)
 
--- src/lowest.rt:30:13
 cast-result : tie.Need-cast-result
 cast-result c = let w = past-is (c .args .len) (search needs) in omega (arith, w .0, w .1, w .2)
 
--- src/lowest.rt:25:1
 returns : tie.Need-returns
 returns c = clipped (c .args .len) (c .args .mask) (search needs)
 

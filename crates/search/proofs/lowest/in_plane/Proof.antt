@@ -4,9 +4,6 @@ use Prim.Native.Nat.{_-_}
 use Rattle.search.proofs.Seeking.{Plane, plane-begin, plane-onward, plane-found, plane-none, further}
 use Rattle.search.proofs.lowest.in_plane.Statement.{statement}
 use Rattle.search.proofs.lowest.in_plane.Tie as tie
-use Rattle.search.proofs.lowest.in_plane.Reads as reads
-use Rattle.search.proofs.lowest.in_plane.Lts as lts
-use Rattle.rows.proofs.next.next_set.Reads as next-set-reads
 
 abbrev Inv-loop : tie.InvT-loop
 Inv-loop bx by base from to at y₀ y = Plane bx by base from to at y
@@ -14,63 +11,48 @@ Inv-loop bx by base from to at y₀ y = Plane bx by base from to at y
 abbrev μ-loop : tie.MeasureT-loop
 μ-loop bx by base from to at y₀ y = 16 - y
 
--- src/lowest.rt:38:9
 next-set-requires : tie.Need-next-set-requires Inv-loop μ-loop
 next-set-requires c κs = search needs
 
--- src/lowest.rt:39:5
 loop-holds : tie.Need-loop-holds Inv-loop μ-loop
 loop-holds c = plane-begin _ _ _ _ _ _ _ (c .next-set .ensures)
 
--- src/lowest.rt:40:24
 cast-r : tie.Need-cast-r Inv-loop μ-loop
 cast-r c = omega arith
 
--- src/lowest.rt:40:17
 add-r : tie.Need-add-r Inv-loop μ-loop
 add-r c = omega arith
 
--- src/lowest.rt:41:17
 add-t : tie.Need-add-t Inv-loop μ-loop
 add-t c = omega arith
 
--- src/lowest.rt:42:24
 mul-met : tie.Need-mul-met Inv-loop μ-loop
 mul-met c = omega arith
 
--- src/lowest.rt:42:24
 element-copy-out-met : tie.Need-element-copy-out-met Inv-loop μ-loop
 element-copy-out-met c = omega arith
 
--- src/lowest.rt:42:34
 mul-met-2 : tie.Need-mul-met-2 Inv-loop μ-loop
 mul-met-2 c = omega arith
 
--- src/lowest.rt:42:34
 shared-slice-read-met : tie.Need-shared-slice-read-met Inv-loop μ-loop
 shared-slice-read-met c = omega arith
 
--- src/lowest.rt:44:13
 returns : tie.Need-returns Inv-loop μ-loop
 returns c = plane-found _ _ _ _ _ _ _ (c .before .before .before .before .loop .inv) (c .if1 .taken)
 
--- src/lowest.rt:46:26
 add-next-set : tie.Need-add-next-set Inv-loop μ-loop
 add-next-set c = omega arith
 
--- src/lowest.rt:46:9
 next-set-requires-2 : tie.Need-next-set-requires-2 Inv-loop μ-loop
 next-set-requires-2 c κs = search needs
 
--- src/lowest.rt:39:5
 loop-less : tie.Need-loop-less Inv-loop μ-loop
 loop-less c = further _ _ _ (c .next-set2 .ensures) (c .before .before .before .before .loop-test .taken)
 
--- src/lowest.rt:39:5
 loop-again : tie.Need-loop-again Inv-loop μ-loop
 loop-again c = plane-onward _ _ _ _ _ _ _ _ (c .before .before .before .before .before .loop .inv) (c .before .if1 .left) (c .next-set2 .ensures)
 
--- src/lowest.rt:34:1
 returns-2 : tie.Need-returns-2 Inv-loop μ-loop
 returns-2 c = plane-none _ _ _ _ _ _ _ (c .before .loop .inv) (c .loop-test .left)
 

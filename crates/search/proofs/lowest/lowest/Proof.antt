@@ -7,46 +7,31 @@ use Rattle.search.proofs.Clip.{rows-fit}
 use borrow.Author.Needs.{needs}
 use Rattle.search.proofs.lowest.lowest.Statement.{statement}
 use Rattle.search.proofs.lowest.lowest.Tie as tie
-use Rattle.search.proofs.lowest.lowest.Reads as reads
-use Rattle.search.proofs.lowest.lowest.Lts as lts
-use Rattle.search.proofs.lowest.clip.Reads as clip-reads
-use Rattle.search.proofs.lowest.first_via.Reads as first-via-reads
-use Rattle.search.proofs.lowest.has_rows.Reads as has-rows-reads
-use Rattle.shape.proofs.shape.shape_error.Reads as shape-error-reads
 
--- src/lowest.rt:85:8
 shape-error-requires : tie.Need-shape-error-requires
 shape-error-requires c κs = search needs
 
--- src/lowest.rt:86:9
 returns : tie.Need-returns
 returns c = wrong-shape _ _ _ _ _ _ _ (λ e. c .if1 .taken (c .before .shape-error .ensures ∙ e))
 
--- src/lowest.rt:88:9
 has-rows-requires : tie.Need-has-rows-requires
 has-rows-requires c κs = search needs
 
--- src/lowest.rt:89:9
 returns-2 : tie.Need-returns-2
 returns-2 c = short-run _ _ _ _ _ _ _ (sym (c .before .before .before .shape-error .ensures) ∙ c .before .before .if1 .left) (sym (c .before .has-rows .ensures) ∙ not-true _ (c .if2 .taken))
 
--- src/lowest.rt:91:9
 clip-requires : tie.Need-clip-requires
 clip-requires c κs = sound _ (sym (c .before .before .before .shape-error .ensures) ∙ c .before .before .if1 .left) X .high
 
--- src/lowest.rt:92:9
 clip-requires-2 : tie.Need-clip-requires-2
 clip-requires-2 c κs = sound _ (sym (c .before .before .before .before .shape-error .ensures) ∙ c .before .before .before .if1 .left) Y .high
 
--- src/lowest.rt:93:9
 clip-requires-3 : tie.Need-clip-requires-3
 clip-requires-3 c κs = sound _ (sym (c .before .before .before .before .before .shape-error .ensures) ∙ c .before .before .before .before .if1 .left) Z .high
 
--- src/lowest.rt:94:5
 first-via-requires : tie.Need-first-via-requires
 first-via-requires c κs = (sym (c .before .before .before .before .before .before .shape-error .ensures) ∙ c .before .before .before .before .before .if1 .left, (rows-fit _ _ _ (sym (c .before .before .before .before .has-rows .ensures) ∙ not-false _ (c .before .before .before .if2 .left)), (c .before .before .clip .ensures .below, c .before .clip2 .ensures .below, c .clip3 .ensures .below)))
 
--- src/lowest.rt:74:1
 returns-3 : tie.Need-returns-3
 returns-3 c = cut _ _ _ _ _ _ _ _ _ _ _ (sym (c .before .before .before .before .before .before .before .shape-error .ensures) ∙ c .before .before .before .before .before .before .if1 .left) (sym (c .before .before .before .before .before .has-rows .ensures) ∙ not-false _ (c .before .before .before .before .if2 .left)) (c .before .before .before .clip .ensures) (c .before .before .clip2 .ensures) (c .before .clip3 .ensures) (c .first-via .ensures)
 

@@ -5,9 +5,6 @@ use lib.ListN.{getD}
 use Prim.Native.Nat.{ℕ, _-_, _≤_, _<_}
 use Rattle.search.proofs.parts.least_part.Statement.{statement}
 use Rattle.search.proofs.parts.least_part.Tie as tie
-use Rattle.search.proofs.parts.least_part.Reads as reads
-use Rattle.search.proofs.parts.least_part.Lts as lts
-use Rattle.search.proofs.parts.lesser.Reads as lesser-reads
 
 abbrev Inv-loop : tie.InvT-loop
 Inv-loop ys len least₀ c₀ least c = (c ≤ len) × ((i : ℕ) → i < c → least ≤ getD ys i 0)
@@ -15,35 +12,27 @@ Inv-loop ys len least₀ c₀ least c = (c ≤ len) × ((i : ℕ) → i < c → 
 abbrev μ-loop : tie.MeasureT-loop
 μ-loop ys len least₀ c₀ least c = len - c
 
--- src/parts.rt:60:5
 loop-holds : tie.Need-loop-holds Inv-loop μ-loop
 loop-holds c = (omega arith, λ i l. absurd (omega arith))
 
--- src/parts.rt:61:17
 cast-i : tie.Need-cast-i Inv-loop μ-loop
 cast-i c = omega arith
 
--- src/parts.rt:62:31
 element-copy-out-lesser : tie.Need-element-copy-out-lesser Inv-loop μ-loop
 element-copy-out-lesser c = omega arith
 
--- src/parts.rt:62:9
 lesser-requires : tie.Need-lesser-requires Inv-loop μ-loop
 lesser-requires c κs = search needs
 
--- src/parts.rt:63:13
 add-c : tie.Need-add-c Inv-loop μ-loop
 add-c c = omega arith
 
--- src/parts.rt:60:5
 loop-less : tie.Need-loop-less Inv-loop μ-loop
 loop-less c = omega arith
 
--- src/parts.rt:60:5
 loop-again : tie.Need-loop-again Inv-loop μ-loop
 loop-again c = (omega arith, below-more _ _ (λ i l. omega (arith, c .before .before .before .loop .inv .1 i l, c .lesser .ensures .0)) (c .lesser .ensures .1))
 
--- src/parts.rt:54:1
 returns : tie.Need-returns Inv-loop μ-loop
 returns c = λ i l. c .before .loop .inv .1 i (omega arith)
 

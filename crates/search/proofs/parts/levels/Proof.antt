@@ -1,12 +1,9 @@
 use native.Mathlib.Omega.{arith}
-use Prim.Native.Nat.{_-_, _≤_, _<_}
+use Prim.Native.Nat.{_-_, _≤_}
 use Rattle.search.specs.PartOf.{partOf}
 use Rattle.search.proofs.Scatter.{Scatter, scatter-begin, scatter-fits, scatter-turn, levels-of}
 use Rattle.search.proofs.parts.levels.Statement.{statement}
 use Rattle.search.proofs.parts.levels.Tie as tie
-use Rattle.search.proofs.parts.levels.Reads as reads
-use Rattle.search.proofs.parts.levels.Lts as lts
-use Rattle.search.proofs.parts.part.Reads as part-reads
 
 abbrev Inv-loop : tie.InvT-loop
 Inv-loop len ring p q xs₀ bit₀ x₀ xs bit x = (len ≤ 16) × (x ≤ len) × Scatter (λ c. partOf len ring p q c) xs bit x
@@ -14,59 +11,45 @@ Inv-loop len ring p q xs₀ bit₀ x₀ xs bit x = (len ≤ 16) × (x ≤ len) �
 abbrev μ-loop : tie.MeasureT-loop
 μ-loop len ring p q xs₀ bit₀ x₀ xs bit x = len - x
 
--- src/parts.rt:38:5
 loop-holds : tie.Need-loop-holds Inv-loop μ-loop
 loop-holds c = (c .pre .0, omega arith, scatter-begin _)
 
--- src/parts.rt:39:17
 part-requires : tie.Need-part-requires Inv-loop μ-loop
 part-requires c κs = let p = c .before .before .pre in (p .0, p .1, p .2, c .loop-test .taken)
 
--- src/parts.rt:39:17
 cast-k : tie.Need-cast-k Inv-loop μ-loop
 cast-k c = omega (arith, c .part .ensures .1)
 
--- src/parts.rt:40:17
 mul-xs : tie.Need-mul-xs Inv-loop μ-loop
 mul-xs c = omega (arith, c .part .ensures .1)
 
--- src/parts.rt:40:17
 array-read-xs : tie.Need-array-read-xs Inv-loop μ-loop
 array-read-xs c = omega (arith, c .part .ensures .1)
 
--- src/parts.rt:40:25
 cast-xs : tie.Need-cast-xs Inv-loop μ-loop
 cast-xs c = let i = c .before .before .loop .inv in let w = scatter-fits _ _ _ _ (c .part .result) (i .2) (omega arith) (omega (arith, c .part .ensures .1)) in omega (arith, w .0)
 
--- src/parts.rt:40:17
 add-xs : tie.Need-add-xs Inv-loop μ-loop
 add-xs c = let i = c .before .before .loop .inv in let w = scatter-fits _ _ _ _ (c .part .result) (i .2) (omega arith) (omega (arith, c .part .ensures .1)) in omega (arith, w .1)
 
--- src/parts.rt:40:9
 mul-xs-2 : tie.Need-mul-xs-2 Inv-loop μ-loop
 mul-xs-2 c = omega (arith, c .part .ensures .1)
 
--- src/parts.rt:40:9
 array-write-xs : tie.Need-array-write-xs Inv-loop μ-loop
 array-write-xs c = omega (arith, c .part .ensures .1)
 
--- src/parts.rt:41:15
 mul-bit : tie.Need-mul-bit Inv-loop μ-loop
 mul-bit c = let i = c .before .before .loop .inv in let w = scatter-fits _ _ _ _ (c .part .result) (i .2) (omega arith) (omega (arith, c .part .ensures .1)) in omega (arith, w .0)
 
--- src/parts.rt:42:13
 add-x : tie.Need-add-x Inv-loop μ-loop
 add-x c = omega arith
 
--- src/parts.rt:38:5
 loop-less : tie.Need-loop-less Inv-loop μ-loop
 loop-less c = omega arith
 
--- src/parts.rt:38:5
 loop-again : tie.Need-loop-again Inv-loop μ-loop
 loop-again c = (c .before .before .before .pre .0, omega arith, scatter-turn _ _ _ _ _ (c .before .before .loop .inv .2) (c .part .ensures .0) (omega (arith, c .part .ensures .1)))
 
--- src/parts.rt:31:1
 returns : tie.Need-returns Inv-loop μ-loop
 returns c = levels-of _ _ _ _ _ _ _ (c .before .loop .inv .2) (c .before .loop .inv .1) (c .loop-test .left)
 

@@ -3,23 +3,16 @@ use Rattle.search.proofs.Scatter.{part-most}
 use borrow.Author.Needs.{needs}
 use Rattle.search.proofs.parts.part.Statement.{statement}
 use Rattle.search.proofs.parts.part.Tie as tie
-use Rattle.search.proofs.parts.part.Reads as reads
-use Rattle.search.proofs.parts.part.Lts as lts
-use Rattle.shape.proofs.axis.distance.Reads as distance-reads
 
--- src/parts.rt:12:5
 distance-requires : tie.Need-distance-requires
 distance-requires c κs = search needs
 
--- src/parts.rt:12:33
 distance-requires-2 : tie.Need-distance-requires-2
 distance-requires-2 c κs = search needs
 
--- src/parts.rt:12:5
 add-result : tie.Need-add-result
 add-result c = omega (arith, part-most (c .before .before .args .len) (c .before .before .args .ring) (c .before .before .args .p) (c .before .before .args .q) (c .before .before .args .c) (c .before .before .pre .0) (c .before .before .pre .1) (c .before .before .pre .2) (c .before .before .pre .3), c .before .distance .ensures, c .distance2 .ensures)
 
--- src/parts.rt:8:1
 returns : tie.Need-returns
 returns c = (cc, omega (arith, part-most (c .before .before .args .len) (c .before .before .args .ring) (c .before .before .args .p) (c .before .before .args .q) (c .before .before .args .c) (c .before .before .pre .0) (c .before .before .pre .1) (c .before .before .pre .2) (c .before .before .pre .3), c .before .distance .ensures, c .distance2 .ensures))
 

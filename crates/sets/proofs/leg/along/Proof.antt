@@ -3,7 +3,7 @@ use Rattle.sets.proofs.leg.along.Statement.{statement}
 use Rattle.sets.proofs.leg.along.Tie as tie
 use Rattle.sets.proofs.leg.along.Reads as reads
 use Rattle.sets.proofs.leg.along.Lts as lts
-use Rattle.masks.proofs.cells.cell.Reads as cell-reads
+use Rattle.sets.proofs.cells.cell.Reads as cell-reads
 use Rattle.sets.proofs.part.column.Reads as column-reads
 
 -- src/leg.rt:23:27

@@ -1,0 +1,59 @@
+use Rattle.legs.specs.Between.{between}
+use borrow.Author.Needs.{needs}
+use Rattle.sets.proofs.cells.between.Statement.{statement}
+use Rattle.sets.proofs.cells.between.Tie as tie
+use Rattle.sets.proofs.cells.between.Reads as reads
+use Rattle.sets.proofs.cells.between.Lts as lts
+use Rattle.logic.proofs.both.Reads as both-reads
+use Rattle.shape.proofs.axis.distance.Reads as distance-reads
+
+-- src/cells.rt:19:17
+distance-requires : tie.Need-distance-requires
+distance-requires c κs = search needs
+
+-- src/cells.rt:19:17
+cast-first : tie.Need-cast-first
+cast-first c = search needs
+
+-- src/cells.rt:20:16
+distance-requires-2 : tie.Need-distance-requires-2
+distance-requires-2 c κs = search needs
+
+-- src/cells.rt:20:16
+cast-last : tie.Need-cast-last
+cast-last c = search needs
+
+-- src/cells.rt:21:17
+distance-requires-3 : tie.Need-distance-requires-3
+distance-requires-3 c κs = search needs
+
+-- src/cells.rt:21:17
+cast-whole : tie.Need-cast-whole
+cast-whole c = search needs
+
+-- src/cells.rt:22:19
+add-both : tie.Need-add-both
+add-both c = search needs
+
+-- src/cells.rt:22:5
+both-requires : tie.Need-both-requires
+both-requires c κs = search needs
+
+-- src/cells.rt:16:1
+returns : tie.Need-returns
+unfolding between
+returns c = cc
+
+pub between-spec : {M : Type 1} → statement M
+between-spec =
+    tie.close
+    (tie.spec
+    distance-requires
+    cast-first
+    distance-requires-2
+    cast-last
+    distance-requires-3
+    cast-whole
+    add-both
+    both-requires
+    returns)
