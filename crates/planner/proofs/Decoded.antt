@@ -15,7 +15,8 @@ use Rattle.choice.specs.Choice.{Choice, viasOf, det, detsOf, legLength, lengthO
 use Rattle.choice.specs.OneVia.{OneVia, viaOf, firstDet}
 use Rattle.choice.specs.Answer.{Given, Refused}
 use Rattle.choice.specs.Outcome.{told, toldAs}
-use Rattle.planner.specs.KeyNumber.{lengthPlace, detsPlace, viasPlace, nodePlace, digits, keyNumber, unclear, modeOf, decoded}
+use Rattle.search.specs.Number.{lengthPlace, detsPlace, viasPlace, nodePlace, unclear}
+use Rattle.planner.specs.KeyNumber.{digits, keyNumber, modeOf, decoded}
 use Rattle.planner.proofs.Order.{Low, low-places}
 
 record Places (k len dets vias node first : ℕ) : Type 0 where

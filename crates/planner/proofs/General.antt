@@ -32,10 +32,9 @@ use Rattle.choice.proofs.Listed.{over-has, has-over}
 use Rattle.choice.proofs.Further.{alone-has, followed-has, has-followed, better-is}
 use Rattle.choice.proofs.AtTorus.{route-first, no-via-first}
 use Rattle.choice.proofs.Search.{adaptive-clear}
-use Rattle.planner.specs.Least.{least}
-use Rattle.planner.specs.KeyNumber.{keyNumber, unclear, decoded}
+use Rattle.search.specs.Number.{unclear}
+use Rattle.planner.specs.KeyNumber.{keyNumber, decoded}
 use Rattle.planner.specs.ViaNumber.{viaNumberIn}
-use Rattle.planner.proofs.Leasts.{least-each, least-one}
 use Rattle.planner.proofs.Order.{low-places, before-number}
 use Rattle.planner.proofs.Decoded.{decoded-none, decoded-number}
 use Rattle.planner.proofs.ViaNumbers.{number-both, number-first, number-second}
@@ -186,12 +185,3 @@ module _
 
   pub general-planned : decoded r ≡ told s S (chosen (routeBy s sound S D))
   general-planned = by-le unclear r no-answer (λ low. some-answer (reached low)) ∙ sym (ap (λ o. told s S (chosen o)) (route-first s h sound S D hS hD))
-
--- The least over all nodes, the ends among them, and the number for none.
-pub least-planned :
-    (s : Shape) (h : shapeError s ≡ 0) (sound : ℕ → ℕ → Bool) (S D : ℕ) → S < nodeCount s → D < nodeCount s → clear (torus s) sound (leg D Deterministic) S ≡ false →
-    decoded (least (viaNumberIn s sound S D) unclear 0 (nodeCount s)) ≡ told s S (chosen (routeBy s sound S D))
-least-planned s h sound S D hS hD blocked =
-    general-planned s h sound S D hS hD blocked (least (viaNumberIn s sound S D) unclear 0 (nodeCount s))
-    (λ v lt. least-each (viaNumberIn s sound S D) unclear 0 (nodeCount s) v (omega arith) (omega arith))
-    (⊎-elim inl (λ a. inr (a .node, omega (arith, a .below), a .is)) (least-one (viaNumberIn s sound S D) unclear 0 (nodeCount s)))

@@ -23,19 +23,13 @@ use Rattle.choice.specs.declared.outcome.Outcome.{Outcome}
 use Rattle.choice.specs.Pair.{soundIn}
 use Rattle.rows.specs.Rows.{inSet}
 use Rattle.search.specs.FirstVia.{hasRows}
-use Rattle.search.specs.Number as Number
+use Rattle.search.specs.Number.{unclear}
 use Rattle.search.specs.BestVia.{within, askable, numberIn, NumberOf, LeastOf}
-use Rattle.planner.specs.KeyNumber.{unclear, decoded}
-use Rattle.planner.specs.ViaNumber.{viaNumberOf, viaNumberBy, viaNumberIn}
+use Rattle.planner.specs.KeyNumber.{decoded}
+use Rattle.planner.specs.ViaNumber.{viaNumberBy, viaNumberIn}
 use Rattle.planner.specs.Known.{isClear, IsAt, routeTold, Faring}
 use Rattle.planner.proofs.General.{general-planned}
 use Rattle.planner.proofs.Knowing.{shape-ok}
-
-same-number : (len v : ℕ) (a1 d1 a2 d2 : Bool) → Number.viaNumber len v a1 d1 a2 d2 ≡ viaNumberOf a1 d1 a2 d2 len v
-unfolding Number.viaNumber viaNumberOf
-same-number len v a1 false a2 d2 = refl
-same-number len v a1 true a2 false = refl
-same-number len v a1 true a2 true = omega arith
 
 inside-within : (s : Shape) (c : Coords) → Inside s c → within s c ≡ true
 unfolding within

@@ -1,52 +1,38 @@
--- Planning a pair: its checks, the links by their masks, and the answer.
-use Prim.Native.Nat.{ℕ, zero, suc, _/_, _%_, _^_, _≤_, _<_}
+-- Planning a pair: its checks, and the answer.
+use Prim.Native.Nat.{ℕ, zero, suc, _+_, _≤_, _<_, min}
 use native.Mathlib.Omega.{arith}
-use mathlib.Core.Path.{_≡_, refl, sym, _∙_}
+use mathlib.Core.Path.{_≡_, refl, sym, ap, _∙_}
 use mathlib.Core.Bool.{Bool, true, false, cond, not, _&&_, _||_}
 use mathlib.Core.List.{List}
-use lib.ListN.{getD}
 use lib.Dec.{eqb}
 use borrow.Author.Tests.{eq-eqb, ne-eqb, eqb-true}
 use Rattle.numbers.specs.Numbers.{nodeOutside, deadEnd}
 use Rattle.theory.specs.Checks.{declined, _then_}
-use Rattle.theory.proofs.Cases.{test}
 use Rattle.shape.specs.declared.shape.Shape.{Shape}
-use Rattle.shape.specs.Shape.{shapeError}
-use Rattle.machine.specs.Number.{nodeCount}
-use Rattle.machine.specs.Hop.{link}
-use Rattle.machine.specs.Node.{isNode, countAnswer}
-use Rattle.machine.proofs.Nodes.{Node, node-of}
-use Rattle.machine.proofs.Laws.{low}
+use Rattle.shape.specs.declared.shape.Coords.{Coords}
+use Rattle.theory.specs.Machine.{sumBy}
+use Rattle.packet.specs.declared.route.Route.{Route}
+use Rattle.machine.specs.Hop.{rule}
+use Rattle.machine.specs.ByCoords.{distanceAt}
+use Rattle.machine.specs.declared.leg.Mode.{Mode}
+use Rattle.machine.specs.declared.leg.Mode.the-variants.{Adaptive}
+use Rattle.machine.specs.Node.{isNode, coordsAnswer}
+use Rattle.machine.proofs.Nodes.{node-of}
 use Rattle.plan.specs.Layout.{shapeOf, faultsOf}
 use Rattle.plan.specs.Checks.{large, planError}
 use Rattle.plan.specs.Reading.{isPlan}
-use Rattle.dead.specs.Dead.{deadNode, deadLink, sound, maskOf, maskAnswer, nodeAnswer}
-use Rattle.dead.proofs.Table.{mask-bit, is-node}
-use Rattle.tables.specs.Table.{soundBit, soundBy, towardAnswer, outwardAnswer}
+use Rattle.dead.specs.Dead.{deadNode, nodeAnswer}
 use Rattle.choice.specs.declared.outcome.Outcome.{Outcome}
 use Rattle.choice.specs.Answer.{answered}
 use Rattle.choice.specs.Outcome.{told, toldAs}
-use Rattle.choice.specs.Pair.{soundIn, routeBy, routeIn, pairError, chosen, pair}
-use Rattle.choice.proofs.AtTorus.{route-same}
-use Rattle.planner.specs.KeyNumber.{outcomeIn}
-use Rattle.planner.proofs.Planned.{nodes-most, tables-of, outcome-planned}
-
--- ---- the links by their masks
-even-odd : (k : ℕ) → eqb (k % 2) 0 ≡ not (eqb (k % 2) 1)
-even-odd k = test (eqb (k % 2) 1)
-    (λ e. rw e (ne-eqb (k % 2) 0 (λ z. omega (arith, eqb-true (k % 2) 1 e))))
-    (λ e. rw e (eq-eqb (k % 2) 0 (omega (arith, borrow.Author.Tests.eqb-false (k % 2) 1 e))))
-
-module _ (p masks : List ℕ) (ok : planError large p ≡ 0) (are : (n : ℕ) → getD masks n 0 ≡ maskAnswer large p n) where
-  -- A link is sound by the masks where it is sound in the plan.
-  pub sound-by : (n d : ℕ) → Node (shapeOf p) n → link (shapeOf p) n d ≡ true → soundBy masks n d ≡ soundIn p n d
-  unfolding soundBit sound isPlan
-  sound-by n d k l =
-      let s = shapeOf p in
-      let here : getD masks n 0 ≡ maskOf s (faultsOf p) n = are n ∙ rw (eq-eqb (planError large p) 0 ok, is-node s n k) in
-      let five : d ≤ 5 = low s (k .sound) n d (k .below) l in
-      let dead : eqb (getD masks n 0 / 2 ^ d % 2) 1 ≡ deadLink s (faultsOf p) n d = rw here (mask-bit s (faultsOf p) n d five) in
-      even-odd (getD masks n 0 / 2 ^ d) ∙ rw (dead, l)
+use Rattle.choice.specs.Pair.{soundIn, routeIn, pairError, chosen, pair}
+use Rattle.choice.proofs.AtTorus.{direct-first}
+use Rattle.losses.specs.Loss.{onLeg}
+use Rattle.losses.specs.OfPlan.{AreLosses}
+use Rattle.losses.proofs.AtPlan.{clear-is}
+use Rattle.planner.specs.Known.{isClear, OfPlan, IsAt, routeTold}
+use Rattle.planner.proofs.Knowing.{shape-ok}
+use Rattle.planner.proofs.Destination.{length-is}
 
 -- ---- the checks of a pair
 checks : (a b c d : Bool) → cond (a && b) (cond (c || d) deadEnd 0) nodeOutside ≡ (declined (not a || not b) nodeOutside then declined (c || d) deadEnd then 0)
@@ -98,53 +84,42 @@ unfolding pair answered told toldAs
 refused-pair p S D zero q ne = absurd (ne refl)
 refused-pair p S D (suc e) q ne = rw (sym q)
 
-module _ (p masks : List ℕ) (S D : ℕ) (A : Accepted p S D) (are : (n : ℕ) → getD masks n 0 ≡ maskAnswer large p n) where
-  from-node : Node (shapeOf p) S
-  from-node = node-of (shapeOf p) S (A .source)
-
-  to-node : Node (shapeOf p) D
-  to-node = node-of (shapeOf p) D (A .target)
-
-  pub route-is : routeBy (shapeOf p) (soundBy masks) S D ≡ routeIn p S D
-  route-is =
-      route-same (shapeOf p) (from-node .sound) (soundBy masks) S D (from-node .below) (to-node .below) (soundIn p)
-      (λ n d l k. sound-by p masks (A .plan) are n d (record { sound = from-node .sound; below = l }) k)
-
-  pub outcome-is :
-      (from toward : List ℕ) (count : ℕ) →
-      ((n : ℕ) → getD from n 0 ≡ outwardAnswer (shapeOf p) masks S n) →
-      ((n : ℕ) → getD toward n 0 ≡ towardAnswer (shapeOf p) masks D n) →
-      count ≡ nodeCount (shapeOf p) →
-      outcomeIn from toward count D ≡ told (shapeOf p) S (chosen (routeIn p S D))
-  outcome-is from toward count out back c =
-      rw (c, sym route-is) (outcome-planned (shapeOf p) (soundBy masks) S D from toward (tables-of (shapeOf p) masks S D from toward (A .source) (A .target) out back))
-
 chosen-pair : (p : List ℕ) (S D : ℕ) → pairError large p S D ≡ 0 → told (shapeOf p) S (chosen (routeIn p S D)) ≡ told (shapeOf p) S (pair large p S D)
 unfolding pair answered
 chosen-pair p S D h = rw h
 
-count-is : (s : Shape) (n r : ℕ) → isNode s n ≡ true → r ≡ countAnswer s → r ≡ nodeCount s
-count-is s n r k e = e ∙ rw (eq-eqb (shapeError s) 0 (node-of s n k .sound))
+-- ---- what is worked out of an accepted pair
+pub node-at : (p : List ℕ) (s : Shape) (n : ℕ) (c : Coords) → s ≡ shapeOf p → isNode (shapeOf p) n ≡ true → c ≡ coordsAnswer s n → IsAt p n c
+node-at p s n c e k q = record { node = node-of (shapeOf p) n k .below; at = q ∙ rw (e, k) }
 
--- What is worked out of an accepted pair: the shape, the masks of its links, and the tables of the legs from S and to D.
 module _ (p : List ℕ) (s : Shape) (S D e : ℕ) (es : s ≡ shapeOf p) (ee : e ≡ pairError large p S D) (zero : e ≡ 0) where
   A : Accepted p S D
   A = accepted p S D (sym ee ∙ zero)
 
-  pub bounds : (count : ℕ) → count ≡ countAnswer s → (count ≤ 4096) × (D < 4096)
-  bounds count c =
-      let to = node-of s D (rw es (A .target)) in
-      (omega (arith, count-is s D count (rw es (A .target)) c, nodes-most s (to .sound)), omega (arith, to .below, nodes-most s (to .sound)))
+  pub known : (words : List ℕ) (count : ℕ) → AreLosses p words count → OfPlan p s words count
+  known words count l = record { plan = A .plan; shape = es; losses = l }
 
-  pub paired :
-      (masks from toward : List ℕ) (count : ℕ) (r : Outcome) →
-      ((n : ℕ) → getD masks n 0 ≡ maskAnswer large p n) →
-      ((n : ℕ) → getD from n 0 ≡ outwardAnswer s masks S n) →
-      ((n : ℕ) → getD toward n 0 ≡ towardAnswer s masks D n) →
-      count ≡ countAnswer s →
-      r ≡ outcomeIn from toward count D →
-      r ≡ told (shapeOf p) S (pair large p S D)
-  paired masks from toward count r are out back c q =
-      q
-      ∙ outcome-is p masks S D A are from toward count (rw es at out) (rw es at back) (count-is (shapeOf p) D count (A .target) (rw es at c))
-      ∙ chosen-pair p S D (sym ee ∙ zero)
+  pub from-at : (c : Coords) → c ≡ coordsAnswer s S → IsAt p S c
+  from-at c q = node-at p s S c es (A .source) q
+
+  pub to-at : (c : Coords) → c ≡ coordsAnswer s D → IsAt p D c
+  to-at c q = node-at p s D c es (A .target) q
+
+  pub paired : (r : Outcome) → r ≡ routeTold p S D → r ≡ told (shapeOf p) S (pair large p S D)
+  paired r q = q ∙ chosen-pair p S D (sym ee ∙ zero)
+
+-- ---- the first steps of a pair
+module _ (p : List ℕ) (s : Shape) (words : List ℕ) (count : ℕ) (k : OfPlan p s words count) (S D : ℕ) (a t : Coords) (from : IsAt p S a) (to : IsAt p D t) where
+  -- The test of a single leg.
+  pub leg-is : (m : Mode) (b : Bool) → b ≡ not (onLeg rule m s words (min count 256) a t) → b ≡ isClear p m S D
+  leg-is m b e =
+      let few : min count 256 ≡ count = omega (arith, k .losses .few) in
+      e ∙ rw (few, k .shape, from .at, to .at) (sym (clear-is p (k .plan) words count (k .losses) S D (from .node) (to .node) m))
+
+  pub direct-told : (b : Bool) → b ≡ not (onLeg rule Adaptive s words (min count 256) a t) → b ≡ true → (len : ℕ) → len ≡ distanceAt s a t → Outcome.Given (Route.Direct Adaptive) len ≡ routeTold p S D
+  unfolding told toldAs sumBy
+  direct-told b e y len q =
+      let c = sym (leg-is Adaptive b e) ∙ y in
+      let route = direct-first (shapeOf p) (shape-ok p (k .plan)) (soundIn p) S D (from .node) (to .node) c in
+      let d = length-is p s S D a t len (k .shape) from to q in
+      rw route (ap (Outcome.Given (Route.Direct Adaptive)) (omega arith))

@@ -13,47 +13,48 @@ use Rattle.choice.specs.Choice.{viasOf, det, detsOf}
 use Rattle.choice.specs.OneVia.{viaOf, firstDet}
 use Rattle.choice.specs.Further.{better}
 use Rattle.choice.proofs.Further.{better-is}
-use Rattle.planner.specs.KeyNumber.{lengthPlace, digits, keyNumber, unclear}
-use Rattle.planner.specs.ViaNumber.{detBy, viaNumberOf, viaNumberBy}
+use Rattle.search.specs.Number.{lengthPlace, unclear, detOf, viaNumber}
+use Rattle.planner.specs.KeyNumber.{digits, keyNumber}
+use Rattle.planner.specs.ViaNumber.{viaNumberBy}
 
-det-by-most : (a : Bool) → detBy a ≤ 1
+det-by-most : (a : Bool) → detOf a ≤ 1
 det-by-most true = omega arith
 det-by-most false = omega arith
 
 -- A via is never below its length's place, and with both legs clear it is below that of the next length.
-pub number-least : (a₁ d₁ a₂ d₂ : Bool) (len v : ℕ) → len ≤ 256 → len * lengthPlace ≤ viaNumberOf a₁ d₁ a₂ d₂ len v
-unfolding viaNumberOf
+pub number-least : (a₁ d₁ a₂ d₂ : Bool) (len v : ℕ) → len ≤ 256 → len * lengthPlace ≤ viaNumber len v a₁ d₁ a₂ d₂
+unfolding viaNumber
 number-least a₁ true a₂ true len v h = omega arith
 number-least a₁ true a₂ false len v h = omega arith
 number-least a₁ false a₂ d₂ len v h = omega arith
 
-pub number-most : (a₁ a₂ : Bool) (len v : ℕ) → v < 4096 → viaNumberOf a₁ true a₂ true len v < (len + 1) * lengthPlace
-unfolding viaNumberOf
+pub number-most : (a₁ a₂ : Bool) (len v : ℕ) → v < 4096 → viaNumber len v a₁ true a₂ true < (len + 1) * lengthPlace
+unfolding viaNumber
 number-most a₁ a₂ len v h = omega (arith, det-by-most a₁, det-by-most a₂)
 
 -- Of two vias the one with the shorter length has the lower number, whatever their modes, and whether the other's legs are clear or not.
 pub shorter-lower :
     (a₁ a₂ b₁ e₁ b₂ e₂ : Bool) (len more u v : ℕ) → u < 4096 → len < more → more ≤ 256 →
-    viaNumberOf a₁ true a₂ true len u < viaNumberOf b₁ e₁ b₂ e₂ more v
+    viaNumber len u a₁ true a₂ true < viaNumber more v b₁ e₁ b₂ e₂
 shorter-lower a₁ a₂ b₁ e₁ b₂ e₂ len more u v low shorter most = omega (arith, number-most a₁ a₂ len u low, number-least b₁ e₁ b₂ e₂ more v most)
 
 -- Of two vias of one length, both legs clear: the one with fewer deterministic legs; and of those with as many, the lower node.
 pub fewer-lower :
-    (a₁ a₂ b₁ b₂ : Bool) (len u v : ℕ) → u < 4096 → detBy a₁ + detBy a₂ < detBy b₁ + detBy b₂ →
-    viaNumberOf a₁ true a₂ true len u < viaNumberOf b₁ true b₂ true len v
-unfolding viaNumberOf
+    (a₁ a₂ b₁ b₂ : Bool) (len u v : ℕ) → u < 4096 → detOf a₁ + detOf a₂ < detOf b₁ + detOf b₂ →
+    viaNumber len u a₁ true a₂ true < viaNumber len v b₁ true b₂ true
+unfolding viaNumber
 fewer-lower a₁ a₂ b₁ b₂ len u v low fewer = omega (arith, det-by-most a₁)
 
 pub node-lower :
-    (a₁ a₂ b₁ b₂ : Bool) (len u v : ℕ) → u < v → detBy a₁ + detBy a₂ ≡ detBy b₁ + detBy b₂ →
-    viaNumberOf a₁ true a₂ true len u < viaNumberOf b₁ true b₂ true len v
-unfolding viaNumberOf
+    (a₁ a₂ b₁ b₂ : Bool) (len u v : ℕ) → u < v → detOf a₁ + detOf a₂ ≡ detOf b₁ + detOf b₂ →
+    viaNumber len u a₁ true a₂ true < viaNumber len v b₁ true b₂ true
+unfolding viaNumber
 node-lower a₁ a₂ b₁ b₂ len u v lower same = omega (arith, det-by-most a₁)
 
 -- Two bits say of a leg in which mode it is better taken.
 abbrev Tells : Bool → Bool → Option Leg → Type 0
 Tells a d none = d ≡ false
-Tells a d (some l) = (d ≡ true) × (detBy a ≡ det (l .mode))
+Tells a d (some l) = (d ≡ true) × (detOf a ≡ det (l .mode))
 
 tells : (t : ℕ) (a d : Bool) → (a ≡ true → d ≡ true) → Tells a d (cond a (some (leg t Adaptive)) (cond d (some (leg t Deterministic)) none))
 tells t true true h = (refl, refl)
@@ -81,17 +82,17 @@ module _ (far : ℕ → ℕ → ℕ) (clear : Leg → ℕ → Bool) (n S D v : �
   number-legs l m e f = rw (e, f) (omega arith)
 
   pub number-both : (l m : Leg) → better clear S v ≡ some l → better clear v D ≡ some m → viaNumberBy far clear S D v ≡ keyNumber far S (l ∷ m ∷ [])
-  unfolding viaNumberBy viaNumberOf
+  unfolding viaNumberBy viaNumber
   number-both l m e f =
       let p : Tells (clear (leg v Adaptive) S) (clear (leg v Deterministic) S) (some l) = rw e at first-tells in
       let q : Tells (clear (leg D Adaptive) v) (clear (leg D Deterministic) v) (some m) = rw f at second-tells in
-      rw (p .0, q .0, p .1, q .1) (sym (number-legs l m (better-is far clear n S v l e .0) (better-is far clear n v D m f .0)))
+      rw (p .0, q .0, p .1, q .1) (omega (arith, number-legs l m (better-is far clear n S v l e .0) (better-is far clear n v D m f .0)))
 
   -- One of them is clear in no mode.
   pub number-first : better clear S v ≡ none → viaNumberBy far clear S D v ≡ unclear
-  unfolding viaNumberBy viaNumberOf
+  unfolding viaNumberBy viaNumber
   number-first e = let p : clear (leg v Deterministic) S ≡ false = rw e at first-tells in rw p
 
   pub number-second : better clear v D ≡ none → viaNumberBy far clear S D v ≡ unclear
-  unfolding viaNumberBy viaNumberOf
+  unfolding viaNumberBy viaNumber
   number-second e = let p : clear (leg D Deterministic) v ≡ false = rw e at second-tells in second-off (clear (leg v Deterministic) S) (clear (leg D Deterministic) v) _ p

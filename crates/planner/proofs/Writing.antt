@@ -57,7 +57,7 @@ use Rattle.planner.specs.Known.{isClear, IsAt, Ready}
 use Rattle.planner.specs.Sheet.{sourceError, lists, entriesFrom, plannedSheet}
 use Rattle.planner.proofs.Knowing.{shape-ok}
 use Rattle.planner.proofs.FirstSteps.{nodes-few}
-use Rattle.planner.proofs.Listed.{unclear-listed, clear-unlisted}
+use Rattle.planner.proofs.Unlisted.{unclear-listed, clear-unlisted}
 use Rattle.planner.proofs.Planning.{Source, source-of, self-unlisted, sheet-few, sheet-accepted}
 
 -- ---- the checks

@@ -175,7 +175,19 @@ fn by_losses(
     ensures { λ r. ⌜ r ≡ routeTold (now (plan .entry)) source dest ⌝ }
 {
     let masks = gather(ta, t);
-    let first = near_by_masks(plan, shape, words, count, source, dest, a, t, &masks, fa, straight);
+    let first = near_by_masks(
+        plan,
+        shape,
+        words,
+        count,
+        source,
+        dest,
+        a,
+        t,
+        &masks,
+        fa,
+        straight,
+    );
     if is_given(first) {
         return first;
     }
@@ -273,5 +285,20 @@ pub fn outcome_to(
     if dead[at] != 0 {
         return Outcome::Refused(DEAD_END);
     }
-    route_to(plan, shape, words, count, dead, ta, td, work, source, a, fa, fd, dest, t)
+    route_to(
+        plan,
+        shape,
+        words,
+        count,
+        dead,
+        ta,
+        td,
+        work,
+        source,
+        a,
+        fa,
+        fd,
+        dest,
+        t,
+    )
 }

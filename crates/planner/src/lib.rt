@@ -1,10 +1,10 @@
 // Planning: a pair, and the sheet of a source.
-mod choose;
+mod between;
+mod dest;
 mod far;
-mod key_byte;
 mod key_number;
+mod listed;
 mod near;
-pub mod one_destination;
 mod outside;
 pub mod pair;
 mod sets_of;

@@ -117,14 +117,19 @@ pub fn routes_from(
     ensures { λ r. ⌜ (r .source ≡ source) × (routeEntries r ≡ entriesFrom large (now (plan .entry)) source 0 (nodeCount (shapeOf (now (plan .entry))))) ⌝ }
 {
     let fa = from_set(plan, Mode::Adaptive, shape, words, count, source, a);
-    let fd = from_set(
+    let fd = from_set(plan, Mode::Deterministic, shape, words, count, source, a);
+    list(
         plan,
-        Mode::Deterministic,
         shape,
         words,
         count,
+        dead,
+        ta,
+        td,
+        work,
         source,
         a,
-    );
-    list(plan, shape, words, count, dead, ta, td, work, source, a, &fa, &fd)
+        &fa,
+        &fd,
+    )
 }

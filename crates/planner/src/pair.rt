@@ -1,24 +1,33 @@
 // Planning a pair: checks 1 to 8, 9, 10, then the first clear choice, or 11.
-use crate::choose::choose;
+use crate::dest::far_by_masks;
+use crate::dest::near_by_masks;
+use crate::near::is_given;
+use crate::sets_of::from_set;
 use choice::Outcome;
-use dead::dead_masks;
 use dead::is_dead_node;
 use logic::both;
 use logic::either;
 use logic::pick;
-use machine::node::count;
+use losses::losses;
+use machine::hop::distance_at;
+use machine::leg::Mode;
+use machine::node::coords;
 use machine::node::is_node;
+use masks::table::ends;
 use numbers::DEAD_END;
 use numbers::NODE_OUTSIDE;
+use packet::Route;
 use plan::check;
 use plan::layout::shape_in;
-use tables::outward::outward;
-use tables::toward::toward;
+use sets::leg::leg_clear;
+use shape::Coords;
+use shape::Shape;
 ghost use mathlib.Core.Path.{_≡_};
 ghost use Rattle.choice.specs.Pair.{pairError, pair};
 ghost use Rattle.choice.specs.Outcome.{told};
 ghost use Rattle.plan.specs.Layout.{shapeOf};
 ghost use Rattle.plan.specs.Checks.{large};
+ghost use Rattle.planner.specs.Known.{OfPlan, IsAt, routeTold};
 
 fn pair_error(plan: &[u8], source: u16, dest: u16) -> u8
     ensures { λ r. ⌜ r ≡ pairError large (now (plan .entry)) source dest ⌝ }
@@ -34,6 +43,62 @@ fn pair_error(plan: &[u8], source: u16, dest: u16) -> u8
     )
 }
 
+// Between sound nodes. The direct leg is tried by itself first; what only a later step needs is made there.
+fn route(
+    plan: &[u8],
+    shape: Shape,
+    words: &[u16; 256],
+    count: usize,
+    source: u16,
+    dest: u16,
+    a: Coords,
+    t: Coords,
+) -> Outcome
+    requires { ⌜ OfPlan (now plan) shape (now words) count ⌝ }
+    requires { ⌜ IsAt (now plan) source a ⌝ }
+    requires { ⌜ IsAt (now plan) dest t ⌝ }
+    ensures { λ r. ⌜ r ≡ routeTold (now (plan .entry)) source dest ⌝ }
+{
+    if leg_clear(Mode::Adaptive, shape, words, count, a, t) {
+        return Outcome::Given(Route::Direct(Mode::Adaptive), distance_at(shape, a, t));
+    }
+    let fa = from_set(plan, Mode::Adaptive, shape, words, count, source, a);
+    let masks = ends(Mode::Adaptive, false, shape, t);
+    let straight = leg_clear(Mode::Deterministic, shape, words, count, a, t);
+    let first = near_by_masks(
+        plan,
+        shape,
+        words,
+        count,
+        source,
+        dest,
+        a,
+        t,
+        &masks,
+        &fa,
+        straight,
+    );
+    if is_given(first) {
+        return first;
+    }
+    let fd = from_set(plan, Mode::Deterministic, shape, words, count, source, a);
+    let others = ends(Mode::Deterministic, false, shape, t);
+    far_by_masks(
+        plan,
+        shape,
+        words,
+        count,
+        source,
+        dest,
+        a,
+        t,
+        &masks,
+        &others,
+        &fa,
+        &fd,
+    )
+}
+
 pub fn pair(plan: &[u8], source: u16, dest: u16) -> Outcome
     ensures { λ r. ⌜ r ≡ told (shapeOf (now (plan .entry))) source (pair large (now (plan .entry)) source dest) ⌝ }
 {
@@ -42,8 +107,17 @@ pub fn pair(plan: &[u8], source: u16, dest: u16) -> Outcome
         return Outcome::Refused(error);
     }
     let shape = shape_in(plan);
-    let masks = dead_masks(plan);
-    let from = outward(shape, &masks, source);
-    let to = toward(shape, &masks, dest);
-    choose(count(shape), &from, &to, dest)
+    let lost = losses(plan);
+    let words = lost.words;
+    let count = lost.count as usize;
+    route(
+        plan,
+        shape,
+        &words,
+        count,
+        source,
+        dest,
+        coords(shape, source),
+        coords(shape, dest),
+    )
 }

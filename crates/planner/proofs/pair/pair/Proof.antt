@@ -1,34 +1,48 @@
-use Rattle.planner.proofs.Pairs.{refused-pair, bounds, paired}
-use borrow.Author.Needs.{needs}
 use Rattle.planner.proofs.pair.pair.Statement.{statement}
 use Rattle.planner.proofs.pair.pair.Tie as tie
+use Rattle.planner.proofs.pair.pair.Reads as reads
+use Rattle.planner.proofs.pair.pair.Lts as lts
+use Rattle.losses.proofs.losses.Reads as losses-reads
+use Rattle.machine.proofs.node.coords.Reads as coords-reads
+use Rattle.plan.proofs.layout.shape_in.Reads as shape-in-reads
+use Rattle.planner.proofs.pair.pair_error.Reads as pair-error-reads
+use Rattle.planner.proofs.pair.route.Reads as route-reads
 
+-- src/pair.rt:105:9
 pair-error-requires : tie.Need-pair-error-requires
-pair-error-requires c κs = search needs
+pair-error-requires c κs = ?
 
+-- src/pair.rt:107:9
 returns : tie.Need-returns
-returns c = refused-pair _ _ _ _ (c .before .pair-error .ensures) (c .if1 .taken)
+returns c = ?
 
+-- src/pair.rt:109:9
 shape-in-requires : tie.Need-shape-in-requires
-shape-in-requires c κs = search needs
+shape-in-requires c κs = ?
 
-dead-masks-requires : tie.Need-dead-masks-requires
-dead-masks-requires c κs = search needs
+-- src/pair.rt:110:9
+losses-requires : tie.Need-losses-requires
+losses-requires c κs = ?
 
-outward-requires : tie.Need-outward-requires
-outward-requires c κs = search needs
+-- src/pair.rt:112:17
+cast-count : tie.Need-cast-count
+cast-count c = ?
 
-toward-requires : tie.Need-toward-requires
-toward-requires c κs = search needs
+-- src/pair.rt:120:9
+coords-requires : tie.Need-coords-requires
+coords-requires c κs = ?
 
-count-requires : tie.Need-count-requires
-count-requires c κs = search needs
+-- src/pair.rt:121:9
+coords-requires-2 : tie.Need-coords-requires-2
+coords-requires-2 c κs = ?
 
-choose-requires : tie.Need-choose-requires
-choose-requires c κs = bounds _ _ _ _ _ (c .before .before .before .before .before .before .before .before .shape-in .ensures) (c .before .before .before .before .before .before .before .before .before .before .pair-error .ensures) (c .before .before .before .before .before .before .before .before .before .if1 .left) _ (c .before .before .count .ensures)
+-- src/pair.rt:113:5
+route-requires : tie.Need-route-requires
+route-requires c κs = ?
 
+-- src/pair.rt:102:1
 returns-2 : tie.Need-returns-2
-returns-2 c = paired _ _ _ _ _ (c .before .before .before .before .before .before .before .before .before .shape-in .ensures) (c .before .before .before .before .before .before .before .before .before .before .before .pair-error .ensures) (c .before .before .before .before .before .before .before .before .before .before .if1 .left) _ _ _ _ _ (c .before .before .before .before .before .before .before .before .dead-masks .ensures) (c .before .before .before .before .before .before .outward .ensures) (c .before .before .before .before .toward .ensures) (c .before .before .before .count .ensures) (c .choose .ensures)
+returns-2 c = ?
 
 pub pair-spec : {M : Type 1} → statement M
 pair-spec =
@@ -37,9 +51,9 @@ pair-spec =
     pair-error-requires
     returns
     shape-in-requires
-    dead-masks-requires
-    outward-requires
-    toward-requires
-    count-requires
-    choose-requires
+    losses-requires
+    cast-count
+    coords-requires
+    coords-requires-2
+    route-requires
     returns-2)

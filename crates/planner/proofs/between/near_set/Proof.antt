@@ -1,0 +1,17 @@
+use borrow.Author.Needs.{needs}
+use Rattle.planner.proofs.between.near_set.Statement.{statement}
+use Rattle.planner.proofs.between.near_set.Tie as tie
+use Rattle.planner.proofs.between.near_set.Reads as reads
+use Rattle.planner.proofs.between.near_set.Lts as lts
+use Rattle.sets.proofs.clear.clear_in.Reads as clear-in-reads
+
+-- src/between.rt:30:5
+clear-in-requires : tie.Need-clear-in-requires
+clear-in-requires c κs = search needs
+
+-- src/between.rt:11:1
+returns : tie.Need-returns
+returns c = ?
+
+pub near-set-spec : {M : Type 1} → statement M
+near-set-spec = tie.close (tie.spec clear-in-requires returns)

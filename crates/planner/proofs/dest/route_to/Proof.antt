@@ -1,0 +1,31 @@
+use Rattle.planner.proofs.dest.route_to.Statement.{statement}
+use Rattle.planner.proofs.dest.route_to.Tie as tie
+use Rattle.planner.proofs.dest.route_to.Reads as reads
+use Rattle.planner.proofs.dest.route_to.Lts as lts
+use Rattle.planner.proofs.dest.by_losses.Reads as by-losses-reads
+use Rattle.planner.proofs.dest.by_sets.Reads as by-sets-reads
+use Rattle.planner.proofs.dest.has.Reads as has-reads
+
+-- src/dest.rt:241:9
+has-requires : tie.Need-has-requires
+has-requires c κs = ?
+
+-- src/dest.rt:243:9
+by-losses-requires : tie.Need-by-losses-requires
+by-losses-requires c κs = ?
+
+-- src/dest.rt:243:9
+returns : tie.Need-returns
+returns c = ?
+
+-- src/dest.rt:259:5
+by-sets-requires : tie.Need-by-sets-requires
+by-sets-requires c κs = ?
+
+-- src/dest.rt:220:1
+returns-2 : tie.Need-returns-2
+returns-2 c = ?
+
+pub route-to-spec : {M : Type 1} → statement M
+route-to-spec =
+    tie.close (tie.spec has-requires by-losses-requires returns by-sets-requires returns-2)

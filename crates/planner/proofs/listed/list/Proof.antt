@@ -1,0 +1,92 @@
+use Rattle.planner.proofs.listed.list.Statement.{statement}
+use Rattle.planner.proofs.listed.list.Tie as tie
+use Rattle.planner.proofs.listed.list.Reads as reads
+use Rattle.planner.proofs.listed.list.Lts as lts
+use Rattle.planner.proofs.dest.outcome_to.Reads as outcome-to-reads
+use Rattle.planner.proofs.outside.next_outside.Reads as next-outside-reads
+use Rattle.routes.proofs.kinds.entry_for.Reads as entry-for-reads
+
+abbrev Inv-loop : tie.InvT-loop
+Inv-loop plan shape words count dead ta td work source a fa fd entries₀ listed₀ at₀ entries listed at =
+    ?
+
+abbrev μ-loop : tie.MeasureT-loop
+μ-loop plan shape words count dead ta td work source a fa fd entries₀ listed₀ at₀ entries listed at =
+    ?
+
+-- src/listed.rt:47:9
+next-outside-requires : tie.Need-next-outside-requires Inv-loop μ-loop
+next-outside-requires c κs = ?
+
+-- src/listed.rt:57:5
+loop-holds : tie.Need-loop-holds Inv-loop μ-loop
+loop-holds c = ?
+
+-- src/listed.rt:64:13
+outcome-to-requires : tie.Need-outcome-to-requires Inv-loop μ-loop
+outcome-to-requires c κs = ?
+
+-- src/listed.rt:80:27
+entry-for-requires : tie.Need-entry-for-requires Inv-loop μ-loop
+entry-for-requires c κs = ?
+
+-- src/listed.rt:80:9
+mul-entries : tie.Need-mul-entries Inv-loop μ-loop
+mul-entries c = ?
+
+-- src/listed.rt:80:9
+array-set-from-entries : tie.Need-array-set-from-entries Inv-loop μ-loop
+array-set-from-entries c = ?
+
+-- src/listed.rt:81:18
+add-listed : tie.Need-add-listed Inv-loop μ-loop
+add-listed c = ?
+
+-- src/listed.rt:86:23
+add-t27 : tie.Need-add-t27 Inv-loop μ-loop
+add-t27 c = ?
+
+-- src/listed.rt:87:20
+add-t28 : tie.Need-add-t28 Inv-loop μ-loop
+add-t28 c = ?
+
+-- src/listed.rt:82:9
+next-outside-requires-2 : tie.Need-next-outside-requires-2 Inv-loop μ-loop
+next-outside-requires-2 c κs = ?
+
+-- src/listed.rt:57:5
+loop-less : tie.Need-loop-less Inv-loop μ-loop
+loop-less c = ?
+
+-- src/listed.rt:57:5
+loop-again : tie.Need-loop-again Inv-loop μ-loop
+loop-again c = ?
+
+-- src/listed.rt:93:23
+cast-entry-count : tie.Need-cast-entry-count Inv-loop μ-loop
+cast-entry-count c = ?
+
+-- src/listed.rt:24:1
+returns : tie.Need-returns Inv-loop μ-loop
+returns c = ?
+
+pub list-spec : {M : Type 1} → statement M
+list-spec =
+    tie.close
+    (tie.spec
+    Inv-loop
+    μ-loop
+    next-outside-requires
+    loop-holds
+    outcome-to-requires
+    entry-for-requires
+    mul-entries
+    array-set-from-entries
+    add-listed
+    add-t27
+    add-t28
+    next-outside-requires-2
+    loop-less
+    loop-again
+    cast-entry-count
+    returns)

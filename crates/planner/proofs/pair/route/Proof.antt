@@ -1,0 +1,81 @@
+use Rattle.planner.proofs.pair.route.Statement.{statement}
+use Rattle.planner.proofs.pair.route.Tie as tie
+use Rattle.planner.proofs.pair.route.Reads as reads
+use Rattle.planner.proofs.pair.route.Lts as lts
+use Rattle.machine.proofs.hop.distance_at.Reads as distance-at-reads
+use Rattle.masks.proofs.table.ends.Reads as ends-reads
+use Rattle.planner.proofs.dest.far_by_masks.Reads as far-by-masks-reads
+use Rattle.planner.proofs.dest.near_by_masks.Reads as near-by-masks-reads
+use Rattle.planner.proofs.near.is_given.Reads as is-given-reads
+use Rattle.planner.proofs.sets_of.from_set.Reads as from-set-reads
+use Rattle.sets.proofs.leg.leg_clear.Reads as leg-clear-reads
+
+-- src/pair.rt:62:8
+leg-clear-requires : tie.Need-leg-clear-requires
+leg-clear-requires c κs = ?
+
+-- src/pair.rt:63:62
+distance-at-requires : tie.Need-distance-at-requires
+distance-at-requires c κs = ?
+
+-- src/pair.rt:63:9
+returns : tie.Need-returns
+returns c = ?
+
+-- src/pair.rt:65:14
+from-set-requires : tie.Need-from-set-requires
+from-set-requires c κs = ?
+
+-- src/pair.rt:66:17
+ends-requires : tie.Need-ends-requires
+ends-requires c κs = ?
+
+-- src/pair.rt:67:9
+leg-clear-requires-2 : tie.Need-leg-clear-requires-2
+leg-clear-requires-2 c κs = ?
+
+-- src/pair.rt:68:9
+near-by-masks-requires : tie.Need-near-by-masks-requires
+near-by-masks-requires c κs = ?
+
+-- src/pair.rt:81:8
+is-given-requires : tie.Need-is-given-requires
+is-given-requires c κs = ?
+
+-- src/pair.rt:82:9
+returns-2 : tie.Need-returns-2
+returns-2 c = ?
+
+-- src/pair.rt:84:14
+from-set-requires-2 : tie.Need-from-set-requires-2
+from-set-requires-2 c κs = ?
+
+-- src/pair.rt:85:18
+ends-requires-2 : tie.Need-ends-requires-2
+ends-requires-2 c κs = ?
+
+-- src/pair.rt:86:5
+far-by-masks-requires : tie.Need-far-by-masks-requires
+far-by-masks-requires c κs = ?
+
+-- src/pair.rt:47:1
+returns-3 : tie.Need-returns-3
+returns-3 c = ?
+
+pub route-spec : {M : Type 1} → statement M
+route-spec =
+    tie.close
+    (tie.spec
+    leg-clear-requires
+    distance-at-requires
+    returns
+    from-set-requires
+    ends-requires
+    leg-clear-requires-2
+    near-by-masks-requires
+    is-given-requires
+    returns-2
+    from-set-requires-2
+    ends-requires-2
+    far-by-masks-requires
+    returns-3)
