@@ -6,9 +6,13 @@ use mathlib.Core.Path.{_≡_, refl, sym, ap, _∙_}
 use mathlib.Core.Bool.{Bool, true, false, cond, not, _&&_, _||_}
 use mathlib.Core.List.{List}
 use lib.ListN.{length, getD}
+use lib.Bits.{bitAnd}
 use lib.Dec.{ltb, eqb}
 use borrow.Author.Tests.{lt-ltb, le-ltb, eq-eqb, ne-eqb}
+use Rattle.shape.specs.declared.shape.Coords.{Coords}
 use Rattle.rows.specs.Bits.{bit}
+use Rattle.rows.specs.Rows.{inProduct}
+use Rattle.rows.proofs.Bits.{bit-and}
 use Rattle.rows.specs.Product.{nodeAt, Less, Are, product}
 use Rattle.rows.proofs.Taking.{less-none, less-same}
 use Rattle.losses.specs.Loss.{lossKind, someBelow}
@@ -28,44 +32,59 @@ pub column-behind : (kind d own : ℕ) → own ≡ kindDim kind → (own ≡ d �
 unfolding column
 column-behind kind d own e q h = rw (ne-eqb (kindDim kind) d (λ w. q (e ∙ w)), le-ltb d (kindDim kind) (omega (arith, e)))
 
--- ---- one loss
-pub part-is :
-    (ends : List ℕ) (kind w x y z : ℕ) (old new : List ℕ) →
-    x ≡ maskIn ends kind 0 (w % 16) → y ≡ maskIn ends kind 1 (w / 16 % 16) → z ≡ maskIn ends kind 2 (w / 256 % 16) → Less (product x y z) old new →
-    Less (λ r x. partIn ends kind w (nodeAt r x)) old new
-unfolding partIn product
-part-is ends kind w x y z old new ex ey ez p = less-same _ _ old new p (λ r b l m. rw (ex, ey, ez))
+-- ---- one loss, within a product
+module _ (ends : List ℕ) (w bx by bz : ℕ) where
+  abbrev pub LessIn : (Coords → Bool) → List ℕ → List ℕ → Type 0
+  LessIn f old new = Less (λ r x. f (nodeAt r x) && product bx by bz r x) old new
 
--- What is taken away one after the other is taken away together.
-less-then : (f g : ℕ → ℕ → Bool) (old mid new : List ℕ) → Less f old mid → Less g mid new → Less (λ r x. f r x || g r x) old new
-less-then f g old mid new p q = record {
-  long = q .long ∙ p .long;
-  bits = λ w r x l m. q .bits (p .long ∙ w) r x l m ∙ rw (p .bits w r x l m) (go (bit (getD old r 0) x) (f r x) (g r x));
-}
-  where
-    go : (v a b : Bool) → ((v && not a) && not b) ≡ (v && not (a || b))
-    go true true b = refl
-    go true false b = refl
-    go false a b = refl
+  pub part-is :
+      (kind a b c x y z : ℕ) (old new : List ℕ) → a ≡ maskIn ends kind 0 (w % 16) → b ≡ maskIn ends kind 1 (w / 16 % 16) → c ≡ maskIn ends kind 2 (w / 256 % 16) →
+      x ≡ bitAnd a bx → y ≡ bitAnd b by → z ≡ bitAnd c bz → Less (product x y z) old new → LessIn (partIn ends kind w) old new
+  unfolding partIn product inProduct
+  part-is kind a b c x y z old new ea eb ec ex ey ez p = less-same _ _ old new p (λ r i l m.
+      rw (ex, ey, ez, ea, eb, ec, bit-and (maskIn ends kind 0 (w % 16)) bx i, bit-and (maskIn ends kind 1 (w / 16 % 16)) by (r % 16), bit-and (maskIn ends kind 2 (w / 256 % 16)) bz (r / 16))
+      (go (bit (maskIn ends kind 0 (w % 16)) i) (bit bx i) (bit (maskIn ends kind 1 (w / 16 % 16)) (r % 16)) (bit by (r % 16)) (bit (maskIn ends kind 2 (w / 256 % 16)) (r / 16)) (bit bz (r / 16))))
+    where
+      go : (a p b q c r : Bool) → ((a && p) && ((b && q) && (c && r))) ≡ ((a && (b && c)) && (p && (q && r)))
+      go true true true true c r = refl
+      go true true true false true r = refl
+      go true true true false false r = refl
+      go true true false q c r = refl
+      go true false true q true r = refl
+      go true false true q false r = refl
+      go true false false q c r = refl
+      go false p b q c r = refl
 
-pub dead-is :
-    (ends : List ℕ) (w : ℕ) (one two three four : List ℕ) →
-    Less (λ r x. partIn ends 9 w (nodeAt r x)) one two → Less (λ r x. partIn ends 10 w (nodeAt r x)) two three → Less (λ r x. partIn ends 11 w (nodeAt r x)) three four →
-    Less (λ r x. deadIn ends w (nodeAt r x)) one four
-unfolding deadIn
-dead-is ends w one two three four p q t = less-then _ _ one two four p (less-then _ _ two three four q t)
+  -- What is taken away one after the other is taken away together.
+  less-then : (f g : Coords → Bool) (old mid new : List ℕ) → LessIn f old mid → LessIn g mid new → LessIn (λ c. f c || g c) old new
+  less-then f g old mid new p q = record {
+    long = q .long ∙ p .long;
+    bits = λ h r x l m. q .bits (p .long ∙ h) r x l m ∙ rw (p .bits h r x l m) (go (bit (getD old r 0) x) (f (nodeAt r x)) (g (nodeAt r x)) (product bx by bz r x));
+  }
+    where
+      go : (v a b p : Bool) → ((v && not (a && p)) && not (b && p)) ≡ (v && not ((a || b) && p))
+      go true true true true = refl
+      go true true true false = refl
+      go true true false true = refl
+      go true true false false = refl
+      go true false b p = refl
+      go false a b p = refl
 
-pub loss-part : (ends : List ℕ) (w : ℕ) (old new : List ℕ) → w / 4096 < 9 → Less (λ r x. partIn ends (w / 4096) w (nodeAt r x)) old new → Less (λ r x. lossIn ends w (nodeAt r x)) old new
-unfolding lossIn
-loss-part ends w old new h p = less-same _ _ old new p (λ r x l m. rw (lt-ltb (w / 4096) 9 h))
+  pub dead-is : (one two three four : List ℕ) → LessIn (partIn ends 9 w) one two → LessIn (partIn ends 10 w) two three → LessIn (partIn ends 11 w) three four → LessIn (deadIn ends w) one four
+  unfolding deadIn
+  dead-is one two three four p q t = less-then (partIn ends 9 w) (λ c. partIn ends 10 w c || partIn ends 11 w c) one two four p (less-then (partIn ends 10 w) (partIn ends 11 w) two three four q t)
 
-pub loss-dead : (ends : List ℕ) (w : ℕ) (old new : List ℕ) → 9 ≤ w / 4096 → w / 4096 ≡ 9 → Less (λ r x. deadIn ends w (nodeAt r x)) old new → Less (λ r x. lossIn ends w (nodeAt r x)) old new
-unfolding lossIn
-loss-dead ends w old new h e p = less-same _ _ old new p (λ r x l m. rw (le-ltb (w / 4096) 9 h, eq-eqb (w / 4096) 9 e))
+  pub loss-part : (old new : List ℕ) → w / 4096 < 9 → LessIn (partIn ends (w / 4096) w) old new → LessIn (lossIn ends w) old new
+  unfolding lossIn
+  loss-part old new h p = less-same _ _ old new p (λ r x l m. rw (lt-ltb (w / 4096) 9 h))
 
-pub loss-none : (ends : List ℕ) (w : ℕ) (old : List ℕ) → 9 ≤ w / 4096 → (w / 4096 ≡ 9 → ⊥) → Less (λ r x. lossIn ends w (nodeAt r x)) old old
-unfolding lossIn
-loss-none ends w old h ne = less-none _ old (λ r x l m. rw (le-ltb (w / 4096) 9 h, ne-eqb (w / 4096) 9 ne))
+  pub loss-dead : (old new : List ℕ) → 9 ≤ w / 4096 → w / 4096 ≡ 9 → LessIn (deadIn ends w) old new → LessIn (lossIn ends w) old new
+  unfolding lossIn
+  loss-dead old new h e p = less-same _ _ old new p (λ r x l m. rw (le-ltb (w / 4096) 9 h, eq-eqb (w / 4096) 9 e))
+
+  pub loss-none : (old : List ℕ) → 9 ≤ w / 4096 → (w / 4096 ≡ 9 → ⊥) → LessIn (lossIn ends w) old old
+  unfolding lossIn
+  loss-none old h ne = less-none _ old (λ r x l m. rw (le-ltb (w / 4096) 9 h, ne-eqb (w / 4096) 9 ne))
 
 -- ---- one loss after the other
 pub record Clearing (bx by bz : ℕ) (ends losses rows : List ℕ) (n i : ℕ) : Type 0 where
@@ -87,7 +106,7 @@ clear-begin bx by bz ends losses rows count n e p = record {
 
 pub clear-turn :
     (bx by bz : ℕ) (ends losses rows next : List ℕ) (n i w : ℕ) → Clearing bx by bz ends losses rows n i → i < n → w ≡ getD losses i 0 →
-    Less (λ r x. lossIn ends w (nodeAt r x)) rows next → Clearing bx by bz ends losses next n (i + 1)
+    Less (λ r x. lossIn ends w (nodeAt r x) && product bx by bz r x) rows next → Clearing bx by bz ends losses next n (i + 1)
 unfolding someIn someBelow
 clear-turn bx by bz ends losses rows next n i w p h e q = record {
   most = omega arith;
@@ -98,7 +117,7 @@ clear-turn bx by bz ends losses rows next n i w p h e q = record {
   };
 }
   where
-    go : (v a b : Bool) → ((v && not b) && not a) ≡ (v && not (a || b))
+    go : (v a b : Bool) → ((v && not b) && not (a && v)) ≡ (v && not (a || b))
     go true true true = refl
     go true true false = refl
     go true false true = refl

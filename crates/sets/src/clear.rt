@@ -5,7 +5,8 @@ use rows::product::less;
 use rows::product::product;
 ghost use mathlib.Core.Path.{_≡_};
 ghost use Prim.Native.Nat.{_≤_, _<_};
-ghost use Rattle.rows.specs.Product.{nodeAt, Less, Are};
+ghost use mathlib.Core.Bool.{_&&_};
+ghost use Rattle.rows.specs.Product.{nodeAt, Less, Are, product};
 ghost use Rattle.sets.specs.Part.{maskIn, partIn, deadIn, lossIn};
 ghost use Rattle.sets.specs.Clear.{clearIn};
 
@@ -17,33 +18,34 @@ fn mask_in(ends: &[u16; 288], kind: u16, d: u16, c: u16) -> u16
     ends[i as usize]
 }
 
-fn less_part(rows: &mut [u16; 256], ends: &[u16; 288], kind: u16, w: u16)
-    ensures { λ _. ⌜ Less (λ r x. partIn (now (ends .entry)) kind w (nodeAt r x)) (now (rows .entry)) (now (rows .exit)) ⌝ }
+// What is lost of this kind, within the product of the places in bx, by and bz.
+fn less_part(rows: &mut [u16; 256], ends: &[u16; 288], kind: u16, w: u16, bx: u16, by: u16, bz: u16)
+    ensures { λ _. ⌜ Less (λ r x. partIn (now (ends .entry)) kind w (nodeAt r x) && product bx by bz r x) (now (rows .entry)) (now (rows .exit)) ⌝ }
 {
-    let x = mask_in(ends, kind, 0, w % 16);
-    let y = mask_in(ends, kind, 1, w / 16 % 16);
-    let z = mask_in(ends, kind, 2, w / 256 % 16);
+    let x = mask_in(ends, kind, 0, w % 16) & bx;
+    let y = mask_in(ends, kind, 1, w / 16 % 16) & by;
+    let z = mask_in(ends, kind, 2, w / 256 % 16) & bz;
     less(rows, x, y, z);
 }
 
-fn less_dead(rows: &mut [u16; 256], ends: &[u16; 288], w: u16)
-    ensures { λ _. ⌜ Less (λ r x. deadIn (now (ends .entry)) w (nodeAt r x)) (now (rows .entry)) (now (rows .exit)) ⌝ }
+fn less_dead(rows: &mut [u16; 256], ends: &[u16; 288], w: u16, bx: u16, by: u16, bz: u16)
+    ensures { λ _. ⌜ Less (λ r x. deadIn (now (ends .entry)) w (nodeAt r x) && product bx by bz r x) (now (rows .entry)) (now (rows .exit)) ⌝ }
 {
-    less_part(rows, ends, 9, w);
-    less_part(rows, ends, 10, w);
-    less_part(rows, ends, 11, w);
+    less_part(rows, ends, 9, w, bx, by, bz);
+    less_part(rows, ends, 10, w, bx, by, bz);
+    less_part(rows, ends, 11, w, bx, by, bz);
 }
 
-fn less_loss(rows: &mut [u16; 256], ends: &[u16; 288], w: u16)
-    ensures { λ _. ⌜ Less (λ r x. lossIn (now (ends .entry)) w (nodeAt r x)) (now (rows .entry)) (now (rows .exit)) ⌝ }
+fn less_loss(rows: &mut [u16; 256], ends: &[u16; 288], w: u16, bx: u16, by: u16, bz: u16)
+    ensures { λ _. ⌜ Less (λ r x. lossIn (now (ends .entry)) w (nodeAt r x) && product bx by bz r x) (now (rows .entry)) (now (rows .exit)) ⌝ }
 {
     let kind = w / 4096;
     if kind < 9 {
-        less_part(rows, ends, kind, w);
+        less_part(rows, ends, kind, w, bx, by, bz);
         return;
     }
     if kind == 9 {
-        less_dead(rows, ends, w);
+        less_dead(rows, ends, w, bx, by, bz);
     }
 }
 
@@ -62,7 +64,7 @@ pub fn clear_in(
     let n = clipped(count);
     let mut i: usize = 0;
     while i < n {
-        less_loss(&mut rows, ends, losses[i]);
+        less_loss(&mut rows, ends, losses[i], bx, by, bz);
         i = i + 1;
     }
     rows

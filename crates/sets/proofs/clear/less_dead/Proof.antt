@@ -20,7 +20,7 @@ less-part-requires-3 c κs = search needs
 
 -- src/clear.rt:28:1
 returns : tie.Need-returns
-returns c = dead-is _ _ _ _ _ _ (c .before .before .before .before .less-part .ensures) (c .before .before .less-part2 .ensures) (c .less-part3 .ensures)
+returns c = dead-is _ _ _ _ _ _ _ _ _ (c .before .before .before .before .less-part .ensures) (c .before .before .less-part2 .ensures) (c .less-part3 .ensures)
 
 pub less-dead-spec : {M : Type 1} → statement M
 less-dead-spec =

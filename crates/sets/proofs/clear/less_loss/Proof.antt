@@ -14,7 +14,7 @@ less-part-requires c κs = search needs
 
 -- src/clear.rt:42:9
 returns : tie.Need-returns
-returns c = loss-part _ _ _ _ (c .before .before .if1 .taken) (c .less-part .ensures)
+returns c = loss-part _ _ _ _ _ _ _ (c .before .before .if1 .taken) (c .less-part .ensures)
 
 -- src/clear.rt:45:9
 less-dead-requires : tie.Need-less-dead-requires
@@ -22,11 +22,11 @@ less-dead-requires c κs = search needs
 
 -- src/clear.rt:36:1
 returns-2 : tie.Need-returns-2
-returns-2 c = loss-dead _ _ _ _ (c .before .before .before .if1 .left) (c .before .before .if2 .taken) (c .less-dead .ensures)
+returns-2 c = loss-dead _ _ _ _ _ _ _ (c .before .before .before .if1 .left) (c .before .before .if2 .taken) (c .less-dead .ensures)
 
 -- src/clear.rt:36:1
 returns-3 : tie.Need-returns-3
-returns-3 c = loss-none _ _ _ (c .before .if1 .left) (c .if2 .left)
+returns-3 c = loss-none _ _ _ _ _ _ (c .before .if1 .left) (c .if2 .left)
 
 pub less-loss-spec : {M : Type 1} → statement M
 less-loss-spec =

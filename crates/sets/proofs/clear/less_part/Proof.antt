@@ -1,3 +1,4 @@
+use mathlib.Core.Path.{refl}
 use Rattle.sets.proofs.Taking.{part-is}
 use borrow.Author.Needs.{needs}
 use Rattle.sets.proofs.clear.less_part.Statement.{statement}
@@ -25,7 +26,7 @@ less-requires c κs = search needs
 
 -- src/clear.rt:19:1
 returns : tie.Need-returns
-returns c = part-is _ _ _ _ _ _ _ _ (c .before .before .before .before .mask-in .ensures) (c .before .before .before .mask-in2 .ensures) (c .before .before .mask-in3 .ensures) (c .less .ensures)
+returns c = part-is _ _ _ _ _ _ _ _ _ _ _ _ _ _ (c .before .before .before .before .mask-in .ensures) (c .before .before .before .mask-in2 .ensures) (c .before .before .mask-in3 .ensures) refl refl refl (c .less .ensures)
 
 pub less-part-spec : {M : Type 1} → statement M
 less-part-spec =
