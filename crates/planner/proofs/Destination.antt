@@ -16,6 +16,7 @@ use Rattle.shape.specs.declared.shape.Dim.{Dim}
 use Rattle.shape.specs.declared.shape.Dim.the-variants.{X, Y, Z}
 use Rattle.shape.specs.Shape.{shapeError, extentOf, wrappedIn}
 use Rattle.shape.proofs.Shapes.{sound}
+use Rattle.machine.specs.declared.leg.Mode.{Mode}
 use Rattle.machine.specs.declared.leg.Mode.the-variants.{Adaptive, Deterministic}
 use Rattle.machine.specs.Number.{nodeCount, coordsOf, Inside}
 use Rattle.machine.specs.Hop.{distance, along}
@@ -41,7 +42,7 @@ use Rattle.rows.specs.Product.{Are}
 use Rattle.sets.specs.Clear.{clearIn}
 use Rattle.masks.specs.declared.span.Box.{Box}
 use Rattle.masks.specs.Span.{boxOf}
-use Rattle.masks.specs.Masks.{Ended, Masked}
+use Rattle.masks.specs.Masks.{gatherAt, Ended, Masked}
 use Rattle.masks.proofs.Spans.{box-inside}
 use Rattle.masks.proofs.Tables.{gathered}
 use Rattle.planner.specs.Known.{isClear, OfPlan, IsAt, FromSet, ToBetween, BothTo, IsBox, routeTold, isGiven, Near, Nearing, Faring, Ready, BySets, ByLosses}
@@ -95,6 +96,9 @@ straight-is p fd S D t g to b e = e ∙ ap (inRows fd 0) (to .at) ∙ g D (to .n
 pub within-box : (p : List ℕ) (s : Shape) (words : List ℕ) (count S D : ℕ) (t : Coords) (bx by bz : ℕ) (masks rows : List ℕ) →
     OfPlan p s words count → IsAt p D t → IsBox p S D bx by bz → Ended Adaptive false s t masks → Are (clearIn bx by bz masks words count) rows → ToBetween p Adaptive S D rows 0
 within-box p s words count S D t bx by bz masks rows k to b e r v l w = to-within p s words count k D t to Adaptive masks rows bx by bz e r v l (b v l .1 w)
+
+pub gathered-at : (p : List ℕ) (s : Shape) (D : ℕ) (t : Coords) (table masks : List ℕ) → planError large p ≡ 0 → IsAt p D t → (m : Mode) → Masked m false s table → ((i : ℕ) → i < 288 → getD masks i 0 ≡ gatherAt table t i) → Ended m false s t masks
+gathered-at p s D t table masks h to m full g = let k = small-at p D t h to in gathered m false s table masks t full (k .0) (k .1) (k .2) g
 
 -- ---- what the steps rest on
 pub nearing :

@@ -53,18 +53,21 @@ module _ (p : List ℕ) (s : Shape) (words : List ℕ) (count : ℕ) (k : OfPlan
   ok : shapeError (shapeOf p) ≡ 0
   ok = shape-ok p (k .plan)
 
+  here : Inside (shapeOf p) c
+  here = rw (a .at) (inside (shapeOf p) ok n (a .node))
+
   few : count ≤ 256
   few = k .losses .few
 
   pub from-known : Ended m true s c ends → Are (clearIn 65535 65535 65535 ends words count) rows → FromSet p m n rows
   from-known e r v l =
-      clear-in m true (shapeOf p) ok c 65535 65535 65535 ends words rows count few (rw (k .shape) at e) r v l (in-all (shapeOf p) ok (coordsOf (shapeOf p) v) (inside (shapeOf p) ok v l))
+      clear-in m true (shapeOf p) ok c here 65535 65535 65535 ends words rows count few (rw (k .shape) at e) r v l (in-all (shapeOf p) ok (coordsOf (shapeOf p) v) (inside (shapeOf p) ok v l))
       ∙ ap (λ (t : Coords). not (onLeg rule m (shapeOf p) words count t (coordsOf (shapeOf p) v))) (a .at)
       ∙ sym (clear-is p (k .plan) words count (k .losses) n v (a .node) l m)
 
   pub to-known : Ended m false s c ends → Are (clearIn 65535 65535 65535 ends words count) rows → ToSet p m n rows 0
   to-known e r v l =
-      clear-in m false (shapeOf p) ok c 65535 65535 65535 ends words rows count few (rw (k .shape) at e) r v l (in-all (shapeOf p) ok (coordsOf (shapeOf p) v) (inside (shapeOf p) ok v l))
+      clear-in m false (shapeOf p) ok c here 65535 65535 65535 ends words rows count few (rw (k .shape) at e) r v l (in-all (shapeOf p) ok (coordsOf (shapeOf p) v) (inside (shapeOf p) ok v l))
       ∙ ap (λ (t : Coords). not (onLeg rule m (shapeOf p) words count (coordsOf (shapeOf p) v) t)) (a .at)
       ∙ sym (clear-is p (k .plan) words count (k .losses) v n l (a .node) m)
 
@@ -73,7 +76,7 @@ module _ (p : List ℕ) (s : Shape) (words : List ℕ) (count : ℕ) (k : OfPlan
       (bx by bz : ℕ) → Ended m false s c ends → Are (clearIn bx by bz ends words count) rows → (v : ℕ) → v < nodeCount (shapeOf p) → inProduct bx by bz (coordsOf (shapeOf p) v) ≡ true →
       inSet (shapeOf p) rows 0 v ≡ isClear p m v n
   to-within bx by bz e r v l i =
-      clear-in m false (shapeOf p) ok c bx by bz ends words rows count few (rw (k .shape) at e) r v l i
+      clear-in m false (shapeOf p) ok c here bx by bz ends words rows count few (rw (k .shape) at e) r v l i
       ∙ ap (λ (t : Coords). not (onLeg rule m (shapeOf p) words count (coordsOf (shapeOf p) v) t)) (a .at)
       ∙ sym (clear-is p (k .plan) words count (k .losses) v n l (a .node) m)
 

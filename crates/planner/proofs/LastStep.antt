@@ -59,7 +59,6 @@ module _ (p : List ℕ) (s : Shape) (S D : ℕ) (a t : Coords) (fa fd to : List 
         ← distance-at (shapeOf p) S v,
         ← distance-at (shapeOf p) v D,
       )
-      (same-number _ v _ _ _ _)
 
   count-is : nodeCount s ≡ nodeCount (shapeOf p)
   count-is = ap nodeCount (g .shape)

@@ -1,9 +1,10 @@
 -- Writing the sheet of a source: its checks, the entries one by one, and the sheet.
-use Prim.Native.Nat.{ℕ, zero, suc, _+_, _-_, _≤_, _<_}
+use Prim.Native.Nat.{ℕ, zero, suc, _+_, _-_, _*_, _≤_, _<_}
 use native.Mathlib.Omega.{arith}
 use native.Mathlib.Numerals.{add-one}
 use native.Mathlib.Nat.{mul-zero, mul-assoc}
 use mathlib.Core.Path.{_≡_, refl, sym, ap, _∙_}
+use mathlib.Core.Logic.{inl}
 use mathlib.Core.Bool.{Bool, true, false, cond, not, true≢false}
 use mathlib.Core.List.{List, [], _∷_, _++_}
 use lib.ListN.{length, getD, set, length-set, replicate}
@@ -27,12 +28,12 @@ use Rattle.machine.specs.declared.leg.Mode.the-variants.{Adaptive, Deterministi
 use Rattle.machine.specs.Number.{nodeCount, numberOf, coordsOf, Inside}
 use Rattle.machine.proofs.Numbers.{coords-number, number-below}
 use Rattle.rows.specs.Rows.{inSet}
-use Rattle.machine.specs.Node.{isNode, countAnswer}
+use Rattle.machine.specs.Node.{isNode, coordsAnswer}
 use Rattle.machine.proofs.Nodes.{node-of}
 use Rattle.plan.specs.Layout.{shapeOf, faultsOf}
 use Rattle.plan.specs.Checks.{large, planError}
 use Rattle.plan.specs.Reading.{isPlan}
-use Rattle.dead.specs.Dead.{deadNode, bitOf, maskAnswer, nodeAnswer}
+use Rattle.dead.specs.Dead.{deadNode, bitOf, nodeAnswer}
 use Rattle.dead.proofs.Table.{is-node}
 use Rattle.packet.specs.declared.route.Route.{Route}
 use Rattle.choice.specs.declared.outcome.Outcome.{Outcome}
@@ -53,7 +54,9 @@ use Rattle.route_value.proofs.Writings.{entries-count}
 use Rattle.route_value.proofs.Putting.{few-routes}
 use Rattle.planner.specs.declared.outside.At.{At}
 use Rattle.planner.specs.Outside.{placeOf, Stands, NextOutside}
-use Rattle.planner.specs.Known.{isClear, IsAt, Ready}
+use Rattle.losses.specs.OfPlan.{AreLosses}
+use Rattle.masks.specs.Masks.{Masked}
+use Rattle.planner.specs.Known.{isClear, IsAt, Prepared, Ready}
 use Rattle.planner.specs.Sheet.{sourceError, lists, entriesFrom, plannedSheet}
 use Rattle.planner.proofs.Knowing.{shape-ok}
 use Rattle.planner.proofs.FirstSteps.{nodes-few}
@@ -264,6 +267,9 @@ module _ (p : List ℕ) (s : Shape) (words : List ℕ) (count : ℕ) (dead ta td
       pub unclear : isClear p Adaptive S (at .node) ≡ false
       unclear = sym (ready .adaptive (at .node) (is-at (placeOf at) refl .node)) ∙ rw (← same) (g .out l .1)
 
+      pub roomy : listed < 4095
+      roomy = entered p S source entries listed (at .node) (g .listing) (is-at (placeOf at) refl .node) unclear _ _ refl refl .0
+
       pub places : (at .x < 16) × (at .node < 4096)
       places = (omega (arith, g .out l .0, sound s ok X .high), omega (arith, is-at (placeOf at) refl .node, nodes-few (shapeOf p) (shape-ok p accepted)))
 
@@ -291,6 +297,23 @@ module _ (p : List ℕ) (s : Shape) (words : List ℕ) (count : ℕ) (dead ta td
 
   pub begun : (r : At) → NextOutside s fa (record { node = 0; x = 0; y = 0; z = 0 }) r → Going p s words count dead ta td work S a fa fd (replicate 4095 noEntry) 0 r
   begun r next = found (replicate 4095 noEntry) 0 _ r starts next (begin p S)
+
+-- What is made of a plan for its sound source S, with no sets to its nodes.
+pub planned-known :
+    (p : List ℕ) (S : ℕ) (s : Shape) (words : List ℕ) (count : ℕ) (dead ta td : List ℕ) (a : Coords) → sourceError large p S ≡ 0 → s ≡ shapeOf p → AreLosses p words count →
+    ((n : ℕ) → getD dead n 0 ≡ bitOf (nodeAnswer large p n)) → Masked Adaptive false s ta → Masked Deterministic false s td → a ≡ coordsAnswer s S →
+    Prepared p s words count dead ta td [] × (IsAt p S a × (deadNode (faultsOf p) S ≡ false))
+planned-known p S s words count dead ta td a h es l nodes ma md c =
+    let k = source-of large p S h in (
+      record {
+        of-plan = record { plan = k .plan; shape = es; losses = l };
+        nodes = nodes;
+        adaptive = ma;
+        deterministic = md;
+        sets = inl refl;
+      },
+      (record { node = node-of (shapeOf p) S (k .node) .below; at = c ∙ rw (es, k .node) }, k .alive),
+    )
 
 -- ---- the sheet
 pub refused-source : (p : List ℕ) (S e : ℕ) (o : List ℕ) → e ≡ sourceError large p S → (e ≡ 0 → ⊥) →

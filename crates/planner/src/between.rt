@@ -2,7 +2,9 @@
 use sets::clear::clear_in;
 use shape::Coords;
 use shape::Shape;
+ghost use mathlib.Core.Path.{_≡_};
 ghost use mathlib.Core.Bool.{false};
+ghost use lib.ListN.{length};
 ghost use Rattle.machine.specs.declared.leg.Mode.the-variants.{Adaptive};
 ghost use Rattle.masks.specs.Masks.{Ended};
 ghost use Rattle.planner.specs.Known.{OfPlan, IsAt, IsBox, ToBetween};
@@ -26,6 +28,7 @@ pub fn near_set(
     requires { ⌜ IsBox (now plan) source dest bx by bz ⌝ }
     requires { ⌜ Ended Adaptive false shape t (now masks) ⌝ }
     ensures { λ r. ⌜ ToBetween (now (plan .entry)) Adaptive source dest r 0 ⌝ }
+    ensures { λ r. ⌜ length r ≡ 256 ⌝ }
 {
     clear_in(bx, by, bz, masks, words, count)
 }

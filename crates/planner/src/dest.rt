@@ -21,7 +21,7 @@ ghost use Rattle.choice.specs.Outcome.{told};
 ghost use Rattle.choice.specs.Pair.{pair};
 ghost use Rattle.rows.specs.Rows.{inRows};
 ghost use Rattle.masks.specs.Masks.{Ended};
-ghost use Rattle.planner.specs.Known.{isClear, OfPlan, IsAt, FromSet, BySets, ByLosses, Ready, Near, routeTold};
+ghost use Rattle.planner.specs.Known.{isClear, OfPlan, IsAt, FromSet, BySets, ByLosses, Faring, Ready, Near, routeTold};
 
 // By the masks of the destination: the first steps.
 pub fn near_by_masks(
@@ -76,6 +76,24 @@ pub fn near_by_masks(
     )
 }
 
+// The last step with both sets in a run of their own.
+fn far_by_run(
+    plan: &[u8],
+    shape: Shape,
+    source: u16,
+    dest: u16,
+    a: Coords,
+    t: Coords,
+    fa: &[u16; 256],
+    fd: &[u16; 256],
+    run: &[u16; 512],
+) -> Outcome
+    requires { ⌜ Faring (now plan) shape source dest a t (now fa) (now fd) (now run) 0 ⌝ }
+    ensures { λ r. ⌜ r ≡ routeTold (now (plan .entry)) source dest ⌝ }
+{
+    far_outcome(plan, shape, source, dest, a, t, fa, fd, run, 0)
+}
+
 // By them: the last step.
 pub fn far_by_masks(
     plan: &[u8],
@@ -114,7 +132,7 @@ pub fn far_by_masks(
         &mut run,
         0,
     );
-    far_outcome(plan, shape, source, dest, a, t, fa, fd, &run, 0)
+    far_by_run(plan, shape, source, dest, a, t, fa, fd, &run)
 }
 
 // By the sets to all nodes.

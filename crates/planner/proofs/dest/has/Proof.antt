@@ -1,3 +1,8 @@
+use Prim.Native.Nat.{_+_, _*_}
+use mathlib.Core.Path.{_≡_}
+use native.Mathlib.Omega.{arith}
+use Rattle.rows.specs.Bits.{bit}
+use Rattle.rows.specs.Rows.{inRows}
 use borrow.Author.Needs.{needs}
 use Rattle.planner.proofs.dest.has.Statement.{statement}
 use Rattle.planner.proofs.dest.has.Tie as tie
@@ -38,7 +43,8 @@ shr-result c = search needs
 
 -- src/dest.rt:211:1
 returns : tie.Need-returns
-returns c = ?
+unfolding inRows bit
+returns c = let z : 0 + (c .before .before .before .before .args .c .y + 16 * c .before .before .before .before .args .c .z) ≡ c .before .before .before .before .args .c .y + 16 * c .before .before .before .before .args .c .z = omega arith in rw z
 
 pub has-spec : {M : Type 1} → statement M
 has-spec =

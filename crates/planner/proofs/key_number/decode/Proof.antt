@@ -1,4 +1,5 @@
-use Rattle.planner.specs.KeyNumber.{detsPlace, viasPlace, unclear, decoded}
+use Rattle.search.specs.Number.{detsPlace, viasPlace, unclear}
+use Rattle.planner.specs.KeyNumber.{decoded}
 use Prim.Native.Nat.{_/_, _%_}
 use native.Mathlib.Omega.{arith}
 use borrow.Author.Tests.{le-leb, lt-leb, eq-eqb, ne-eqb}

@@ -1,3 +1,8 @@
+use Rattle.planner.proofs.Writing.{Going, ok, starts, begun, is-at, unclear, roomy, places, after, turn, few, done}
+use Prim.Native.Nat.{_-_}
+use mathlib.Core.Path.{refl}
+use native.Mathlib.Omega.{arith}
+use Rattle.route_value.specs.Writing.{routeEntries}
 use Rattle.planner.proofs.listed.list.Statement.{statement}
 use Rattle.planner.proofs.listed.list.Tie as tie
 use Rattle.planner.proofs.listed.list.Reads as reads
@@ -7,68 +12,67 @@ use Rattle.planner.proofs.outside.next_outside.Reads as next-outside-re
 use Rattle.routes.proofs.kinds.entry_for.Reads as entry-for-reads
 
 abbrev Inv-loop : tie.InvT-loop
-Inv-loop plan shape words count dead ta td work source a fa fd entries₀ listed₀ at₀ entries listed at =
-    ?
+Inv-loop plan shape words count dead ta td work source a fa fd entries₀ listed₀ at₀ entries listed at = Going plan shape words count dead ta td work source a fa fd entries listed at
 
 abbrev μ-loop : tie.MeasureT-loop
-μ-loop plan shape words count dead ta td work source a fa fd entries₀ listed₀ at₀ entries listed at =
-    ?
+μ-loop plan shape words count dead ta td work source a fa fd entries₀ listed₀ at₀ entries listed at = 4097 - at .node
 
 -- src/listed.rt:47:9
 next-outside-requires : tie.Need-next-outside-requires Inv-loop μ-loop
-next-outside-requires c κs = ?
+next-outside-requires c κs = (ok _ _ _ _ _ _ _ _ _ _ _ _ (c .before .before .pre), starts _ _ _ _ _ _ _ _ _ _ _ _ (c .before .before .pre))
 
 -- src/listed.rt:57:5
 loop-holds : tie.Need-loop-holds Inv-loop μ-loop
-loop-holds c = ?
+loop-holds c = begun _ _ _ _ _ _ _ _ _ _ _ _ (c .before .before .before .pre) _ (c .next-outside .ensures)
 
 -- src/listed.rt:64:13
 outcome-to-requires : tie.Need-outcome-to-requires Inv-loop μ-loop
-outcome-to-requires c κs = ?
+outcome-to-requires c κs = let inv = c .before .before .before .loop .inv in (inv .ready, (is-at _ _ _ _ _ _ _ _ _ _ _ _ (inv .ready) _ _ _ inv (c .if1 .taken) _ refl, unclear _ _ _ _ _ _ _ _ _ _ _ _ (inv .ready) _ _ _ inv (c .if1 .taken)))
 
 -- src/listed.rt:80:27
 entry-for-requires : tie.Need-entry-for-requires Inv-loop μ-loop
-entry-for-requires c κs = ?
+entry-for-requires c κs = tt
 
 -- src/listed.rt:80:9
 mul-entries : tie.Need-mul-entries Inv-loop μ-loop
-mul-entries c = ?
+mul-entries c = let r = (let inv = c .before .before .before .before .before .loop .inv in roomy _ _ _ _ _ _ _ _ _ _ _ _ (inv .ready) _ _ _ inv (c .before .before .if1 .taken)) in omega (arith, r)
 
 -- src/listed.rt:80:9
 array-set-from-entries : tie.Need-array-set-from-entries Inv-loop μ-loop
-array-set-from-entries c = ?
+array-set-from-entries c = let inv = c .before .before .before .before .before .loop .inv in roomy _ _ _ _ _ _ _ _ _ _ _ _ (inv .ready) _ _ _ inv (c .before .before .if1 .taken)
 
 -- src/listed.rt:81:18
 add-listed : tie.Need-add-listed Inv-loop μ-loop
-add-listed c = ?
+add-listed c = let r = (let inv = c .before .before .before .before .before .loop .inv in roomy _ _ _ _ _ _ _ _ _ _ _ _ (inv .ready) _ _ _ inv (c .before .before .if1 .taken)) in omega (arith, r)
 
 -- src/listed.rt:86:23
 add-t27 : tie.Need-add-t27 Inv-loop μ-loop
-add-t27 c = ?
+add-t27 c = let r = (let inv = c .before .before .before .before .before .loop .inv in places _ _ _ _ _ _ _ _ _ _ _ _ (inv .ready) _ _ _ inv (c .before .before .if1 .taken)) in omega (arith, r .1)
 
 -- src/listed.rt:87:20
 add-t28 : tie.Need-add-t28 Inv-loop μ-loop
-add-t28 c = ?
+add-t28 c = let r = (let inv = c .before .before .before .before .before .before .loop .inv in places _ _ _ _ _ _ _ _ _ _ _ _ (inv .ready) _ _ _ inv (c .before .before .before .if1 .taken)) in omega (arith, r .0)
 
 -- src/listed.rt:82:9
 next-outside-requires-2 : tie.Need-next-outside-requires-2 Inv-loop μ-loop
-next-outside-requires-2 c κs = ?
+next-outside-requires-2 c κs = let inv = c .before .before .before .before .before .before .loop .inv in (ok _ _ _ _ _ _ _ _ _ _ _ _ (inv .ready), after _ _ _ _ _ _ _ _ _ _ _ _ (inv .ready) _ _ _ inv (c .before .before .before .if1 .taken))
 
 -- src/listed.rt:57:5
 loop-less : tie.Need-loop-less Inv-loop μ-loop
-loop-less c = ?
+loop-less c = let r = (let inv = c .before .before .before .before .before .before .before .loop .inv in places _ _ _ _ _ _ _ _ _ _ _ _ (inv .ready) _ _ _ inv (c .before .before .before .before .if1 .taken)) in omega (arith, r .1, c .next-outside2 .ensures .onward)
 
 -- src/listed.rt:57:5
 loop-again : tie.Need-loop-again Inv-loop μ-loop
-loop-again c = ?
+loop-again c = let inv = c .before .before .before .before .before .before .before .loop .inv in turn _ _ _ _ _ _ _ _ _ _ _ _ (inv .ready) _ _ _ inv (c .before .before .before .before .if1 .taken) _ _ _ (c .before .before .before .outcome-to .ensures) (c .before .before .entry-for .ensures) (c .next-outside2 .ensures) .1
 
 -- src/listed.rt:93:23
 cast-entry-count : tie.Need-cast-entry-count Inv-loop μ-loop
-cast-entry-count c = ?
+cast-entry-count c = let inv = c .before .before .before .loop .inv in let r = few _ _ _ _ _ _ _ _ _ _ _ _ (inv .ready) _ _ _ inv in omega (arith, r .0)
 
 -- src/listed.rt:24:1
 returns : tie.Need-returns Inv-loop μ-loop
-returns c = ?
+unfolding routeEntries
+returns c = let inv = c .before .before .before .loop .inv in (refl, done _ _ _ _ _ _ _ _ _ _ _ _ (inv .ready) _ _ _ inv (c .if1 .left))
 
 pub list-spec : {M : Type 1} → statement M
 list-spec =

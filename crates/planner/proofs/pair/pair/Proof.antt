@@ -1,3 +1,5 @@
+use Rattle.planner.proofs.Pairs.{refused-pair, known, from-at, to-at, paired}
+use native.Mathlib.Omega.{arith}
 use Rattle.planner.proofs.pair.pair.Statement.{statement}
 use Rattle.planner.proofs.pair.pair.Tie as tie
 use Rattle.planner.proofs.pair.pair.Reads as reads
@@ -10,39 +12,39 @@ use Rattle.planner.proofs.pair.route.Reads as route-reads
 
 -- src/pair.rt:105:9
 pair-error-requires : tie.Need-pair-error-requires
-pair-error-requires c κs = ?
+pair-error-requires c κs = tt
 
 -- src/pair.rt:107:9
 returns : tie.Need-returns
-returns c = ?
+returns c = refused-pair _ _ _ _ (c .before .pair-error .ensures) (c .if1 .taken)
 
 -- src/pair.rt:109:9
 shape-in-requires : tie.Need-shape-in-requires
-shape-in-requires c κs = ?
+shape-in-requires c κs = tt
 
 -- src/pair.rt:110:9
 losses-requires : tie.Need-losses-requires
-losses-requires c κs = ?
+losses-requires c κs = tt
 
 -- src/pair.rt:112:17
 cast-count : tie.Need-cast-count
-cast-count c = ?
+cast-count c = omega arith
 
 -- src/pair.rt:120:9
 coords-requires : tie.Need-coords-requires
-coords-requires c κs = ?
+coords-requires c κs = tt
 
 -- src/pair.rt:121:9
 coords-requires-2 : tie.Need-coords-requires-2
-coords-requires-2 c κs = ?
+coords-requires-2 c κs = tt
 
 -- src/pair.rt:113:5
 route-requires : tie.Need-route-requires
-route-requires c κs = ?
+route-requires c κs = (known _ _ _ _ _ (c .before .before .before .before .before .before .shape-in .ensures) (c .before .before .before .before .before .before .before .before .pair-error .ensures) (c .before .before .before .before .before .before .before .if1 .left) _ _ (c .before .before .before .before .before .losses .ensures), (from-at _ _ _ _ _ (c .before .before .before .before .before .before .shape-in .ensures) (c .before .before .before .before .before .before .before .before .pair-error .ensures) (c .before .before .before .before .before .before .before .if1 .left) _ (c .before .coords .ensures), to-at _ _ _ _ _ (c .before .before .before .before .before .before .shape-in .ensures) (c .before .before .before .before .before .before .before .before .pair-error .ensures) (c .before .before .before .before .before .before .before .if1 .left) _ (c .coords2 .ensures)))
 
 -- src/pair.rt:102:1
 returns-2 : tie.Need-returns-2
-returns-2 c = ?
+returns-2 c = paired _ _ _ _ _ (c .before .before .before .before .before .before .before .shape-in .ensures) (c .before .before .before .before .before .before .before .before .before .pair-error .ensures) (c .before .before .before .before .before .before .before .before .if1 .left) _ (c .route .ensures)
 
 pub pair-spec : {M : Type 1} → statement M
 pair-spec =
