@@ -1,11 +1,10 @@
 -- One leg: each loss is tried, dimension by dimension.
 use Prim.Native.Nat.{ℕ, zero, suc, _+_, _/_, _%_, _≤_, _<_, min}
-use mathlib.Core.Bool.{Bool, true, false, cond, not, _&&_, _||_}
-use mathlib.Core.Path.{_≡_, refl, sym, ap, _∙_}
+use mathlib.Core.Bool.{Bool, true, false, not, _||_}
+use mathlib.Core.Path.{_≡_, refl, _∙_}
 use mathlib.Core.List.{List}
 use native.Mathlib.Omega.{arith}
 use native.Mathlib.Numerals.{add-one}
-use lib.Dec.{ltb, eqb}
 use lib.ListN.{getD}
 use borrow.Author.Tests.{lt-ltb, le-ltb, eq-eqb, ne-eqb}
 use Rattle.theory.proofs.Cases.{by-le}
@@ -15,7 +14,7 @@ use Rattle.shape.specs.declared.shape.Dim.the-variants.{X, Y, Z}
 use Rattle.shape.specs.Shape.{wrappedIn}
 use Rattle.machine.specs.declared.leg.Mode.{Mode}
 use Rattle.machine.specs.Hop.{rule}
-use Rattle.losses.specs.Loss.{lossAt, lossKind, lossMeets, someBelow, onLeg}
+use Rattle.losses.specs.Loss.{lossAt, lossMeets, someBelow, onLeg}
 use Rattle.masks.specs.Cell.{cell}
 use Rattle.sets.specs.Part.{column, cellIn, cellsIn, deadCells, lossCells}
 use Rattle.sets.proofs.Columns.{loss-met}
