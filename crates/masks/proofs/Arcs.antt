@@ -1,8 +1,8 @@
 -- Ranges as bits, turned round a ring.
-use Prim.Native.Nat.{ℕ, _+_, _-_, _*_, _/_, _%_, _^_, _≤_, _<_}
+use Prim.Native.Nat.{ℕ, _-_, _*_, _/_, _%_, _^_, _≤_, _<_}
 use native.Mathlib.Omega.{arith}
-use mathlib.Core.Path.{_≡_, refl, sym, ap, _∙_}
-use mathlib.Core.Bool.{Bool, true, false, cond, _&&_, _||_}
+use mathlib.Core.Path.{_≡_, ap, _∙_}
+use mathlib.Core.Bool.{Bool, _||_}
 use lib.Bits.{bitAnd, bitOr, and-le-r}
 use lib.Pow.{pow-mono, pow-pos, shl-exact}
 use Rattle.shape.specs.Steps.{ahead}

@@ -1,16 +1,15 @@
 -- The columns of masks.
 use Prim.Native.Nat.{ℕ, _+_, _-_, _^_, _≤_, _<_}
 use native.Mathlib.Omega.{arith}
-use mathlib.Core.Path.{_≡_, refl, sym, ap, _∙_}
-use mathlib.Core.Bool.{Bool, true, false, cond, _&&_, _||_}
+use mathlib.Core.Path.{_≡_, refl, sym, _∙_}
+use mathlib.Core.Bool.{Bool, true, false, cond, _&&_}
 use lib.Bits.{bitOr}
-use lib.Dec.{ltb, leb, eqb}
+use lib.Dec.{eqb}
 use borrow.Author.Tests.{lt-ltb, le-ltb, le-leb, lt-leb, eq-eqb, ne-eqb}
-use Rattle.theory.proofs.Cases.{by-le, by-order}
+use Rattle.theory.proofs.Cases.{by-order}
 use Rattle.shape.specs.Axis.{place}
 use Rattle.machine.specs.declared.leg.Mode.{Mode}
 use Rattle.machine.specs.declared.leg.Mode.the-variants.{Adaptive, Deterministic}
-use Rattle.machine.specs.Hop.{rule}
 use Rattle.legs.specs.Between.{between, crosses, runs}
 use Rattle.rows.specs.Bits.{rowOf}
 use Rattle.rows.proofs.Combined.{row-same, or-rows, no-row, full-row, pick-row}

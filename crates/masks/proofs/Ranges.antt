@@ -1,13 +1,13 @@
 -- One dimension by ranges: which places lie between two, and toward which a hop is useful, by the hops going plus from one of them.
 use Prim.Native.Nat.{ℕ, _+_, _-_, _*_, _/_, _≤_, _<_, min}
 use native.Mathlib.Omega.{arith}
-use mathlib.Core.Path.{_≡_, refl, sym, ap, _∙_}
+use mathlib.Core.Path.{_≡_, refl, sym, _∙_}
 use mathlib.Core.Bool.{Bool, true, false, cond, not, _&&_, _||_}
-use lib.Dec.{ltb, leb, eqb}
+use lib.Dec.{leb, eqb}
 use borrow.Author.Tests.{lt-ltb, le-ltb, le-leb, lt-leb, eq-eqb, ne-eqb}
 use Rattle.theory.proofs.Cases.{by-le, by-order}
 use Rattle.shape.specs.Axis.{gap, axisDistance, axisUseful}
-use Rattle.shape.specs.Steps.{ahead, ringUseful}
+use Rattle.shape.specs.Steps.{ahead}
 use Rattle.shape.proofs.AxisLaws.{axis-symmetric, Ahead, ahead-is, ring-useful, open-useful}
 use Rattle.legs.specs.Between.{between}
 use Rattle.masks.specs.Ranges.{inRange}

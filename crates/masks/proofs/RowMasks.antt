@@ -1,19 +1,18 @@
 -- The masks that others are made of.
-use Prim.Native.Nat.{ℕ, _+_, _-_, _*_, _/_, _^_, _≤_, _<_}
+use Prim.Native.Nat.{ℕ, _+_, _-_, _/_, _^_, _≤_, _<_}
 use native.Mathlib.Omega.{arith}
 use mathlib.Core.Path.{_≡_, refl, sym, ap, _∙_}
 use mathlib.Core.Bool.{Bool, true, false, cond, not, _&&_, _||_}
 use lib.Bits.{bitAnd, bitOr, and-le-l}
-use lib.Dec.{ltb, leb, eqb}
+use lib.Dec.{leb, eqb}
 use lib.Pow.{pow-mono}
-use borrow.Author.Tests.{lt-ltb, le-ltb, le-leb, lt-leb, eq-eqb, ne-eqb}
 use Rattle.shape.specs.Axis.{axisUseful}
 use Rattle.shape.specs.Steps.{ahead, goes}
 use Rattle.machine.specs.declared.leg.Mode.{Mode}
 use Rattle.machine.specs.declared.leg.Mode.the-variants.{Adaptive, Deterministic}
 use Rattle.machine.specs.Hop.{rule}
 use Rattle.legs.specs.Between.{between, crosses, agree, runs}
-use Rattle.rows.specs.Bits.{bit, rowOf}
+use Rattle.rows.specs.Bits.{rowOf}
 use Rattle.rows.proofs.Bits.{bit-and, bit-not, row-below, row-bit, row-of}
 use Rattle.rows.proofs.Combined.{row-same, and-rows, pick-row}
 use Rattle.masks.specs.Cell.{takes}

@@ -1,5 +1,5 @@
 -- The places between two: as a range, and as a box of nodes.
-use Prim.Native.Nat.{ℕ, _+_, _-_, _*_, _/_, _^_, _≤_, _<_}
+use Prim.Native.Nat.{ℕ, _+_, _-_, _/_, _^_, _≤_, _<_}
 use native.Mathlib.Omega.{arith}
 use mathlib.Core.Path.{_≡_, refl, sym, ap, _∙_}
 use mathlib.Core.Bool.{Bool, true, false, cond, _&&_, _||_}
@@ -8,11 +8,10 @@ use borrow.Author.Tests.{lt-ltb, le-ltb, le-leb, lt-leb, eq-eqb, ne-eqb}
 use Rattle.theory.proofs.Cases.{by-le}
 use Rattle.shape.specs.declared.shape.Shape.{Shape}
 use Rattle.shape.specs.declared.shape.Coords.{Coords}
-use Rattle.shape.specs.declared.shape.Dim.{Dim}
 use Rattle.shape.specs.declared.shape.Dim.the-variants.{X, Y, Z}
 use Rattle.shape.specs.Shape.{shapeError, wrappedIn}
 use Rattle.shape.specs.Steps.{ahead}
-use Rattle.shape.proofs.AxisLaws.{Ahead, ahead-is}
+use Rattle.shape.proofs.AxisLaws.{ahead-is}
 use Rattle.shape.proofs.Shapes.{sound}
 use Rattle.machine.specs.Number.{Inside}
 use Rattle.legs.specs.Between.{between}

@@ -1,10 +1,10 @@
 -- The columns in each dimension are the parts of what lies on a leg.
-use Prim.Native.Nat.{ℕ, zero, suc, _+_, _-_, _*_, _/_, _%_, _≤_, _<_}
-use mathlib.Core.Bool.{Bool, true, false, cond, _&&_, _||_}
-use mathlib.Core.Path.{_≡_, refl, sym, ap, _∙_}
+use Prim.Native.Nat.{ℕ, zero, suc, _-_, _≤_, _<_}
+use mathlib.Core.Bool.{Bool, true, false, _&&_, _||_}
+use mathlib.Core.Path.{_≡_, refl, _∙_}
 use native.Mathlib.Omega.{arith}
-use lib.Dec.{ltb, eqb}
-use borrow.Author.Tests.{lt-ltb, le-ltb, eq-eqb, ne-eqb}
+use lib.Dec.{ltb}
+use borrow.Author.Tests.{lt-ltb, le-ltb}
 use Rattle.theory.proofs.Cases.{by-le, by-order}
 use Rattle.shape.specs.declared.shape.Shape.{Shape}
 use Rattle.shape.specs.declared.shape.Coords.{Coords}
@@ -19,7 +19,6 @@ use Rattle.machine.specs.ByCoords.{movedAt}
 use Rattle.legs.specs.Crossing.{adaptiveAlong, adaptiveCrosses, deterministicAlong, deterministicCrosses, canCross}
 use Rattle.losses.specs.Loss.{lossAt, lossKind, plusOf, linkMeets, linksMeet, nodeMeets, lossMeets}
 use Rattle.masks.specs.Cell.{takes, takesLink, takesLinks, passesBefore, passesBehind, cell}
-use Rattle.masks.specs.Masks.{dimAt}
 use Rattle.sets.specs.Part.{kindDim, kindOwn, column, cellIn, cellsIn, deadCells, lossCells}
 
 -- ---- one direction of a link

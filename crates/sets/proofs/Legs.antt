@@ -1,11 +1,10 @@
 -- One leg: each loss is tried, dimension by dimension.
 use Prim.Native.Nat.{ℕ, zero, suc, _+_, _/_, _%_, _≤_, _<_, min}
-use mathlib.Core.Bool.{Bool, true, false, cond, not, _&&_, _||_}
-use mathlib.Core.Path.{_≡_, refl, sym, ap, _∙_}
+use mathlib.Core.Bool.{Bool, true, false, not, _||_, _&&_}
+use mathlib.Core.Path.{_≡_, refl, sym, _∙_}
 use mathlib.Core.List.{List}
 use native.Mathlib.Omega.{arith}
 use native.Mathlib.Numerals.{add-one}
-use lib.Dec.{ltb, eqb}
 use lib.ListN.{getD}
 use borrow.Author.Tests.{lt-ltb, le-ltb, eq-eqb, ne-eqb}
 use Rattle.theory.proofs.Cases.{by-le}
@@ -15,10 +14,18 @@ use Rattle.shape.specs.declared.shape.Dim.the-variants.{X, Y, Z}
 use Rattle.shape.specs.Shape.{wrappedIn}
 use Rattle.machine.specs.declared.leg.Mode.{Mode}
 use Rattle.machine.specs.Hop.{rule}
-use Rattle.losses.specs.Loss.{lossAt, lossKind, lossMeets, someBelow, onLeg}
+use Rattle.losses.specs.Loss.{lossAt, lossMeets, someBelow, onLeg}
 use Rattle.masks.specs.Cell.{cell}
 use Rattle.sets.specs.Part.{column, cellIn, cellsIn, deadCells, lossCells}
 use Rattle.sets.proofs.Columns.{loss-met}
+
+and-false : (b : Bool) → (b && false) ≡ false
+and-false true = refl
+and-false false = refl
+
+and-true : (b : Bool) → (b && true) ≡ b
+and-true true = refl
+and-true false = refl
 
 -- ---- one product: the first dimension that misses decides
 module _ (m : Mode) (s : Shape) (kind w : ℕ) (a t : Coords) where
@@ -45,6 +52,18 @@ module _ (m : Mode) (s : Shape) (kind w : ℕ) (a t : Coords) where
   pub meets-z : (x y z : Bool) → x ≡ cellIn m s kind 0 (lossAt w) a t → x ≡ true → y ≡ cellIn m s kind 1 (lossAt w) a t → y ≡ true → z ≡ cellIn m s kind 2 (lossAt w) a t → z ≡ cellsIn m s kind (lossAt w) a t
   unfolding cellsIn
   meets-z x y z e k f l g = g ∙ rw (← e, k, ← f, l)
+
+  pub misses-y-first : (y : Bool) → y ≡ cellIn m s kind 1 (lossAt w) a t → y ≡ false → false ≡ cellsIn m s kind (lossAt w) a t
+  unfolding cellsIn
+  misses-y-first y e k = rw (← e, k) (sym (and-false (cellIn m s kind 0 (lossAt w) a t)))
+
+  pub misses-z : (y z : Bool) → y ≡ cellIn m s kind 1 (lossAt w) a t → y ≡ true → z ≡ cellIn m s kind 2 (lossAt w) a t → z ≡ false → false ≡ cellsIn m s kind (lossAt w) a t
+  unfolding cellsIn
+  misses-z y z e k f l = rw (← e, k, ← f, l) (sym (and-false (cellIn m s kind 0 (lossAt w) a t)))
+
+  pub meets-x : (x y z : Bool) → y ≡ cellIn m s kind 1 (lossAt w) a t → y ≡ true → z ≡ cellIn m s kind 2 (lossAt w) a t → z ≡ true → x ≡ cellIn m s kind 0 (lossAt w) a t → x ≡ cellsIn m s kind (lossAt w) a t
+  unfolding cellsIn
+  meets-x x y z e k f l g = g ∙ rw (← e, k, ← f, l) (sym (and-true (cellIn m s kind 0 (lossAt w) a t)))
 
 pub dead-first : (m : Mode) (s : Shape) (u a t : Coords) (x : Bool) → x ≡ cellsIn m s 9 u a t → x ≡ true → true ≡ deadCells m s u a t
 unfolding deadCells

@@ -1,7 +1,7 @@
 -- A set of clear legs: its bits are those of the nodes whose leg to the end, or from it, meets none of the losses.
 use Prim.Native.Nat.{ℕ, zero, suc, _+_, _-_, _*_, _/_, _%_, _≤_, _<_, min}
-use mathlib.Core.Bool.{Bool, true, false, cond, not, _&&_, _||_}
-use mathlib.Core.Path.{_≡_, refl, sym, ap, _∙_}
+use mathlib.Core.Bool.{Bool, true, false, cond, not, _&&_}
+use mathlib.Core.Path.{_≡_, refl, ap, _∙_}
 use mathlib.Core.List.{List}
 use native.Mathlib.Omega.{arith}
 use lib.Dec.{ltb, eqb}
@@ -17,12 +17,11 @@ use Rattle.machine.specs.Number.{nodeCount, coordsOf, Inside}
 use Rattle.machine.specs.Hop.{rule}
 use Rattle.machine.proofs.Numbers.{inside}
 use Rattle.machine.proofs.ByCoords.{inside-at}
-use Rattle.rows.specs.Bits.{bit, rowOf}
+use Rattle.rows.specs.Bits.{bit}
 use Rattle.rows.specs.Rows.{inRows, inSet, inProduct}
-use Rattle.rows.specs.Product.{nodeAt, Are, product}
+use Rattle.rows.specs.Product.{Are, product}
 use Rattle.rows.proofs.Bits.{row-bit}
 use Rattle.losses.specs.Loss.{lossAt, lossKind, lossMeets, someBelow, onLeg}
-use Rattle.masks.specs.Cell.{cell}
 use Rattle.masks.specs.Masks.{endCell, maskOf, dimAt, endAt, endsAt, Ended}
 use Rattle.sets.specs.Part.{kindDim, kindOwn, column, maskIn, partIn, deadIn, lossIn, cellIn, cellsIn, deadCells, lossCells}
 use Rattle.sets.specs.Clear.{someIn, clearIn}

@@ -1,13 +1,12 @@
 -- Losses taken away one after the other.
-use Prim.Native.Nat.{ℕ, suc, _+_, _-_, _*_, _/_, _%_, _≤_, _<_, min}
+use Prim.Native.Nat.{ℕ, _+_, _-_, _/_, _%_, _≤_, _<_, min}
 use native.Mathlib.Omega.{arith}
 use native.Mathlib.Numerals.{add-one}
-use mathlib.Core.Path.{_≡_, refl, sym, ap, _∙_}
-use mathlib.Core.Bool.{Bool, true, false, cond, not, _&&_, _||_}
+use mathlib.Core.Path.{_≡_, refl, sym, _∙_}
+use mathlib.Core.Bool.{Bool, true, false, not, _&&_, _||_}
 use mathlib.Core.List.{List}
-use lib.ListN.{length, getD}
+use lib.ListN.{getD}
 use lib.Bits.{bitAnd}
-use lib.Dec.{ltb, eqb}
 use borrow.Author.Tests.{lt-ltb, le-ltb, eq-eqb, ne-eqb}
 use Rattle.shape.specs.declared.shape.Coords.{Coords}
 use Rattle.rows.specs.Bits.{bit}
@@ -15,7 +14,7 @@ use Rattle.rows.specs.Rows.{inProduct}
 use Rattle.rows.proofs.Bits.{bit-and}
 use Rattle.rows.specs.Product.{nodeAt, Less, Are, product}
 use Rattle.rows.proofs.Taking.{less-none, less-same}
-use Rattle.losses.specs.Loss.{lossKind, someBelow}
+use Rattle.losses.specs.Loss.{someBelow}
 use Rattle.sets.specs.Part.{kindDim, kindOwn, column, maskIn, partIn, deadIn, lossIn}
 use Rattle.sets.specs.Clear.{someIn, clearIn}
 

@@ -2,6 +2,7 @@
 use crate::cells::cell;
 use crate::part::clipped;
 use crate::part::column;
+use crate::part::kind_dim;
 use machine::leg::Mode;
 use shape::Coords;
 use shape::Dim;
@@ -23,7 +24,8 @@ fn along(mode: Mode, len: u8, ring: bool, kind: u16, d: u16, c: u16, p: u8, q: u
     cell(mode, len, ring, column(kind, d) as u8, c as u8, p, q)
 }
 
-fn part_meets(mode: Mode, shape: Shape, kind: u16, w: u16, a: Coords, t: Coords) -> bool
+// Of a kind along Y or Z, where X is the quickest to try.
+fn x_first(mode: Mode, shape: Shape, kind: u16, w: u16, a: Coords, t: Coords) -> bool
     ensures { λ r. ⌜ r ≡ cellsIn mode shape kind (lossAt w) a t ⌝ }
 {
     if !along(
@@ -60,6 +62,56 @@ fn part_meets(mode: Mode, shape: Shape, kind: u16, w: u16, a: Coords, t: Coords)
         a.z,
         t.z,
     )
+}
+
+// Of a kind along X.
+fn x_last(mode: Mode, shape: Shape, kind: u16, w: u16, a: Coords, t: Coords) -> bool
+    ensures { λ r. ⌜ r ≡ cellsIn mode shape kind (lossAt w) a t ⌝ }
+{
+    if !along(
+        mode,
+        shape.y,
+        wrapped(shape, Dim::Y),
+        kind,
+        1,
+        w / 16 % 16,
+        a.y,
+        t.y,
+    ) {
+        return false;
+    }
+    if !along(
+        mode,
+        shape.z,
+        wrapped(shape, Dim::Z),
+        kind,
+        2,
+        w / 256 % 16,
+        a.z,
+        t.z,
+    ) {
+        return false;
+    }
+    along(
+        mode,
+        shape.x,
+        wrapped(shape, Dim::X),
+        kind,
+        0,
+        w % 16,
+        a.x,
+        t.x,
+    )
+}
+
+fn part_meets(mode: Mode, shape: Shape, kind: u16, w: u16, a: Coords, t: Coords) -> bool
+    ensures { λ r. ⌜ r ≡ cellsIn mode shape kind (lossAt w) a t ⌝ }
+{
+    if kind_dim(kind) == 0 {
+        x_last(mode, shape, kind, w, a, t)
+    } else {
+        x_first(mode, shape, kind, w, a, t)
+    }
 }
 
 fn dead_meets(mode: Mode, shape: Shape, w: u16, a: Coords, t: Coords) -> bool

@@ -3,7 +3,7 @@ ghost use mathlib.Core.Path.{_≡_};
 ghost use Prim.Native.Nat.{_<_, min};
 ghost use Rattle.sets.specs.Part.{kindDim, kindOwn, column};
 
-fn kind_dim(kind: u16) -> u16
+pub fn kind_dim(kind: u16) -> u16
     ensures { λ r. ⌜ r ≡ kindDim kind ⌝ }
 {
     if kind < 6 {

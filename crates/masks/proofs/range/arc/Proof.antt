@@ -1,4 +1,3 @@
-use native.Mathlib.Omega.{arith}
 use Rattle.masks.proofs.Arcs.{row-fits, row-turned}
 use Rattle.masks.specs.Ranges.{inRange}
 use borrow.Author.Needs.{needs}

@@ -1,6 +1,4 @@
-use native.Mathlib.Omega.{arith}
 use Rattle.masks.proofs.Arcs.{row-fits, row-turned, two-ranges}
-use Rattle.masks.specs.Ranges.{inRange}
 use borrow.Author.Needs.{needs}
 use Rattle.masks.proofs.range.arcs.Statement.{statement}
 use Rattle.masks.proofs.range.arcs.Tie as tie

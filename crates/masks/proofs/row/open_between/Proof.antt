@@ -1,5 +1,5 @@
-use lib.Dec.{leb, eqb}
-use Prim.Native.Nat.{_+_, _-_, _/_}
+use lib.Dec.{leb}
+use Prim.Native.Nat.{_+_, _-_}
 use native.Mathlib.Omega.{arith}
 use Rattle.masks.proofs.RowMasks.{pick-most, open-row}
 use borrow.Author.Needs.{needs}

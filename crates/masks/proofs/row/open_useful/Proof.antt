@@ -1,5 +1,4 @@
-use lib.Dec.{leb, eqb}
-use Prim.Native.Nat.{_+_, _-_, _/_}
+use Prim.Native.Nat.{_+_, _-_}
 use native.Mathlib.Omega.{arith}
 use Rattle.masks.proofs.RowMasks.{pick-most, open-useful-row}
 use borrow.Author.Needs.{needs}

@@ -1,5 +1,5 @@
-use lib.Dec.{leb, eqb}
-use Prim.Native.Nat.{_+_, _-_, _/_}
+use lib.Dec.{eqb}
+use Prim.Native.Nat.{_+_, _-_}
 use native.Mathlib.Omega.{arith}
 use Rattle.masks.proofs.RowMasks.{pick-most, ring-row}
 use borrow.Author.Needs.{needs}

@@ -1,4 +1,3 @@
-use lib.Dec.{leb, eqb}
 use Prim.Native.Nat.{_+_, _-_, _/_}
 use native.Mathlib.Omega.{arith}
 use Rattle.masks.proofs.RowMasks.{pick-most, ring-useful-row}

@@ -1,4 +1,4 @@
-use lib.Dec.{leb, eqb}
+use lib.Dec.{leb}
 use Prim.Native.Nat.{_+_, _-_, _/_}
 use native.Mathlib.Omega.{arith}
 use Rattle.masks.proofs.Spans.{ring-span}

@@ -1,7 +1,6 @@
-use Prim.Native.Nat.{ℕ, _+_, _-_, _*_, _/_, _%_, _≤_, _<_}
-use mathlib.Core.Path.{_≡_, refl, sym, _∙_}
+use Prim.Native.Nat.{_-_}
+use mathlib.Core.Path.{refl}
 use native.Mathlib.Omega.{arith}
-use borrow.Author.Needs.{needs}
 use Rattle.masks.proofs.Tables.{Laying, lay-begin, lay-turn, lay-end}
 use Rattle.masks.proofs.table.lay.Statement.{statement}
 use Rattle.masks.proofs.table.lay.Tie as tie

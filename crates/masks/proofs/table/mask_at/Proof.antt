@@ -1,4 +1,3 @@
-use native.Mathlib.Omega.{arith}
 use Rattle.masks.proofs.Tables.{extent-most, mask-none, mask-some, any-ways}
 use borrow.Author.Needs.{needs}
 use Rattle.masks.proofs.table.mask_at.Statement.{statement}

@@ -1,7 +1,6 @@
-use Prim.Native.Nat.{ℕ, _+_, _-_, _*_, _^_, _≤_, _<_}
-use mathlib.Core.Path.{_≡_, refl, sym, _∙_}
+use Prim.Native.Nat.{_-_}
+use mathlib.Core.Path.{refl}
 use native.Mathlib.Omega.{arith}
-use borrow.Author.Needs.{needs}
 use Rattle.rows.proofs.Taking.{Keeping, keep-begin, keep-turn, keep-end}
 use Rattle.rows.proofs.product.keep.Statement.{statement}
 use Rattle.rows.proofs.product.keep.Tie as tie

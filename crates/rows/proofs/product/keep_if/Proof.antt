@@ -1,6 +1,4 @@
-use Prim.Native.Nat.{ℕ, _+_, _-_, _*_, _^_, _≤_, _<_}
-use mathlib.Core.Path.{_≡_, refl, sym, _∙_}
-use native.Mathlib.Omega.{arith}
+use Prim.Native.Nat.{_-_}
 use Rattle.rows.proofs.Taking.{not-kept, is-kept}
 use borrow.Author.Needs.{needs}
 use Rattle.rows.proofs.product.keep_if.Statement.{statement}

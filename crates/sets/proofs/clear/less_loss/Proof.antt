@@ -1,4 +1,3 @@
-use native.Mathlib.Omega.{arith}
 use Rattle.sets.proofs.Taking.{loss-part, loss-dead, loss-none}
 use borrow.Author.Needs.{needs}
 use Rattle.sets.proofs.clear.less_loss.Statement.{statement}

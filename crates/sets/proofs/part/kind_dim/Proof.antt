@@ -1,4 +1,4 @@
-use borrow.Author.Tests.{eq-eqb, ne-eqb, lt-ltb, le-ltb}
+use borrow.Author.Tests.{lt-ltb, le-ltb}
 use Rattle.sets.specs.Part.{kindDim}
 use Rattle.sets.proofs.part.kind_dim.Statement.{statement}
 use Rattle.sets.proofs.part.kind_dim.Tie as tie

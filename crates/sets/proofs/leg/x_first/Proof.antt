@@ -1,10 +1,10 @@
 use Rattle.sets.proofs.Legs.{along-x, along-y, along-z, misses-x, misses-y, meets-z}
 use borrow.Author.Tests.{not-true, not-false}
 use borrow.Author.Needs.{needs}
-use Rattle.sets.proofs.leg.part_meets.Statement.{statement}
-use Rattle.sets.proofs.leg.part_meets.Tie as tie
-use Rattle.sets.proofs.leg.part_meets.Reads as reads
-use Rattle.sets.proofs.leg.part_meets.Lts as lts
+use Rattle.sets.proofs.leg.x_first.Statement.{statement}
+use Rattle.sets.proofs.leg.x_first.Tie as tie
+use Rattle.sets.proofs.leg.x_first.Reads as reads
+use Rattle.sets.proofs.leg.x_first.Lts as lts
 use Rattle.sets.proofs.leg.along.Reads as along-reads
 use Rattle.shape.proofs.shape.wrapped.Reads as wrapped-reads
 
@@ -44,8 +44,8 @@ along-requires-3 c κs = search needs
 returns-3 : tie.Need-returns-3
 returns-3 c = meets-z _ _ _ _ _ _ _ _ _ (along-x _ _ _ _ _ _ _ _ (c .before .before .before .before .before .before .before .wrapped .ensures) (c .before .before .before .before .before .before .along .ensures)) (not-false _ (c .before .before .before .before .before .if1 .left)) (along-y _ _ _ _ _ _ _ _ (c .before .before .before .before .wrapped2 .ensures) (c .before .before .before .along2 .ensures)) (not-false _ (c .before .before .if2 .left)) (along-z _ _ _ _ _ _ _ _ (c .before .wrapped3 .ensures) (c .along3 .ensures))
 
-pub part-meets-spec : {M : Type 1} → statement M
-part-meets-spec =
+pub x-first-spec : {M : Type 1} → statement M
+x-first-spec =
     tie.close
     (tie.spec
     wrapped-requires
