@@ -1,4 +1,7 @@
--- `Left` has the laws of the sheets that are left, `Turning` those of a turn, `Exist` that there are such turns.
+-- `Left` has the laws of the sheets that are left, `Checking` those of a run's checks and answer, `Boarding` those of a board's turn, `Running` those of
+-- a run, `Inputs` why what was read decides it.
 pub mod Left
-pub mod Turning
-pub mod Exist
+pub mod Checking
+pub mod Boarding
+pub mod Running
+pub mod Inputs
