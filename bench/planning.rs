@@ -184,17 +184,15 @@ fn one_by_one(plan: &[u8], nodes: u64, mut each: impl FnMut(&[u8])) {
     }
 }
 
-/// All sheets by the call for them.
-fn all_sheets(plan: &[u8], nodes: u64, each: impl FnMut(&[u8])) {
-    one_by_one(plan, nodes, each)
-}
-
-/// The user seconds of all sheets by the call for them, and of shadows, which have to be the same.
+/// The user seconds of all sheets by one call, and of shadows, whose sheets have to be the same.
 fn all_by_call(machine: Machine, plan: &[u8]) -> (f64, f64) {
-    let ours = hash_of(|each| all_sheets(plan, machine.nodes(), each));
-    is_same(ours, hash_of(|each| shadows::all_sheets(plan, each)), "shadows");
+    let mut work = vec![0; nafthurm::ALL_WORDS_A_BOARD * machine.nodes() as usize];
+    let mut out = vec![0xEE; nafthurm::SHEET_BYTES * machine.nodes() as usize];
+    let run = nafthurm::all_sheets(plan, 0, &mut work, &mut out).expect("all sheets");
+    assert_eq!(run.next as u64, machine.nodes());
+    is_same(hash_of(|each| each(&out[..run.size])), hash_of(|each| shadows::all_sheets(plan, each)), "shadows");
     (
-        time::user(|| all_sheets(plan, machine.nodes(), |sheet| _ = black_box(sheet))),
+        time::user(|| _ = black_box(nafthurm::all_sheets(plan, 0, &mut work, &mut out))),
         time::user(|| shadows::all_sheets(plan, |sheet| _ = black_box(sheet))),
     )
 }
