@@ -6,16 +6,18 @@ use mathlib.Core.Bool.{Bool, true, false, not, cond, true≢false}
 use mathlib.Core.List.{List}
 use lib.ListN.{length}
 use lib.Dec.{eqb}
-use borrow.Author.Tests.{eq-eqb, ne-eqb, lt-ltb, le-ltb}
+use borrow.Author.Tests.{eq-eqb, ne-eqb, lt-ltb, le-ltb, not-false}
 use Rattle.numbers.specs.Numbers.{nodeOutside}
 use Rattle.theory.specs.Checks.{declined, _then_}
-use Rattle.theory.proofs.Checks.{then-zero}
+use Rattle.theory.proofs.Checks.{then-zero, declined-zero}
 use Rattle.shape.specs.declared.shape.Shape.{Shape}
 use Rattle.shape.specs.Shape.{shapeError}
 use Rattle.machine.specs.Node.{isNode, countAnswer}
+use Rattle.machine.proofs.Nodes.{node-of}
 use Rattle.plan.specs.Layout.{shapeOf}
 use Rattle.plan.specs.Checks.{large, torusPlans, planError}
 use Rattle.plan.proofs.Plans.{accepted}
+use Rattle.dead.proofs.Table.{is-node}
 use Rattle.all_sheets.specs.declared.run.Run.{Run}
 use Rattle.all_sheets.specs.declared.run.Answer.{Answer}
 use Rattle.all_sheets.specs.declared.run.Answer.the-variants.{Refused, FewWords}
@@ -36,6 +38,18 @@ run-error p m from (suc e) a em ee ea = rw (sym ee, ne-eqb (suc e) 0 (λ z. omeg
 pub accepted-run : (p : List ℕ) (from : ℕ) → runError p from ≡ 0 → planError large p ≡ 0
 unfolding runError
 accepted-run p from h = then-zero (planError large p) _ h .0
+
+-- The board of such a run is one of the plan.
+pub board-of : (p : List ℕ) (from : ℕ) → runError p from ≡ 0 → from < boards p
+unfolding runError
+board-of p from h =
+    let known = isNode (shapeOf p) from in
+    let k = then-zero (declined (not known) nodeOutside) 0 (then-zero (planError large p) _ h .1) .0 in
+    node-of (shapeOf p) from (not-false known (declined-zero (not known) 8 k)) .below
+
+pub board-error : (p : List ℕ) (from : ℕ) → planError large p ≡ 0 → from < boards p → runError p from ≡ 0
+unfolding runError
+board-error p from h l = rw (h, is-node (shapeOf p) from (record { sound = accepted torusPlans large p h .shape; below = l }))
 
 -- ---- a run's answer, with the workspace w, which it leaves as v, and the lent bytes o
 module _ (p : List ℕ) (from : ℕ) (w o : List ℕ) where

@@ -3,69 +3,19 @@ use Prim.Native.Nat.{ℕ, suc, _+_, _-_, _≤_, _<_}
 use native.Mathlib.Numerals.{add-one}
 use native.Mathlib.Omega.{arith}
 use mathlib.Core.Path.{_≡_, refl, sym, ap, _∙_}
-use mathlib.Core.Bool.{Bool, true, false, not, true≢false}
+use mathlib.Core.Bool.{true, false, true≢false}
 use mathlib.Core.List.{List, [], _∷_, _++_, append-assoc, append-nil}
 use lib.ListN.{length, take, drop, length-append, length-take, length-drop, take-append-drop, drop-of-length-le}
 use lib.Seq.{length-take-le, take-all, take-append-seam, drop-append-seam, drop-drop}
-use lib.Dec.{eqb, ltb}
-use borrow.Author.Tests.{eq-eqb, ne-eqb, eqb-true, eqb-false, lt-ltb, le-ltb}
-use Rattle.theory.proofs.Cases.{test, by-le}
 use Rattle.plan.specs.Checks.{large}
-use Rattle.planner.specs.Sheet.{sourceError, plannedSheet}
+use Rattle.planner.specs.Sheet.{plannedSheet}
 use Rattle.all_sheets.specs.declared.boards.Step.{Step}
 use Rattle.all_sheets.specs.declared.run.Run.{Run}
 use Rattle.all_sheets.specs.Run.{runSheets, runNext, joined, boards, runBytes, runOf, runAfter}
 use Rattle.all_sheets.specs.Steps.{Boarded}
+use Rattle.all_sheets.proofs.ByBoard.{Dead, Fits, Full, by-board}
 
--- ---- a board of a run
-module _ (p : List ℕ) (S all room : ℕ) (l : S < all) where
-  abbrev s : List ℕ
-  s = plannedSheet large p S
-
-  one-more : all - S ≡ suc (all - (S + 1))
-  one-more = omega arith
-
-  module _ (h : sourceError large p S ≡ 0 → ⊥) where
-    pub dead-sheets : runSheets p S (all - S) room ≡ runSheets p (S + 1) (all - (S + 1)) room
-    unfolding runSheets
-    dead-sheets = rw (one-more, ne-eqb (sourceError large p S) 0 h, add-one S)
-
-    pub dead-next : runNext p S (all - S) room ≡ runNext p (S + 1) (all - (S + 1)) room
-    unfolding runNext
-    dead-next = rw (one-more, ne-eqb (sourceError large p S) 0 h, add-one S)
-
-  module _ (h : sourceError large p S ≡ 0) where
-    module _ (f : length s ≤ room) where
-      pub fits-sheets : runSheets p S (all - S) room ≡ s ∷ runSheets p (S + 1) (all - (S + 1)) (room - length s)
-      unfolding runSheets
-      fits-sheets = rw (one-more, eq-eqb (sourceError large p S) 0 h, le-ltb room (length s) f, add-one S)
-
-      pub fits-next : runNext p S (all - S) room ≡ runNext p (S + 1) (all - (S + 1)) (room - length s)
-      unfolding runNext
-      fits-next = rw (one-more, eq-eqb (sourceError large p S) 0 h, le-ltb room (length s) f, add-one S)
-
-    module _ (f : room < length s) where
-      pub full-sheets : runSheets p S (all - S) room ≡ []
-      unfolding runSheets
-      full-sheets = rw (one-more, eq-eqb (sourceError large p S) 0 h, lt-ltb room (length s) f)
-
-      pub full-next : runNext p S (all - S) room ≡ S
-      unfolding runNext
-      full-next = rw (one-more, eq-eqb (sourceError large p S) 0 h, lt-ltb room (length s) f)
-
-module _ (p : List ℕ) (S all room : ℕ) (l : all ≤ S) where
-  no-more : all - S ≡ 0
-  no-more = omega arith
-
-  pub none-sheets : runSheets p S (all - S) room ≡ []
-  unfolding runSheets
-  none-sheets = rw no-more
-
-  pub none-next : runNext p S (all - S) room ≡ S
-  unfolding runNext
-  none-next = rw no-more
-
--- ---- the loop: the first `size` bytes of t are the sheets of the boards before `next`
+-- The first `size` bytes of t are the sheets of the boards before `next`
 pub record Running (p : List ℕ) (from all : ℕ) (o t : List ℕ) (size next : ℕ) : Type 0 where
   pub within : size ≤ length o
   pub long : length t ≡ length o
@@ -103,41 +53,46 @@ module _ (p : List ℕ) (from all : ℕ) (o : List ℕ) where
       abbrev sheet : List ℕ
       sheet = plannedSheet large p next
 
-      dead-onward : (sourceError large p next ≡ 0 → ⊥) → Running p from all o (take size t ++ u) (size + r .size) (next + 1)
-      dead-onward h =
-          let k = b .dead h in
+      abbrev n : ℕ
+      n = all - suc next
+
+      abbrev room : ℕ
+      room = length o - size
+
+      one-more : all - next ≡ suc n
+      one-more = omega arith
+
+      dead-onward : Dead p next n room → Running p from all o (take size t ++ u) (size + r .size) (suc next)
+      dead-onward d =
+          let k = b .dead (d .dead) in
           let same : take size t ++ u ≡ t = parts u (k .2) in
           let at : size + r .size ≡ size = omega (arith, k .0) in
           rw (same, at)
           (record {
             within = g .within;
             long = g .long;
-            bytes = g .bytes ∙ ap (λ x. take size t ++ joined x) (dead-sheets p next all (length o - size) l h);
-            later = g .later ∙ dead-next p next all (length o - size) l h;
+            bytes = rw (one-more, d .sheets) at (g .bytes);
+            later = rw (one-more, d .next) at (g .later);
             rest = g .rest;
           })
 
-      fits-onward : sourceError large p next ≡ 0 → length sheet ≤ length o - size → Running p from all o (take size t ++ u) (size + r .size) (next + 1)
+      fits-onward : Fits p next n room → Running p from all o (take size t ++ u) (size + r .size) (suc next)
       unfolding joined
-      fits-onward h f =
-          let k = b .fits h (omega (arith, room-left)) in
-          let n : length (take size t) ≡ size = length-take-le size t (omega (arith, g .within, g .long)) in
+      fits-onward f =
+          let k = b .fits (f .sound) (omega (arith, room-left, f .enough)) in
+          let m : length (take size t) ≡ size = length-take-le size t (omega (arith, g .within, g .long)) in
           let front : List ℕ = take size t ++ sheet in
           let behind : List ℕ = drop (length sheet) (drop size t) in
           let long : length front ≡ size + length sheet = length-append (take size t) sheet ∙ omega arith in
           let split : take size t ++ u ≡ front ++ behind = ap (λ x. take size t ++ x) (k .2) ∙ sym (append-assoc (take size t) sheet behind) in
           let first : take (size + length sheet) (front ++ behind) ≡ front = ap (λ i. take i (front ++ behind)) (sym long) ∙ take-append-seam front behind in
-          let room : length o - size - length sheet ≡ length o - (size + length sheet) = omega arith in
+          let left : room - length sheet ≡ length o - (size + length sheet) = omega arith in
           rw (k .0, split)
           (record {
-            within = omega (arith, g .within);
-            long = length-append front behind ∙ omega (arith, long, length-drop (length sheet) (drop size t), room-left, g .within);
-            bytes =
-                g .bytes
-                ∙ ap (λ x. take size t ++ joined x) (fits-sheets p next all (length o - size) l h f)
-                ∙ sym (append-assoc (take size t) sheet _)
-                ∙ rw (first, room);
-            later = g .later ∙ fits-next p next all (length o - size) l h f ∙ rw room;
+            within = omega (arith, g .within, f .enough);
+            long = length-append front behind ∙ omega (arith, long, length-drop (length sheet) (drop size t), room-left, g .within, f .enough);
+            bytes = (rw (one-more, f .sheets, left) at (g .bytes)) ∙ sym (append-assoc (take size t) sheet _) ∙ rw first;
+            later = rw (one-more, f .next, left) at (g .later);
             rest =
                 ap (λ i. drop i (front ++ behind)) (sym long)
                 ∙ drop-append-seam front behind
@@ -145,29 +100,24 @@ module _ (p : List ℕ) (from all : ℕ) (o : List ℕ) where
                 ∙ drop-drop (length sheet) size o;
           })
 
-      onward : r .full ≡ false → Running p from all o (take size t ++ u) (size + r .size) (next + 1)
-      onward on =
-          test (eqb (sourceError large p next) 0)
-          (λ e.
-          let h = eqb-true (sourceError large p next) 0 e in
-          by-le (length sheet) (length o - size) (fits-onward h) (λ f. absurd (true≢false (sym (b .full h (omega (arith, room-left)) .0) ∙ on))))
-          (λ e. dead-onward (eqb-false (sourceError large p next) 0 e))
+      not-full : Full p next n room → r .full ≡ true
+      not-full f = b .full (f .sound) (omega (arith, room-left, f .short)) .0
+
+      onward : r .full ≡ false → Running p from all o (take size t ++ u) (size + r .size) (suc next)
+      onward on = by-board p next n room dead-onward fits-onward (λ f. absurd (true≢false (sym (not-full f) ∙ on)))
 
       stop :
           r .full ≡ true → all ≡ boards p →
           (_≡_ {A = Run} (record { size = size; next = next }) (runOf p from (length o))) × (take size t ++ u ≡ runAfter p from o) × (length (take size t ++ u) ≡ length o)
       unfolding joined
       stop off e =
-          test (eqb (sourceError large p next) 0)
-          (λ q.
-          let h = eqb-true (sourceError large p next) 0 q in
-          by-le (length sheet) (length o - size)
-          (λ f. absurd (true≢false (sym off ∙ b .fits h (omega (arith, room-left)) .1)))
+          by-board p next n room
+          (λ d. absurd (true≢false (sym off ∙ b .dead (d .dead) .1)))
+          (λ f. absurd (true≢false (sym off ∙ b .fits (f .sound) (omega (arith, room-left, f .enough)) .1)))
           (λ f.
-          let k = b .full h (omega (arith, room-left)) in
-          let w = ended e (ap joined (full-sheets p next all (length o - size) l h f)) (full-next p next all (length o - size) l h f) in
-          (w .0, parts u (k .1) ∙ w .1, ap length (parts u (k .1)) ∙ g .long)))
-          (λ q. absurd (true≢false (sym off ∙ b .dead (eqb-false (sourceError large p next) 0 q) .1)))
+          let same = parts u (b .full (f .sound) (omega (arith, room-left, f .short)) .1) in
+          let w = ended e (rw (one-more, f .sheets)) (rw (one-more, f .next)) in
+          (w .0, same ∙ w .1, ap length same ∙ g .long))
 
     -- The same of the part of t from `size` on.
     module _ (l : next < all) (r : Step) (u : List ℕ) (b : Boarded p next (take (length t - size) (drop size t)) r u) where
@@ -183,7 +133,7 @@ module _ (p : List ℕ) (from all : ℕ) (o : List ℕ) where
           rw none (ap (λ x. take size t ++ x) (append-nil u))
 
       pub turned : r .full ≡ false → Running p from all o whole (size + r .size) (next + 1)
-      turned on = rw put (onward l r u tail on)
+      turned on = rw (put, add-one next) (onward l r u tail on)
 
       pub stopped :
           r .full ≡ true → all ≡ boards p →
@@ -191,5 +141,5 @@ module _ (p : List ℕ) (from all : ℕ) (o : List ℕ) where
       stopped off e = rw put (stop l r u tail off e)
 
     pub all-done : all ≤ next → all ≡ boards p → (_≡_ {A = Run} (record { size = size; next = next }) (runOf p from (length o))) × (t ≡ runAfter p from o)
-    unfolding joined
-    all-done l e = ended e (ap joined (none-sheets p next all (length o - size) l)) (none-next p next all (length o - size) l)
+    unfolding joined runSheets runNext
+    all-done l e = let z : all - next ≡ 0 = omega arith in ended e (rw z) (rw z)

@@ -2,35 +2,25 @@ use borrow.Author.Needs.{needs}
 use Rattle.all_sheets.proofs.Boarding.{boarded-bytes, boarded-refused}
 use Rattle.all_sheets.proofs.boards.write_board.Statement.{statement}
 use Rattle.all_sheets.proofs.boards.write_board.Tie as tie
-use Rattle.all_sheets.proofs.boards.write_board.Reads as reads
-use Rattle.all_sheets.proofs.boards.write_board.Lts as lts
-use Rattle.planner.proofs.sheets.write_sheet.Reads as write-sheet-reads
 
--- src/boards.rt:25:11
 write-sheet-requires : tie.Need-write-sheet-requires
 write-sheet-requires c κs = search needs
 
--- src/boards.rt:26:24
 enum-known-size : tie.Need-enum-known-size
 enum-known-size c = search needs
 
--- src/boards.rt:30:26
 enum-known-number : tie.Need-enum-known-number
 enum-known-number c = search needs
 
--- src/boards.rt:21:1
 same-length : tie.Need-same-length
 same-length c = search needs
 
--- src/boards.rt:21:1
 returns : tie.Need-returns
 returns c = boarded-bytes _ _ (c .before .before .before .before .before .before .before .before .before .pre) _ _ _ (c .before .before .before .before .before .write-sheet .ensures) _ (c .before .size .given .1)
 
--- src/boards.rt:21:1
 same-length-2 : tie.Need-same-length-2
 same-length-2 c = search needs
 
--- src/boards.rt:21:1
 returns-2 : tie.Need-returns-2
 returns-2 c = boarded-refused _ _ (c .before .before .before .before .before .before .before .before .before .pre) _ _ _ (c .before .before .before .before .before .write-sheet .ensures) _ (c .before .number .given .1)
 

@@ -3,20 +3,13 @@ use borrow.Author.Needs.{needs}
 use Rattle.all_sheets.proofs.Inputs.{of-input}
 use Rattle.all_sheets.proofs.input.run_of_input.Statement.{statement}
 use Rattle.all_sheets.proofs.input.run_of_input.Tie as tie
-use Rattle.all_sheets.proofs.input.run_of_input.Reads as reads
-use Rattle.all_sheets.proofs.input.run_of_input.Lts as lts
-use Rattle.all_sheets.proofs.run.write_run.Reads as write-run-reads
-use Rattle.text.proofs.part.front.Reads as front-reads
 
--- src/input.rt:31:15
 front-requires : tie.Need-front-requires
 front-requires c κs = search needs
 
--- src/input.rt:31:5
 write-run-requires : tie.Need-write-run-requires
 write-run-requires c κs = search needs
 
--- src/input.rt:21:1
 returns : tie.Need-returns
 returns c = of-input _ _ _ _ _ _ _ _ _ (omega arith) (c .before .before .before .front .ensures .0) (c .write-run .ensures)
 

@@ -2,34 +2,22 @@ use borrow.Author.Needs.{needs}
 use Rattle.all_sheets.proofs.Checking.{run-error}
 use Rattle.all_sheets.proofs.run.run_error.Statement.{statement}
 use Rattle.all_sheets.proofs.run.run_error.Tie as tie
-use Rattle.all_sheets.proofs.run.run_error.Reads as reads
-use Rattle.all_sheets.proofs.run.run_error.Lts as lts
-use Rattle.logic.proofs.pick.Reads as pick-reads
-use Rattle.machine.proofs.node.is_node.Reads as is-node-reads
-use Rattle.plan.proofs.check.Reads as check-reads
-use Rattle.plan.proofs.layout.shape_in.Reads as shape-in-reads
 
--- src/run.rt:39:9
 check-requires : tie.Need-check-requires
 check-requires c κs = search needs
 
--- src/run.rt:40:25
 shape-in-requires : tie.Need-shape-in-requires
 shape-in-requires c κs = search needs
 
--- src/run.rt:40:9
 is-node-requires : tie.Need-is-node-requires
 is-node-requires c κs = search needs
 
--- src/run.rt:41:29
 pick-requires : tie.Need-pick-requires
 pick-requires c κs = search needs
 
--- src/run.rt:41:5
 pick-requires-2 : tie.Need-pick-requires-2
 pick-requires-2 c κs = search needs
 
--- src/run.rt:36:1
 returns : tie.Need-returns
 returns c = cc (run-error _ _ _ _ _ (c .before .before .before .shape-in .ensures) (c .before .before .before .before .check .ensures) (c .before .before .is-node .ensures))
 

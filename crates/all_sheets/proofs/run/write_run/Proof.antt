@@ -5,14 +5,6 @@ use mathlib.Core.List.{[]}
 use Rattle.all_sheets.proofs.Checking.{refused-run, all-boards, few-run, written-run}
 use Rattle.all_sheets.proofs.run.write_run.Statement.{statement}
 use Rattle.all_sheets.proofs.run.write_run.Tie as tie
-use Rattle.all_sheets.proofs.run.write_run.Reads as reads
-use Rattle.all_sheets.proofs.run.write_run.Lts as lts
-use Rattle.all_sheets.proofs.boards.write_boards.Reads as write-boards-reads
-use Rattle.all_sheets.proofs.run.ended.Reads as ended-reads
-use Rattle.all_sheets.proofs.run.run_error.Reads as run-error-reads
-use Rattle.all_sheets.proofs.run.words_for.Reads as words-for-reads
-use Rattle.machine.proofs.node.count.Reads as count-reads
-use Rattle.plan.proofs.layout.shape_in.Reads as shape-in-reads
 
 run-error-requires : tie.Need-run-error-requires
 run-error-requires c κs = search needs

@@ -2,14 +2,14 @@ use native.Mathlib.Omega.{arith}
 use Prim.Native.Nat.{_+_, _-_}
 use mathlib.Core.Bool.{cond}
 use Rattle.sheets.proofs.Going.{fewer}
-use Rattle.sheets.proofs.job.write_all.Statement.{statement}
-use Rattle.sheets.proofs.job.write_all.Tie as tie
+use Rattle.sheets.proofs.job.write_runs.Statement.{statement}
+use Rattle.sheets.proofs.job.write_runs.Tie as tie
 
 abbrev Inv-loop : tie.InvT-loop
-Inv-loop plan size file all waiting₀ progress₀ waiting progress = Unit {0}
+Inv-loop plan size file work₀ out₀ all waiting₀ progress₀ work out waiting progress = Unit {0}
 
 abbrev μ-loop : tie.MeasureT-loop
-μ-loop plan size file all waiting₀ progress₀ waiting progress = 65536 - progress .next + cond (progress .more) 1 0
+μ-loop plan size file work₀ out₀ all waiting₀ progress₀ work out waiting progress = 65536 - progress .next + cond (progress .more) 1 0
 
 front-requires : tie.Need-front-requires Inv-loop μ-loop
 front-requires c κs = tt
@@ -36,7 +36,7 @@ look-requires : tie.Need-look-requires Inv-loop μ-loop
 look-requires c κs = tt
 
 loop-less : tie.Need-loop-less Inv-loop μ-loop
-loop-less c = rw (c .before .before .loop-test .taken) (fewer (c .before .write-next .result .more) _ _ (omega arith) (c .before .write-next .ensures))
+loop-less c = rw (c .before .before .before .before .loop-test .taken) (fewer (c .before .write-next .result .more) _ _ (omega arith) (c .before .write-next .ensures))
 
 loop-again : tie.Need-loop-again Inv-loop μ-loop
 loop-again c = tt
@@ -47,8 +47,8 @@ end-requires c κs = tt
 returns : tie.Need-returns Inv-loop μ-loop
 returns c = tt
 
-pub write-all-spec : {M : Type 1} → statement M
-write-all-spec =
+pub write-runs-spec : {M : Type 1} → statement M
+write-runs-spec =
     tie.close
     (tie.spec
     Inv-loop
