@@ -1,23 +1,14 @@
 //! The time of a hop of a long walk: the proved stepper against the same stepper in plain Rust, in one run.
 mod plain;
+mod random;
 use plain::{Leg, Mode, Packet, Shape};
+use random::Random;
 use std::hint::black_box;
 use std::time::Instant;
 
 extern "C" {
     #[allow(clippy::too_many_arguments)]
     fn nafthurm_walk(x: u8, y: u8, z: u8, wrap: u8, node: u16, via: u16, target: u16, first: u8, second: u8, dirs: *const u8, len: usize) -> usize;
-}
-
-struct Random(u64);
-
-impl Random {
-    fn below(&mut self, n: u64) -> u64 {
-        self.0 ^= self.0 << 13;
-        self.0 ^= self.0 >> 7;
-        self.0 ^= self.0 << 17;
-        self.0 % n
-    }
 }
 
 struct Case {
@@ -71,6 +62,7 @@ fn time(cases: &[Case], walk: impl Fn(&Case) -> usize) -> f64 {
 }
 
 fn main() {
+    println!("| machine | legs | proved | plain Rust | ratio |\n|---|---|---|---|---|");
     for (name, wrap) in [("torus", 7), ("mesh", 0)] {
         for (kind, mode) in [("adaptive", Mode::Adaptive), ("deterministic", Mode::Deterministic)] {
             let shape = Shape { extents: [16; 3], wrap };
@@ -78,7 +70,7 @@ fn main() {
             let cases: Vec<Case> = (0..4000).map(|_| case(&mut random, &shape, mode)).collect();
             let plain = time(&cases, |c| c.packet.walk(&shape, &c.dirs).1);
             let ours = time(&cases, |c| proved(&shape, c));
-            println!("hop, 16 x 16 x 16 {name}, {kind}: proved {ours:.2} ns, plain Rust {plain:.2} ns, ratio {:.2}", ours / plain);
+            println!("| {name} | {kind} | {ours:.2} ns | {plain:.2} ns | {:.2} |", ours / plain);
         }
     }
 }

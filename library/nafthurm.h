@@ -6,14 +6,15 @@
  * Every call is proved to meet its contract in crates/nafthurm/src, which is the definition of the call that it stands for: it ends, never reaches
  * outside the bytes that it is lent, and takes any bytes and any numbers. Nothing has to be tested before a call. What the proof takes for granted,
  * since C cannot be asked, is that
- *   - a pointer and the size behind it name that many bytes that may be read (and written where it is not const); no pointer is null, also where the
- *     size is 0;
- *   - the bytes lent as output overlap none of the others, and nobody alters lent bytes during a call.
+ *   - a pointer and the size behind it name that many bytes (of a workspace: words) that may be read (and written where it is not const); no pointer is
+ *     null, also where the size is 0;
+ *   - the bytes lent as output or workspace overlap none of the others, and nobody alters lent bytes during a call.
  * Nothing is allocated, no state is kept between calls and no pointer is kept after one: calls may run at the same time in several threads.
- * A call uses at most NAFTHURM_STACK bytes of stack; nafthurm_pair NAFTHURM_STACK_PAIR, nafthurm_write_sheet NAFTHURM_STACK_SHEET and
- * nafthurm_listing NAFTHURM_STACK_LISTING.
+ * A call uses at most NAFTHURM_STACK bytes of stack; nafthurm_pair NAFTHURM_STACK_PAIR, nafthurm_write_sheet NAFTHURM_STACK_SHEET,
+ * nafthurm_all_sheets NAFTHURM_STACK_ALL and nafthurm_listing NAFTHURM_STACK_LISTING.
  *
- * A field or result `number` is 0, or the number of a refusal, 1 to 15: docs/NUMBERS.md. A call that is refused writes no lent byte.
+ * A field or result `number` is 0, or the number of a refusal, 1 to 15: docs/NUMBERS.md. A call that is refused writes no lent byte, but to a
+ * workspace.
  *
  * Directions are 0 X+, 1 X-, 2 Y+, 3 Y-, 4 Z+, 5 Z-. Kinds of routes, as in a route sheet and in the listing:
  *   0 direct adaptive, 1 direct deterministic, and by a via 2 both legs adaptive, 3 adaptive then deterministic, 4 deterministic then adaptive,
@@ -35,10 +36,18 @@ extern "C" {
 #define NAFTHURM_SHEET_BYTES 20482
 #define NAFTHURM_LISTING_BYTES 61454
 
+/* The workspace of nafthurm_all_sheets: so many words of 16 bits a board of the plan; the largest plan has 4,096 boards. */
+#define NAFTHURM_ALL_WORDS_A_BOARD 512
+#define NAFTHURM_ALL_WORDS 2097152
+
+/* The `number` of a run with fewer words; no refusal of docs/NUMBERS.md. */
+#define NAFTHURM_FEW_WORDS 255
+
 /* Bytes of stack, held to by library/tests/test.c. */
 #define NAFTHURM_STACK 1024
 #define NAFTHURM_STACK_PAIR 32768
 #define NAFTHURM_STACK_SHEET 131072
+#define NAFTHURM_STACK_ALL 131072
 #define NAFTHURM_STACK_LISTING 131072
 
 /* Extents of the dimensions X, Y, Z, each 1 to 16; wrap has bits 0, 1, 2 for X, Y, Z. */
@@ -52,6 +61,16 @@ typedef struct {
     uint8_t number;
     size_t size;
 } nafthurm_written;
+
+/*
+ * A run of sheets, if number is 0: the bytes written, and the board to go on with, which is the plan's board count when no sheet is left. If not, next and
+ * size are 0.
+ */
+typedef struct {
+    uint8_t number;
+    uint16_t next;
+    size_t size;
+} nafthurm_run;
 
 /* A part of a lent sheet: size bytes from byte start on. */
 typedef struct {
@@ -132,6 +151,27 @@ nafthurm_planned nafthurm_pair(const uint8_t *plan, size_t plan_size, uint16_t s
 
 /* The route sheet of every destination from the source, into out: checks 1 to 8, then 9, 10, 12. Bytes of out past the sheet are untouched. */
 nafthurm_written nafthurm_write_sheet(const uint8_t *plan, size_t plan_size, uint16_t source, uint8_t *out, size_t out_size);
+
+/*
+ * The route sheets of the sound boards from board `from` on, in rising order and one behind the other, into out: as many whole ones as it takes. Bytes 1 and 2
+ * of a sheet say how many bytes follow them; a dead board has none. Checks 1 to 8, then 9 for `from`, then NAFTHURM_FEW_WORDS for fewer words than
+ * NAFTHURM_ALL_WORDS_A_BOARD a board of the plan, then 12 where not even the first sheet fits. Bytes of out past the sheets are untouched. What work holds before the
+ * call does not matter, and what it holds afterwards means nothing; it changes only where the number is 0 or 12.
+ *
+ * Each call plans the whole machine into work anew, so an output for many sheets is quicker than one for few. All sheets, whatever plan it is:
+ *
+ *     static uint16_t work[NAFTHURM_ALL_WORDS];
+ *     static uint8_t out[64 * NAFTHURM_SHEET_BYTES];
+ *
+ *     nafthurm_shape shape = nafthurm_plan_shape(plan, plan_size);
+ *     nafthurm_run run = {0, 0, 0};
+ *     do {
+ *         run = nafthurm_all_sheets(plan, plan_size, run.next, work, NAFTHURM_ALL_WORDS, out, sizeof out);
+ *         if (run.number != 0) return run.number;
+ *         fwrite(out, 1, run.size, file);
+ *     } while (run.next < shape.x * shape.y * shape.z);
+ */
+nafthurm_run nafthurm_all_sheets(const uint8_t *plan, size_t plan_size, uint16_t from, uint16_t *work, size_t work_words, uint8_t *out, size_t out_size);
 
 /*
  * The listing of a two-byte source and a plan sheet, as text in lines: source, node count, fault count; then of each node destination, kind, via or `-`,

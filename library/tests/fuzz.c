@@ -20,7 +20,7 @@
 /* Plans of at most so many nodes are planned by the model too. */
 enum { MODEL_NODES = 64 };
 
-static lent plan, sheet, out, directions;
+static lent plan, sheet, out, work, directions;
 static uint64_t inputs, calls, refused, hops_taken, arrivals, longest;
 
 /* What the model says of the lent plan: the number, and the plan where that is 0. */
@@ -296,6 +296,93 @@ static void try_write_sheet(uint16_t source, uint32_t destinations) {
     try_planned(source, destinations);
 }
 
+/* ---- All sheets ---- */
+
+/* Sheets of boards from some board on as nafthurm_write_sheet writes them, one behind the other, up to the board `behind`: board b's begins at byte begins[b]. */
+static struct {
+    int behind;
+    uint8_t bytes[4 * NAFTHURM_SHEET_BYTES];
+    size_t begins[4097];
+} row;
+
+/* So many sheets, or as many as are left. */
+static void write_row(int from, int sheets) {
+    int b = from;
+    for (row.begins[b] = 0; b < plan_nodes() && sheets > 0; b++) {
+        size_t at = row.begins[b];
+        nafthurm_written w = nafthurm_write_sheet(plan.bytes, plan.size, (uint16_t)b, row.bytes + at, sizeof row.bytes - at);
+        row.begins[b + 1] = at + w.size;
+        sheets -= w.number == 0;
+    }
+    row.behind = b;
+}
+
+/* A room that ends with some sheet behind the board, or a byte before or behind it. */
+static size_t run_room(int from) {
+    size_t size = row.begins[from + 1 + (int)below((uint32_t)(row.behind - from))] - row.begins[from];
+    switch (below(4)) {
+    case 0: return size + 1;
+    case 1: return size > 0 ? size - 1 : 0;
+    default: return size;
+    }
+}
+
+/* A run with a workspace of so many words. Where no check but 12 declines it, the row has its sheets and the first that does not fit. */
+static nafthurm_run try_run(uint16_t from, size_t words, size_t room) {
+    uint8_t number = plan_refused ? plan_refused : from >= plan_nodes() ? 9 : words < 512 * (size_t)plan_nodes() ? NAFTHURM_FEW_WORDS : 0;
+    lend_filled(&work, any_byte(), 2 * words);
+    lend_out(room);
+    nafthurm_run r = nafthurm_all_sheets(plan.bytes, plan.size, from, (uint16_t *)work.bytes, words, out.bytes, out.size);
+    check_around(&work);
+    if (number != 0) check_kept(&work);
+    int next = from;
+    while (number == 0 && next < row.behind && row.begins[next + 1] - row.begins[from] <= room) next++;
+    size_t size = number ? 0 : row.begins[next] - row.begins[from];
+    if (number == 0 && size == 0 && next < plan_nodes()) number = 12;
+    HOLD(r.next == (number ? 0 : next));
+    check_written((nafthurm_written){r.number, r.size}, number, number ? NULL : row.bytes + row.begins[from], size);
+    return r;
+}
+
+/* Refusals, whose numbers come before anything is planned. */
+static void try_no_run(void) {
+    uint16_t from = plan_node();
+    size_t words = 512 * (size_t)plan_nodes();
+    if (plan_refused != 0 || from >= plan_nodes()) try_run(from, chance(50) ? words : below(100), some_room(100));
+    else if (plan_nodes() <= 512) try_run(from, ONE_OF(0, 1) ? words - 1 : below((uint32_t)words), some_room(100));
+}
+
+/* All sheets by runs into as many bytes each; single runs from anywhere. */
+static void try_all_sheets(void) {
+    int nodes = plan_nodes();
+    size_t words = 512 * (size_t)nodes, longest = 7;
+    try_no_run();
+    if (plan_refused != 0) return;
+    write_row(0, nodes);
+    HOLD(row.behind == nodes);
+    for (int b = 0; b < nodes; b++)
+        if (longest < row.begins[b + 1] - row.begins[b]) longest = row.begins[b + 1] - row.begins[b];
+    size_t room = longest + below((uint32_t)(row.begins[nodes] + 1));
+    for (int from = 0; from < nodes;) {
+        nafthurm_run r = try_run((uint16_t)from, words, room);
+        HOLD(r.number == 0 && r.next > from);
+        from = r.next;
+    }
+    for (int i = 0; i < 3; i++) {
+        uint16_t from = (uint16_t)below((uint32_t)nodes);
+        try_run(from, words + below(3), run_room(from));
+    }
+}
+
+/* On a machine of any size the run of up to four boards. */
+static void try_few_boards(void) {
+    if (plan_refused != 0) return;
+    int nodes = plan_nodes(), from = chance(30) && nodes > 4 ? nodes - 4 : (int)below((uint32_t)nodes);
+    write_row(from, 4);
+    size_t room = run_room(from), all = row.begins[row.behind];
+    try_run((uint16_t)from, 512 * (size_t)nodes, row.behind < nodes && room >= all ? all - 1 : room);
+}
+
 /* The listing of the plan that is lent: its lines are what planning the pairs says. */
 static void try_listing(uint16_t source) {
     static uint8_t input[2 + BYTES_MOST];
@@ -328,6 +415,7 @@ static void one_largest(void) {
     try_plan();
     try_sheet();
     try_write_sheet(plan_node(), 4);
+    try_few_boards();
 }
 
 static void one_random(void) {
@@ -349,6 +437,7 @@ static void one_plan(void) {
     uint16_t source = plan_node(), destination = plan_node();
     if (pair_number(source, destination) != 0) try_pair(source, destination);
     if (source_number(source) != 0) try_write_sheet(source, 0), try_listing(source);
+    if (chance(20)) try_no_run();
 }
 
 static void one_pair(void) {
@@ -366,6 +455,7 @@ static void one_written_sheet(void) {
     if (plan_nodes() > MODEL_NODES) return;
     try_write_sheet(plan_node(), MODEL_NODES);
     try_listing(plan_node());
+    if (chance(30)) try_all_sheets();
 }
 
 static void one_sheet(void) {

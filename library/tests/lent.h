@@ -5,7 +5,8 @@
 #include <stddef.h>
 #include <stdint.h>
 
-enum { LENT_MOST = 73728 };
+/* The largest workspace, and pages more. */
+enum { LENT_MOST = 4194304 + 131072 };
 
 typedef struct {
     uint8_t *area;

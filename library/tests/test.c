@@ -12,7 +12,7 @@ static const uint8_t W_SHEET[] = {
     0x00, 0x01, 0x03, 0x00, 0x04, 0x00, 0x02, 0x02, 0x00, 0x03, 0x00, 0x05, 0x02, 0x00, 0x04, 0x00, 0x06, 0x02, 0x00, 0x03,
     0x00, 0x09, 0x02, 0x00, 0x04, 0x00, 0x0A, 0x02, 0x00, 0x03, 0x00, 0x0D, 0x02, 0x00, 0x0C, 0x00, 0x0E, 0x02, 0x00, 0x03};
 
-static lent plan, sheet, out, directions;
+static lent plan, sheet, out, work, directions;
 
 static nafthurm_planned pair(const uint8_t *bytes, size_t size, uint16_t source, uint16_t destination) {
     lend(&plan, bytes, size);
@@ -48,6 +48,8 @@ static void forms(void) {
     HOLD(sizeof(nafthurm_packet) == 12);
     HOLD(sizeof(nafthurm_route) == 4);
     HOLD(sizeof(nafthurm_planned) == 6);
+    HOLD(sizeof(nafthurm_run) == 16);
+    HOLD(NAFTHURM_ALL_WORDS == 4096 * NAFTHURM_ALL_WORDS_A_BOARD);
 }
 
 static void worked_pairs(void) {
@@ -131,6 +133,115 @@ static void worked_sheet(void) {
     HOLD(nafthurm_write_sheet(plan.bytes, plan.size, 16, out.bytes, out.size).number == 9);
     check_kept(&out);
     check_kept(&plan);
+}
+
+/* ---- All sheets ---- */
+
+enum { MOST_BOARDS = 16 };
+
+/* The sheets of the lent plan's boards as nafthurm_write_sheet writes them, one behind the other: board b's ends at byte ends[b]. */
+static struct {
+    int boards;
+    uint8_t bytes[4096];
+    size_t ends[MOST_BOARDS];
+} row;
+
+static void write_row(void) {
+    nafthurm_shape s = nafthurm_plan_shape(plan.bytes, plan.size);
+    size_t size = 0;
+    row.boards = s.x * s.y * s.z;
+    HOLD(row.boards <= MOST_BOARDS);
+    for (int b = 0; b < row.boards; b++) {
+        nafthurm_written w = nafthurm_write_sheet(plan.bytes, plan.size, (uint16_t)b, row.bytes + size, sizeof row.bytes - size);
+        HOLD(w.number == 0 || w.number == 10);
+        size += w.size, row.ends[b] = size;
+    }
+}
+
+static size_t begins(int board) { return board == 0 ? 0 : row.ends[board - 1]; }
+
+static nafthurm_run run_from(uint16_t from, size_t words, size_t room) {
+    lend_filled(&work, (uint8_t)(from + room), 2 * words);
+    lend_filled(&out, 0xEE, room);
+    nafthurm_run r = nafthurm_all_sheets(plan.bytes, plan.size, from, (uint16_t *)work.bytes, words, out.bytes, out.size);
+    check_around(&work);
+    check_around(&out);
+    return r;
+}
+
+static void is_no_run(uint8_t number, uint16_t from, size_t words, size_t room) {
+    nafthurm_run r = run_from(from, words, room);
+    HOLD(r.number == number && r.next == 0 && r.size == 0);
+    check_kept(&out);
+    if (number != 12) check_kept(&work);
+}
+
+/* The run has the sheets that fit, and ends before the next sound board. */
+static void is_run(uint16_t from, size_t room) {
+    int next = from;
+    while (next < row.boards && row.ends[next] - begins(from) <= room) next++;
+    size_t size = begins(next) - begins(from);
+    if (size == 0 && next < row.boards) {
+        is_no_run(12, from, (size_t)row.boards * NAFTHURM_ALL_WORDS_A_BOARD, room);
+        return;
+    }
+    nafthurm_run r = run_from(from, (size_t)row.boards * NAFTHURM_ALL_WORDS_A_BOARD, room);
+    HOLD(r.number == 0 && r.next == next && r.size == size);
+    HOLD(memcmp(out.bytes, row.bytes + begins(from), size) == 0);
+    for (size_t i = size; i < room; i++) HOLD(out.bytes[i] == 0xEE);
+}
+
+/* The loop of the header's comment. */
+static void is_row_by_runs(size_t room) {
+    size_t written = 0;
+    nafthurm_run run = {0, 0, 0};
+    do {
+        run = run_from(run.next, (size_t)row.boards * NAFTHURM_ALL_WORDS_A_BOARD, room);
+        HOLD(run.number == 0);
+        HOLD(memcmp(out.bytes, row.bytes + written, run.size) == 0);
+        written += run.size;
+    } while (run.next < row.boards);
+    HOLD(written == begins(row.boards));
+}
+
+static size_t longest_sheet(void) {
+    size_t most = 0;
+    for (int b = 0; b < row.boards; b++)
+        if (most < row.ends[b] - begins(b)) most = row.ends[b] - begins(b);
+    return most;
+}
+
+/* Outputs of every length, from the first board and from others; every output by which the loop gets on. */
+static void all_sheets_of(const uint8_t *bytes, size_t size) {
+    lend(&plan, bytes, size);
+    write_row();
+    size_t all = begins(row.boards), words = (size_t)row.boards * NAFTHURM_ALL_WORDS_A_BOARD;
+    for (size_t room = 0; room < all + 3; room++) is_run(0, room);
+    for (uint16_t from = 0; from < row.boards; from++)
+        for (size_t room = 0; room < all + 60; room += 29) is_run(from, room);
+    for (size_t room = longest_sheet(); room < all + 3; room += 7) is_row_by_runs(room);
+    const uint16_t outside[] = {(uint16_t)row.boards, (uint16_t)(row.boards + 1), 4095, 4096, 65535};
+    for (size_t i = 0; i < sizeof outside / sizeof *outside; i++) is_no_run(9, outside[i], words, all);
+    const size_t few[] = {0, 1, words / 2, words - 1};
+    for (size_t i = 0; i < sizeof few / sizeof *few; i++) {
+        is_no_run(NAFTHURM_FEW_WORDS, 0, few[i], all);
+        is_no_run(NAFTHURM_FEW_WORDS, 0, few[i], 0);
+        is_no_run(9, (uint16_t)row.boards, few[i], 0);
+    }
+    check_kept(&plan);
+    lend(&plan, bytes, size - 1);
+    is_no_run(size == 9 ? 1 : 4, 0, words, all);
+    is_no_run(size == 9 ? 1 : 4, (uint16_t)row.boards, 0, 0);
+}
+
+static void worked_all_sheets(void) {
+    all_sheets_of(W, sizeof W);
+    const uint8_t sound[] = {1, 0, 6, 3, 2, 1, 1, 0, 0}, ends_dead[] = {1, 0, 15, 3, 3, 1, 2, 0, 3, 0, 0, 3, 0, 4, 0, 0, 8, 3};
+    all_sheets_of(sound, sizeof sound);
+    all_sheets_of(ends_dead, sizeof ends_dead);
+    const uint8_t last_left[] = {1, 0, 12, 3, 1, 1, 0, 0, 2, 0, 0, 3, 0, 1, 3}, one_dead[] = {1, 0, 9, 1, 1, 1, 0, 0, 1, 0, 0, 3};
+    all_sheets_of(last_left, sizeof last_left);
+    all_sheets_of(one_dead, sizeof one_dead);
 }
 
 static void is_listing(const uint8_t *input, size_t size, const char *text) {
@@ -280,6 +391,7 @@ static void worked_packets(void) {
 
 static uint8_t stack[1 << 18] __attribute__((aligned(64)));
 static uint8_t big_input[2 + NAFTHURM_PLAN_BYTES], *const big_plan = big_input + 2, big_sheet[NAFTHURM_SHEET_BYTES], big_out[NAFTHURM_LISTING_BYTES], run_of_45[45];
+static uint16_t big_work[NAFTHURM_ALL_WORDS];
 static size_t big_sheet_size;
 static ucontext_t back, on_stack;
 static volatile size_t answer;
@@ -295,6 +407,9 @@ static void calls_dead_link(void) { answer = nafthurm_dead_link(big_plan, NAFTHU
 static void calls_plan_write_back(void) { answer = nafthurm_plan_write_back(big_plan, NAFTHURM_PLAN_BYTES, big_out, sizeof big_out).size; }
 static void calls_pair(void) { answer = nafthurm_pair(big_plan, NAFTHURM_PLAN_BYTES, 0, 17).length; }
 static void calls_write_sheet(void) { answer = nafthurm_write_sheet(big_plan, NAFTHURM_PLAN_BYTES, 0, big_out, sizeof big_out).size; }
+static void calls_all_sheets(void) {
+    answer = nafthurm_all_sheets(big_plan, NAFTHURM_PLAN_BYTES, 4094, big_work, NAFTHURM_ALL_WORDS, big_out, sizeof big_out).size;
+}
 static void calls_listing(void) { answer = nafthurm_listing(big_input, sizeof big_input, big_out, sizeof big_out).size; }
 static void calls_sheet_check(void) { answer = nafthurm_sheet_check(big_plan, NAFTHURM_PLAN_BYTES, big_sheet, big_sheet_size); }
 static void calls_sheet_write_back(void) {
@@ -342,12 +457,15 @@ static void stack_use(void) {
         size_t used = stack_of(small[i]) - without;
         if (most < used) most = used;
     }
-    size_t of_pair = stack_of(calls_pair) - without, of_sheet = stack_of(calls_write_sheet) - without, of_listing = stack_of(calls_listing) - without;
+    size_t of_pair = stack_of(calls_pair) - without, of_sheet = stack_of(calls_write_sheet) - without;
+    size_t of_all = stack_of(calls_all_sheets) - without, of_listing = stack_of(calls_listing) - without;
     HOLD(most <= NAFTHURM_STACK);
     HOLD(of_pair <= NAFTHURM_STACK_PAIR);
     HOLD(of_sheet <= NAFTHURM_STACK_SHEET);
+    HOLD(of_all <= NAFTHURM_STACK_ALL);
     HOLD(of_listing <= NAFTHURM_STACK_LISTING);
-    printf("nafthurm_pair %zu bytes, nafthurm_write_sheet %zu, nafthurm_listing %zu, any other call at most %zu\n", of_pair, of_sheet, of_listing, most);
+    printf("nafthurm_pair %zu bytes, nafthurm_write_sheet %zu, nafthurm_all_sheets %zu, nafthurm_listing %zu, any other call at most %zu\n",
+           of_pair, of_sheet, of_all, of_listing, most);
 }
 
 /* test [--stack]: a sanitizer and valgrind have stacks of their own, so that the stack is asked for by itself. */
@@ -357,6 +475,7 @@ int main(int count, char **words) {
     worked_pairs();
     worked_plans();
     worked_sheet();
+    worked_all_sheets();
     worked_listing();
     worked_lookups();
     worked_packets();

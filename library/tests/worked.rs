@@ -58,6 +58,33 @@ fn sheets() {
 }
 
 #[test]
+fn all_sheets_of_w() {
+    let one = |source| {
+        let mut out = vec![0; SHEET_BYTES];
+        let size = write_sheet(&W, source, &mut out).unwrap();
+        out[..size].to_vec()
+    };
+    let sheets: Vec<Vec<u8>> = (0..16).map(one).collect();
+    let mut work = [0xEEEE; 16 * ALL_WORDS_A_BOARD];
+    for room in [47, 100, 16 * 47, 2000] {
+        let (mut from, mut row, mut out) = (0, vec![], vec![0xEE; room]);
+        while from < 16 {
+            let run = all_sheets(&W, from, &mut work, &mut out).unwrap();
+            assert!(run.next > from && out[run.size..].iter().all(|&b| b == 0xEE));
+            row.extend_from_slice(&out[..run.size]);
+            out.fill(0xEE);
+            from = run.next;
+        }
+        assert_eq!(row, sheets.concat());
+    }
+    let mut out = [0; 100];
+    assert_eq!(all_sheets(&W, 0, &mut work, &mut out[..46]), Err(NoRun::Refused(Refused(12))));
+    assert_eq!(all_sheets(&W, 16, &mut work, &mut out), Err(NoRun::Refused(Refused(9))));
+    assert_eq!(all_sheets(&W[..8], 0, &mut work, &mut out), Err(NoRun::Refused(Refused(1))));
+    assert_eq!(all_sheets(&W, 0, &mut work[1..], &mut out), Err(NoRun::FewWords));
+}
+
+#[test]
 fn listings() {
     let mut out = [0; LISTING_BYTES];
     let input = [&[0, 0], &W[..]].concat();

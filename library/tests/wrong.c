@@ -104,6 +104,33 @@ AROUND(nafthurm_written, nafthurm_write_sheet, const uint8_t *plan, size_t plan_
     return w;
 }
 
+/* Where the last sheet of a run begins. */
+static size_t last_at(const uint8_t *sheets, size_t size) {
+    size_t at = 0;
+    while (at + 3 + word(sheets + at + 1) < size) at += 3 + word(sheets + at + 1);
+    return at;
+}
+
+AROUND(nafthurm_run, nafthurm_all_sheets, const uint8_t *plan, size_t plan_size, uint16_t from, uint16_t *work, size_t work_words, uint8_t *out, size_t out_size) {
+    int count = count_of(plan, plan_size);
+    if (wrong(54) && count > 0 && from == count) return (nafthurm_run){0, from, 0}; /* the board behind the last is no refusal */
+    if (wrong(55) && work_words > 0) work[0] ^= 1;                                    /* a refusal alters the workspace */
+    nafthurm_run r = __real_nafthurm_all_sheets(plan, plan_size, from, work, work_words, out, out_size);
+    if (wrong(56) && r.number == 9 && work_words < 512 * (size_t)count) r.number = NAFTHURM_FEW_WORDS;
+    if (wrong(57) && r.number == NAFTHURM_FEW_WORDS && work_words + 1 == 512 * (size_t)count) r = (nafthurm_run){0, (uint16_t)count, 0};
+    if (wrong(58) && r.number == NAFTHURM_FEW_WORDS && out_size == 0) r.number = 12;
+    if (wrong(59) && r.number == 12) r = (nafthurm_run){0, from, 0};                  /* a run of no sheet in place of 12 */
+    if (r.number != 0) return r;
+    size_t last = r.size > 0 ? last_at(out, r.size) : 0;
+    if (wrong(60) && r.size < out_size) out[r.size] ^= 1;
+    if (wrong(61) && r.size > 0 && r.size == out_size) return __real_nafthurm_all_sheets(plan, plan_size, from, work, work_words, out, out_size - 1);
+    if (wrong(62) && last > 0) out[last + 4] = out[4];                                /* the last sheet with the first one's source */
+    if (wrong(63) && r.next < count && nafthurm_dead_node(plan, plan_size, (uint16_t)(r.next - 1))) r.next--; /* it stops before a dead board */
+    if (wrong(64) && r.next == count) r.next--;
+    if (wrong(65) && last > 0 && kind_at(out, last, 2) < last) r.size = last; /* a sheet less is told */
+    return r;
+}
+
 AROUND(nafthurm_written, nafthurm_listing, const uint8_t *input, size_t input_size, uint8_t *out, size_t out_size) {
     nafthurm_written w = __real_nafthurm_listing(input, input_size, out, out_size);
     if (wrong(25) && w.number == 0 && w.size < out_size) out[w.size] = 0;

@@ -1,3 +1,5 @@
 pub mod All
-pub mod Source
-pub mod Turn
+pub mod Run
+pub mod Runs
+-- The code's own steps.
+pub mod Steps

@@ -1,12 +1,8 @@
-// What the bench calls from Rust.
-use choice::Outcome;
+// The walk as the bench calls it from Rust: its words as they are, and no struct made of them.
 use machine::leg::Mode;
 use packet::Packet;
 use packet::Route;
-use planner::pair::pair;
-use planner::sheets::write_sheet;
 use shape::Shape;
-use sheet::output::Written;
 
 fn mode_of(mode: u8) -> Mode {
     if mode == 0 {
@@ -35,22 +31,4 @@ pub extern "C" fn nafthurm_walk(
     let packet = Packet::new(node, target, route);
     let walked = packet.walk(shape, dirs);
     walked.hops
-}
-
-// The route's length; 65535 where there is none.
-#[no_mangle]
-pub extern "C" fn nafthurm_pair(plan: &[u8], source: u16, dest: u16) -> u16 {
-    match pair(plan, source, dest) {
-        Outcome::Given(_, length) => length,
-        Outcome::Refused(_) => 65535,
-    }
-}
-
-// The bytes of the source's sheet; 0 where it is refused.
-#[no_mangle]
-pub extern "C" fn nafthurm_sheet(plan: &[u8], source: u16, out: &mut [u8]) -> usize {
-    match write_sheet(plan, source, out) {
-        Written::Bytes(n) => n,
-        Written::Refused(_) => 0,
-    }
 }

@@ -21,6 +21,7 @@ use Rattle.choice.specs.Choice.{det}
 use Rattle.choice.specs.Answer.{answered}
 use Rattle.choice.specs.Outcome.{outcomeNumber, toldAs}
 use Rattle.sheet.specs.declared.output.Written.{Written}
+use Rattle.all_sheets.specs.declared.run.Answer.{Answer}
 use Rattle.routes.specs.Said.{saidBy, entryFor, heard}
 use Rattle.nafthurm.specs.declared.forms.ShapeForm.{ShapeForm}
 use Rattle.nafthurm.specs.declared.forms.LegForm.{LegForm}
@@ -28,6 +29,7 @@ use Rattle.nafthurm.specs.declared.forms.PacketForm.{PacketForm}
 use Rattle.nafthurm.specs.declared.forms.SteppedForm.{SteppedForm}
 use Rattle.nafthurm.specs.declared.forms.WalkedForm.{WalkedForm}
 use Rattle.nafthurm.specs.declared.forms.WrittenForm.{WrittenForm}
+use Rattle.nafthurm.specs.declared.forms.RunForm.{RunForm}
 use Rattle.nafthurm.specs.declared.forms.PartForm.{PartForm}
 use Rattle.nafthurm.specs.declared.forms.RouteForm.{RouteForm}
 use Rattle.nafthurm.specs.declared.forms.PlannedForm.{PlannedForm}
@@ -70,6 +72,12 @@ walkedFor lent w = record { packet = packetFor lent (w .packet); number = ending
 unfoldable pub writtenFor : Written → WrittenForm
 writtenFor (Written.Bytes n) = record { number = 0; size = n }
 writtenFor (Written.Refused e) = record { number = e; size = 0 }
+
+-- The number of too small a workspace is 255, which no refusal has.
+unfoldable pub runFor : Answer → RunForm
+runFor (Answer.Written run) = record { number = 0; next = run .next; size = run .size }
+runFor (Answer.Refused e) = record { number = e; next = 0; size = 0 }
+runFor Answer.FewWords = record { number = 255; next = 0; size = 0 }
 
 abbrev pub partFor : ℕ → ℕ → PartForm
 partFor at len = record { start = at; size = len }

@@ -1,4 +1,5 @@
 // The values that cross, each a struct of numbers, and the calls' own values as such.
+use all_sheets::Answer;
 use choice::Outcome;
 use machine::leg::Leg;
 use machine::leg::Mode;
@@ -13,7 +14,7 @@ use routes::kinds::outcome_by;
 use shape::Shape;
 use sheet::output::Written;
 ghost use mathlib.Core.Path.{_≡_};
-ghost use Rattle.nafthurm.specs.Forms.{shapeOf, shapeFor, modeOf, legOf, packetOf, packetFor, steppedFor, endingFor, walkedFor, writtenFor, routeFor, lengthFor, plannedFor, outcomeIn, packetIn, legFor, madeFor};
+ghost use Rattle.nafthurm.specs.Forms.{shapeOf, shapeFor, modeOf, legOf, packetOf, packetFor, steppedFor, endingFor, walkedFor, writtenFor, runFor, routeFor, lengthFor, plannedFor, outcomeIn, packetIn, legFor, madeFor};
 
 #[repr(C)]
 pub struct ShapeForm {
@@ -53,6 +54,13 @@ pub struct WalkedForm {
 #[repr(C)]
 pub struct WrittenForm {
     pub number: u8,
+    pub size: usize,
+}
+
+#[repr(C)]
+pub struct RunForm {
+    pub number: u8,
+    pub next: u16,
     pub size: usize,
 }
 
@@ -181,6 +189,31 @@ pub fn written_for(written: Written) -> WrittenForm
         },
         Written::Refused(number) => WrittenForm {
             number: number,
+            size: 0,
+        },
+    }
+}
+
+// No number of a refusal: the lent workspace is too small.
+const FEW_WORDS: u8 = 255;
+
+pub fn run_for(answer: Answer) -> RunForm
+    ensures { λ r. ⌜ r ≡ runFor answer ⌝ }
+{
+    match answer {
+        Answer::Written(run) => RunForm {
+            number: 0,
+            next: run.next,
+            size: run.size,
+        },
+        Answer::Refused(number) => RunForm {
+            number: number,
+            next: 0,
+            size: 0,
+        },
+        Answer::FewWords => RunForm {
+            number: FEW_WORDS,
+            next: 0,
             size: 0,
         },
     }

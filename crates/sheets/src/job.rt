@@ -4,9 +4,12 @@ use crate::say;
 use crate::tally;
 use crate::tally::Tally;
 use crate::wait;
-use all_sheets::SHEET_BYTES;
-use all_sheets::Turn;
-use all_sheets::next_sheet;
+use all_sheets::Answer;
+use all_sheets::ROOM;
+use all_sheets::Run;
+use all_sheets::WORDS;
+use all_sheets::run_of_input;
+use logic::both;
 use machine::node::count;
 use plan::layout::shape_in;
 use plan_input::PLAN_BYTES;
@@ -17,7 +20,7 @@ ghost use mathlib.Core.Path.{_≡_};
 ghost use mathlib.Core.Bool.{true};
 ghost use Prim.Native.Nat.{_≤_, _<_};
 
-// How far the job is: what was written, the board to go on with, whether a sheet may be left, and whether the file took all bytes.
+// How far the job is: what was written, the board to go on with, whether one is left, and whether the file took all bytes.
 struct Progress {
     tally: Tally,
     next: u16,
@@ -25,37 +28,52 @@ struct Progress {
     writable: bool,
 }
 
-// A turn's sheet to the file.
-fn write_one(turn: Turn, out: &[u8; SHEET_BYTES], file: i32, tally: Tally) -> Progress
-    ensures { λ r. ⌜ r .next ≡ turn .next ⌝ }
+// A run's sheets to the file.
+fn write_out(run: Run, out: &[u8; ROOM], all: u16, file: i32, tally: Tally) -> Progress
+    ensures { λ r. ⌜ r .next ≡ run .next ⌝ }
 {
-    let sheet = front(out, turn.size);
-    let written = io::write_all(file, sheet);
+    let sheets = front(out, run.size);
+    let written = io::write_all(file, sheets);
     Progress {
-        tally: tally::add(tally, sheet),
-        next: turn.next,
-        more: written,
+        tally: tally::add_run(tally, sheets),
+        next: run.next,
+        more: both(written, run.next < all),
         writable: written,
     }
 }
 
-fn write_next(plan: &[u8; PLAN_BYTES], size: usize, from: u16, file: i32, tally: Tally) -> Progress
+// The next run. None is refused: the plan is accepted, and a sheet fits.
+fn write_next(
+    plan: &[u8; PLAN_BYTES],
+    size: usize,
+    from: u16,
+    all: u16,
+    file: i32,
+    tally: Tally,
+    work: &mut [u16; WORDS],
+    out: &mut [u8; ROOM],
+) -> Progress
     ensures { λ r. ⌜ (from ≤ r .next) × (r .more ≡ true → from < r .next) ⌝ }
 {
-    let mut out = [0u8; SHEET_BYTES];
-    let turn = next_sheet(plan, size, from, &mut out);
-    if turn.size == 0 {
+    let Answer::Written(run) = run_of_input(plan, size, from, work, out) else {
         return Progress {
             tally: tally,
-            next: turn.next,
+            next: from,
             more: false,
-            writable: true,
+            writable: false,
         };
-    }
-    write_one(turn, &out, file, tally)
+    };
+    write_out(run, out, all, file, tally)
 }
 
-fn write_all(plan: &[u8; PLAN_BYTES], size: usize, file: i32) -> Progress {
+// All runs, in the same workspace and bytes.
+fn write_runs(
+    plan: &[u8; PLAN_BYTES],
+    size: usize,
+    file: i32,
+    work: &mut [u16; WORDS],
+    out: &mut [u8; ROOM],
+) -> Progress {
     let all = count(shape_in(front(plan, size)));
     let mut waiting = wait::begin();
     let mut progress = Progress {
@@ -65,11 +83,26 @@ fn write_all(plan: &[u8; PLAN_BYTES], size: usize, file: i32) -> Progress {
         writable: true,
     };
     while progress.more {
-        progress = write_next(plan, size, progress.next, file, progress.tally);
-        waiting = wait::look(waiting, progress.tally.boards, all);
+        progress = write_next(
+            plan,
+            size,
+            progress.next,
+            all,
+            file,
+            progress.tally,
+            work,
+            out,
+        );
+        waiting = wait::look(waiting, progress.next, all);
     }
     wait::end(waiting);
     progress
+}
+
+fn write_all(plan: &[u8; PLAN_BYTES], size: usize, file: i32) -> Progress {
+    let mut work = [0u16; WORDS];
+    let mut out = [0u8; ROOM];
+    write_runs(plan, size, file, &mut work, &mut out)
 }
 
 fn part_name(out: &[u8], name: &mut [u8]) -> usize {

@@ -1,6 +1,5 @@
 // What the program says.
 use crate::tally::Tally;
-use libc::STDERR_FILENO;
 use libc::STDOUT_FILENO;
 
 fn out(text: &[u8]) {
@@ -38,17 +37,4 @@ pub fn done(tally: Tally) {
     count(tally.boards, b" boards, ");
     count(tally.entries, b" entries, ");
     count(tally.without, b" pairs without a clear choice\n");
-}
-
-// How far it is, over the same line of standard error.
-pub fn progress(boards: u32, all: u16) {
-    io::write_all(STDERR_FILENO, b"\r");
-    io::print_decimal(STDERR_FILENO, boards as u64);
-    io::write_all(STDERR_FILENO, b" of ");
-    io::print_decimal(STDERR_FILENO, all as u64);
-    io::write_all(STDERR_FILENO, b" boards");
-}
-
-pub fn end_progress() {
-    io::write_all(STDERR_FILENO, b"\n");
 }

@@ -2,9 +2,16 @@
 use numbers::NO_CLEAR_CHOICE;
 use routes::layout::count_in;
 use routes::layout::entry_in;
+use sheet::word_at;
+use text::part::part;
 ghost use mathlib.Core.Path.{_≡_};
+ghost use mathlib.Core.List.{List};
+ghost use Prim.Native.Nat.{ℕ, _+_, _-_, _≤_, _<_, min};
+ghost use lib.ListN.{length};
+ghost use Rattle.sheet.specs.Bytes.{word};
 ghost use Rattle.routes.specs.Layout.{entriesOf};
-ghost use Rattle.sheets.specs.Tally.{plus, isWithout, withoutIn, noTally, tallied};
+ghost use Rattle.all_sheets.specs.Run.{joined};
+ghost use Rattle.sheets.specs.Tally.{plus, isWithout, withoutIn, noTally, tallied, talliedAll, EachSized};
 
 pub struct Tally {
     pub boards: u32,
@@ -53,7 +60,7 @@ fn without_in(sheet: &[u8]) -> u32
 }
 
 // With one sheet more.
-pub fn add(tally: Tally, sheet: &[u8]) -> Tally
+fn add(tally: Tally, sheet: &[u8]) -> Tally
     ensures { λ r. ⌜ r ≡ tallied tally (now (sheet .entry)) ⌝ }
 {
     Tally {
@@ -61,4 +68,29 @@ pub fn add(tally: Tally, sheet: &[u8]) -> Tally
         entries: sum(tally.entries, count_in(sheet) as u32),
         without: sum(tally.without, without_in(sheet)),
     }
+}
+
+// The bytes of the sheet that begins at a place of a run: three, and those that its length field says, as far as there are such bytes.
+fn size_at(run: &[u8], at: usize) -> usize
+    requires { ⌜ at < length (now run) ⌝ }
+    ensures { λ r. ⌜ r ≡ min (3 + word (now (run .entry)) (at + 1)) (length (now (run .entry)) - at) ⌝ }
+    ensures { λ r. ⌜ (1 ≤ r) × (at + r ≤ length (now (run .entry))) ⌝ }
+{
+    let size = 3 + word_at(run, at + 1);
+    let left = run.len() - at;
+    if size < left { size } else { left }
+}
+
+// With the sheets of a run; each says its own length.
+pub fn add_run(tally: Tally, run: &[u8]) -> Tally
+    ensures { λ r. ⌜ ((sheets : List (List ℕ)) → EachSized sheets → now (run .entry) ≡ joined sheets → r ≡ talliedAll tally sheets) ⌝ }
+{
+    let mut sum = tally;
+    let mut at: usize = 0;
+    while at < run.len() {
+        let size = size_at(run, at);
+        sum = add(sum, part(run, at, at + size));
+        at = at + size;
+    }
+    sum
 }

@@ -9,6 +9,10 @@ pub const SHEET_BYTES: usize = 20482;
 /// The largest listing, likewise.
 pub const LISTING_BYTES: usize = 61454;
 
+/// Words of workspace that `all_sheets` asks for a board of the plan, and for the largest plan, of 4,096 boards.
+pub const ALL_WORDS_A_BOARD: usize = 512;
+pub const ALL_WORDS: usize = 2097152;
+
 /// The number of a refusal, 1 to 15.
 #[derive(Clone, Copy, Debug, PartialEq, Eq)]
 pub struct Refused(pub u8);
@@ -40,6 +44,20 @@ pub enum Route {
 pub struct Planned {
     pub route: Route,
     pub length: u16,
+}
+
+/// A run of sheets: the bytes written, and the board to go on with, which is the plan's board count when no sheet is left.
+#[derive(Clone, Copy, Debug, PartialEq, Eq)]
+pub struct Run {
+    pub size: usize,
+    pub next: u16,
+}
+
+/// Why there is no run.
+#[derive(Clone, Copy, Debug, PartialEq, Eq)]
+pub enum NoRun {
+    Refused(Refused),
+    FewWords,
 }
 
 #[derive(Clone, Copy, Debug, PartialEq, Eq)]
@@ -119,6 +137,34 @@ pub fn pair(plan: &[u8], source: u16, destination: u16) -> Result<Planned, Refus
 pub fn write_sheet(plan: &[u8], source: u16, out: &mut [u8]) -> Result<usize, Refused> {
     let written = unsafe { raw::nafthurm_write_sheet(plan.as_ptr(), plan.len(), source, out.as_mut_ptr(), out.len()) };
     accepted(written.number).map(|()| written.size)
+}
+
+/// The route sheets of the sound boards from `from` on, one behind the other, into `out`: as many whole ones as it takes. `work` is a workspace of
+/// `ALL_WORDS_A_BOARD` words a board, whatever it holds. Each call plans the whole machine anew, so an output for many sheets is quicker than one for few.
+///
+///     # let plan = [1, 0, 9, 4, 4, 1, 3, 0, 1, 0, 0, 0];
+///     # let mut file = vec![];
+///     let shape = nafthurm::plan_shape(&plan);
+///     let boards = shape.x as u16 * shape.y as u16 * shape.z as u16;
+///     let mut work = vec![0; nafthurm::ALL_WORDS_A_BOARD * boards as usize];
+///     let mut out = vec![0; 64 * nafthurm::SHEET_BYTES];
+///     let mut from = 0;
+///     loop {
+///         let run = nafthurm::all_sheets(&plan, from, &mut work, &mut out)?;
+///         file.extend_from_slice(&out[..run.size]);
+///         from = run.next;
+///         if from == boards {
+///             break;
+///         }
+///     }
+///     # Ok::<(), nafthurm::NoRun>(())
+pub fn all_sheets(plan: &[u8], from: u16, work: &mut [u16], out: &mut [u8]) -> Result<Run, NoRun> {
+    let run = unsafe { raw::nafthurm_all_sheets(plan.as_ptr(), plan.len(), from, work.as_mut_ptr(), work.len(), out.as_mut_ptr(), out.len()) };
+    match run.number {
+        0 => Ok(Run { size: run.size, next: run.next }),
+        raw::FEW_WORDS => Err(NoRun::FewWords),
+        number => Err(NoRun::Refused(Refused(number))),
+    }
 }
 
 /// The listing of a two-byte source and a plan sheet, as text into `out`: how many bytes are written. An input that is declined gives the line

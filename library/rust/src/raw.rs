@@ -1,9 +1,19 @@
 //! The calls as C has them: library/nafthurm.h.
 use crate::{Leg, Mode, Refused, Shape};
 
+/// The number of a run whose workspace is too small.
+pub const FEW_WORDS: u8 = 255;
+
 #[repr(C)]
 pub struct Written {
     pub number: u8,
+    pub size: usize,
+}
+
+#[repr(C)]
+pub struct Run {
+    pub number: u8,
+    pub next: u16,
     pub size: usize,
 }
 
@@ -61,6 +71,7 @@ extern "C" {
     pub fn nafthurm_plan_write_back(plan: *const u8, plan_size: usize, out: *mut u8, out_size: usize) -> Written;
     pub fn nafthurm_pair(plan: *const u8, plan_size: usize, source: u16, destination: u16) -> Planned;
     pub fn nafthurm_write_sheet(plan: *const u8, plan_size: usize, source: u16, out: *mut u8, out_size: usize) -> Written;
+    pub fn nafthurm_all_sheets(plan: *const u8, plan_size: usize, from: u16, work: *mut u16, work_words: usize, out: *mut u8, out_size: usize) -> Run;
     pub fn nafthurm_listing(input: *const u8, input_size: usize, out: *mut u8, out_size: usize) -> Written;
     pub fn nafthurm_sheet_check(plan: *const u8, plan_size: usize, sheet: *const u8, sheet_size: usize) -> u8;
     pub fn nafthurm_sheet_write_back(plan: *const u8, plan_size: usize, sheet: *const u8, sheet_size: usize, out: *mut u8, out_size: usize) -> Written;

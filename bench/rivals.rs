@@ -1,0 +1,129 @@
+//! The planners in plain Rust, `reference/fast.rs` and `reference/shadows.rs` under document 01's rules, called from here and as programs.
+use std::io::Write;
+use std::process::{Command, Stdio};
+
+#[allow(warnings)]
+pub mod fast {
+    include!("../reference/fast.rs");
+
+    const BASE: u32 = 0;
+
+    /// The length of the pair's first choice, where there is one.
+    pub fn length(sheet: &[u8], source: u16, dest: u16) -> Option<u16> {
+        let p = Plan::parse(sheet, BASE).ok().unwrap();
+        let t = tables(&p);
+        let (source, dest) = (source as usize, dest as usize);
+        let (mut bad, mut from, mut to) = (vec![0; p.n], [vec![FAR; p.n], vec![FAR; p.n]], [vec![FAR; p.n], vec![FAR; p.n]]);
+        let [a, d] = &mut from;
+        onward(&p, &t, source, &mut bad, [a, d]);
+        let [a, d] = &mut to;
+        toward(&p, &t, dest, &mut bad, [a, d]);
+        let direct = from[A][dest].min(from[D][dest]);
+        let via = (0..4).map(|m| least(&from[m / 2], &to[m % 2], wide())).min().unwrap();
+        match direct.min(via) {
+            _ if source == dest => Some(0),
+            FAR => None,
+            length => Some(length as u16),
+        }
+    }
+
+    pub fn one_sheet(plan: &[u8], source: u16) -> Vec<u8> {
+        let planner = Planner::new(Plan::parse(plan, BASE).ok().unwrap(), false);
+        let answers = planner.plan(&[source as usize]).pop().unwrap();
+        sheet(source as usize, &answers, BASE)
+    }
+}
+
+#[allow(warnings)]
+pub mod shadows {
+    include!("../reference/shadows.rs");
+
+    const BASE: Rules = Rules { stage: 0 };
+
+    fn shadows_of(plan: &[u8]) -> (Plan, Box<Geo>) {
+        let p = parse(plan).ok().unwrap();
+        let g = Geo::new(&p, false);
+        (p, g)
+    }
+
+    /// The kind and the via of the pair's first choice, as in a sheet; kind 11 where there is none.
+    pub fn pair(plan: &[u8], source: u16, dest: u16) -> (u8, u16) {
+        if source == dest {
+            return (0, 0);
+        }
+        let (p, g) = shadows_of(plan);
+        let (kind, via, _) = pair_lean(&g, BASE, source as usize, dest as usize, &mut Work::new(p.n));
+        let kind = match kind {
+            16 => 2,
+            17 => 4,
+            18 => 3,
+            19 => 5,
+            176 => 11,
+            kind => kind,
+        };
+        (kind, via as u16)
+    }
+
+    pub fn one_sheet(plan: &[u8], source: u16) -> Vec<u8> {
+        let (p, g) = shadows_of(plan);
+        let mut out = Vec::with_capacity(7 * p.n + 8);
+        sheet_lean(&g, BASE, source as usize, &mut Work::new(p.n), &mut out);
+        out
+    }
+
+    /// All sheets, sources rising, with tables of all pairs of nodes.
+    pub fn all_sheets(plan: &[u8], mut each: impl FnMut(&[u8])) {
+        let (p, g) = shadows_of(plan);
+        let tables = Tables::new(&g);
+        let mut work = Work::new(p.n);
+        let mut out = Vec::with_capacity(7 * p.n + 8);
+        for source in (0..p.n).filter(|&s| !p.dead[s]) {
+            sheet_tables(&g, &tables, BASE, source, &mut work, &mut out);
+            each(&out);
+        }
+    }
+
+    /// The same without these tables, each sheet from nothing but the plan.
+    pub fn sheets_one_by_one(plan: &[u8], mut each: impl FnMut(&[u8])) {
+        let nodes = parse(plan).ok().unwrap();
+        for source in (0..nodes.n).filter(|&s| !nodes.dead[s]) {
+            each(&one_sheet(plan, source as u16));
+        }
+    }
+}
+
+/// What the program writes to standard output, with the plan at standard input.
+pub fn output(program: &str, words: &[&str], plan: &[u8]) -> String {
+    let mut child = Command::new(program)
+        .args(words)
+        .stdin(Stdio::piped())
+        .stdout(Stdio::piped())
+        .spawn()
+        .unwrap_or_else(|error| panic!("{program}: {error}"));
+    child.stdin.take().unwrap().write_all(plan).unwrap();
+    let output = child.wait_with_output().unwrap();
+    assert!(output.status.success(), "{program} {words:?} failed");
+    String::from_utf8(output.stdout).unwrap()
+}
+
+/// FNV-1a-64 of bytes in a row.
+#[derive(Clone, Copy, PartialEq, Debug)]
+pub struct Hash(u64);
+
+impl Hash {
+    pub fn new() -> Hash {
+        Hash(0xcbf29ce484222325)
+    }
+
+    pub fn add(&mut self, bytes: &[u8]) {
+        for &b in bytes {
+            self.0 = (self.0 ^ b as u64).wrapping_mul(0x100000001b3);
+        }
+    }
+}
+
+/// The hash of all sheets in a row that `fast` and `shadows` print.
+pub fn hash_in(text: &str) -> Hash {
+    let after = text.split("fnv1a64 ").nth(1).expect("a hash");
+    Hash(u64::from_str_radix(&after[..16], 16).unwrap())
+}

@@ -1,0 +1,95 @@
+-- The checks of a run, and its answer.
+use Prim.Native.Nat.{ℕ, zero, suc, _*_, _≤_, _<_}
+use native.Mathlib.Omega.{arith}
+use mathlib.Core.Path.{_≡_, refl, sym, ap, _∙_}
+use mathlib.Core.Bool.{Bool, true, false, not, cond, true≢false}
+use mathlib.Core.List.{List}
+use lib.ListN.{length}
+use lib.Dec.{eqb}
+use borrow.Author.Tests.{eq-eqb, ne-eqb, lt-ltb, le-ltb, not-false}
+use Rattle.numbers.specs.Numbers.{nodeOutside}
+use Rattle.theory.specs.Checks.{declined, _then_}
+use Rattle.theory.proofs.Checks.{then-zero, declined-zero}
+use Rattle.shape.specs.declared.shape.Shape.{Shape}
+use Rattle.shape.specs.Shape.{shapeError}
+use Rattle.machine.specs.Node.{isNode, countAnswer}
+use Rattle.machine.proofs.Nodes.{node-of}
+use Rattle.plan.specs.Layout.{shapeOf}
+use Rattle.plan.specs.Checks.{large, torusPlans, planError}
+use Rattle.plan.proofs.Plans.{accepted}
+use Rattle.dead.proofs.Table.{is-node}
+use Rattle.all_sheets.specs.declared.run.Run.{Run}
+use Rattle.all_sheets.specs.declared.run.Answer.{Answer}
+use Rattle.all_sheets.specs.declared.run.Answer.the-variants.{Refused, FewWords}
+use Rattle.all_sheets.specs.Run.{boards, runOf, runAfter, runError, runAnswer, passes, runOutput, RunWritten}
+use Rattle.all_sheets.specs.Steps.{ended}
+
+checked : (a : Bool) → cond a 0 nodeOutside ≡ (declined (not a) nodeOutside then 0)
+checked true = refl
+checked false = refl
+
+pub run-error :
+    (p : List ℕ) (m : Shape) (from e : ℕ) (a : Bool) → m ≡ shapeOf p → e ≡ planError large p → a ≡ isNode m from →
+    cond (not (eqb e 0)) e (cond a 0 nodeOutside) ≡ runError p from
+unfolding runError
+run-error p m from zero a em ee ea = rw (sym ee, sym em, sym ea) (checked a)
+run-error p m from (suc e) a em ee ea = rw (sym ee, ne-eqb (suc e) 0 (λ z. omega arith))
+
+pub accepted-run : (p : List ℕ) (from : ℕ) → runError p from ≡ 0 → planError large p ≡ 0
+unfolding runError
+accepted-run p from h = then-zero (planError large p) _ h .0
+
+-- The board of such a run is one of the plan.
+pub board-of : (p : List ℕ) (from : ℕ) → runError p from ≡ 0 → from < boards p
+unfolding runError
+board-of p from h =
+    let known = isNode (shapeOf p) from in
+    let k = then-zero (declined (not known) nodeOutside) 0 (then-zero (planError large p) _ h .1) .0 in
+    node-of (shapeOf p) from (not-false known (declined-zero (not known) 8 k)) .below
+
+pub board-error : (p : List ℕ) (from : ℕ) → planError large p ≡ 0 → from < boards p → runError p from ≡ 0
+unfolding runError
+board-error p from h l = rw (h, is-node (shapeOf p) from (record { sound = accepted torusPlans large p h .shape; below = l }))
+
+-- ---- a run's answer, with the workspace w, which it leaves as v, and the lent bytes o
+module _ (p : List ℕ) (from : ℕ) (w o : List ℕ) where
+  abbrev words : ℕ
+  words = length w
+
+  abbrev room : ℕ
+  room = length o
+
+  pub refused-run : (e : ℕ) → e ≡ runError p from → (e ≡ 0 → ⊥) → RunWritten p from w o (Refused e) w o
+  unfolding runAnswer runOutput passes
+  refused-run e h n =
+      let z = ne-eqb (runError p from) 0 (λ z. n (h ∙ z)) in
+      record { answer = rw (z, sym h); output = rw z; kept = λ _. refl }
+
+  module _ (ok : runError p from ≡ 0) (m : Shape) (all n : ℕ) (em : m ≡ shapeOf p) (ea : all ≡ countAnswer m) (en : n ≡ 512 * all) where
+    pub all-boards : all ≡ boards p
+    all-boards =
+        let a = accepted torusPlans large p (accepted-run p from ok) .shape in
+        ea ∙ ap countAnswer em ∙ rw (eq-eqb (shapeError (shapeOf p)) 0 a)
+
+    needed : n ≡ 512 * boards p
+    needed = en ∙ ap (λ k. 512 * k) all-boards
+
+    pub few-run : words < n → RunWritten p from w o FewWords w o
+    unfolding runAnswer runOutput passes
+    few-run l =
+        let z = eq-eqb (runError p from) 0 ok in
+        let few = lt-ltb words (512 * boards p) (omega (arith, needed)) in
+        record { answer = rw (z, few); output = rw (z, few); kept = λ _. refl }
+
+    pub written-run :
+        n ≤ words → (run : Run) (r : Answer) (t v : List ℕ) →
+        (run ≡ runOf p from room) × (t ≡ runAfter p from o) → r ≡ ended run all → RunWritten p from w o r v t
+    unfolding runAnswer runOutput passes ended
+    written-run l run r t v made er =
+        let z = eq-eqb (runError p from) 0 ok in
+        let enough = le-ltb words (512 * boards p) (omega (arith, needed)) in
+        record {
+          answer = rw (z, enough, sym all-boards, sym (made .0)) er;
+          output = rw (z, enough) (made .1);
+          kept = λ q. absurd (true≢false (rw (z, enough) at q));
+        }

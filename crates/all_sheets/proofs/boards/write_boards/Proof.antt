@@ -1,0 +1,72 @@
+use native.Mathlib.Omega.{arith}
+use borrow.Author.Needs.{needs}
+use Prim.Native.Nat.{_-_}
+use Rattle.all_sheets.proofs.Checking.{accepted-run}
+use Rattle.all_sheets.proofs.Running.{Running, begin, turned, stopped, all-done}
+use Rattle.all_sheets.proofs.boards.write_boards.Statement.{statement}
+use Rattle.all_sheets.proofs.boards.write_boards.Tie as tie
+
+abbrev Inv-loop : tie.InvT-loop
+Inv-loop plan from all work out₀ size₀ next₀ out size next = Running plan from all out₀ out size next
+
+abbrev μ-loop : tie.MeasureT-loop
+μ-loop plan from all work out₀ size₀ next₀ out size next = all - next
+
+loop-holds : tie.Need-loop-holds Inv-loop μ-loop
+loop-holds c = begin _ _ _ _
+
+sub-write-board : tie.Need-sub-write-board Inv-loop μ-loop
+sub-write-board c = omega (arith, c .before .loop .inv .within, c .before .loop .inv .long)
+
+part-write-board-start : tie.Need-part-write-board-start Inv-loop μ-loop
+part-write-board-start c = search needs
+
+part-write-board-end : tie.Need-part-write-board-end Inv-loop μ-loop
+part-write-board-end c = search needs
+
+write-board-requires : tie.Need-write-board-requires Inv-loop μ-loop
+write-board-requires c κs = accepted-run _ _ (c .before .before .before .before .before .before .pre .0)
+
+same-length : tie.Need-same-length Inv-loop μ-loop
+same-length c = stopped _ _ _ _ _ _ _ (c .before .before .before .before .before .before .loop .inv) (omega arith) _ _ (c .before .before .before .write-board .ensures) (c .if1 .taken) (c .before .before .before .before .before .before .before .before .before .before .pre .1) .2
+
+returns : tie.Need-returns Inv-loop μ-loop
+returns c = let k = stopped _ _ _ _ _ _ _ (c .before .before .before .before .before .before .loop .inv) (omega arith) _ _ (c .before .before .before .write-board .ensures) (c .if1 .taken) (c .before .before .before .before .before .before .before .before .before .before .pre .1) in (k .0, k .1)
+
+add-size : tie.Need-add-size Inv-loop μ-loop
+add-size c = omega (arith, turned _ _ _ _ _ _ _ (c .before .before .before .before .before .before .before .loop .inv) (omega arith) _ _ (c .before .before .before .before .write-board .ensures) (c .before .if1 .left) .within)
+
+add-next : tie.Need-add-next Inv-loop μ-loop
+add-next c = omega arith
+
+loop-less : tie.Need-loop-less Inv-loop μ-loop
+loop-less c = omega arith
+
+loop-again : tie.Need-loop-again Inv-loop μ-loop
+loop-again c = turned _ _ _ _ _ _ _ (c .before .before .before .before .before .before .before .loop .inv) (omega arith) _ _ (c .before .before .before .before .write-board .ensures) (c .before .if1 .left)
+
+same-length-2 : tie.Need-same-length-2 Inv-loop μ-loop
+same-length-2 c = c .before .loop .inv .long
+
+returns-2 : tie.Need-returns-2 Inv-loop μ-loop
+returns-2 c = all-done _ _ _ _ _ _ _ (c .before .loop .inv) (omega arith) (c .before .before .before .before .before .pre .1)
+
+pub write-boards-spec : {M : Type 1} → statement M
+write-boards-spec =
+    tie.close
+    (tie.spec
+    Inv-loop
+    μ-loop
+    loop-holds
+    sub-write-board
+    part-write-board-start
+    part-write-board-end
+    write-board-requires
+    same-length
+    returns
+    add-size
+    add-next
+    loop-less
+    loop-again
+    same-length-2
+    returns-2)

@@ -1,0 +1,33 @@
+use borrow.Author.Needs.{needs}
+use Rattle.all_sheets.proofs.Checking.{run-error}
+use Rattle.all_sheets.proofs.run.run_error.Statement.{statement}
+use Rattle.all_sheets.proofs.run.run_error.Tie as tie
+
+check-requires : tie.Need-check-requires
+check-requires c κs = search needs
+
+shape-in-requires : tie.Need-shape-in-requires
+shape-in-requires c κs = search needs
+
+is-node-requires : tie.Need-is-node-requires
+is-node-requires c κs = search needs
+
+pick-requires : tie.Need-pick-requires
+pick-requires c κs = search needs
+
+pick-requires-2 : tie.Need-pick-requires-2
+pick-requires-2 c κs = search needs
+
+returns : tie.Need-returns
+returns c = cc (run-error _ _ _ _ _ (c .before .before .before .shape-in .ensures) (c .before .before .before .before .check .ensures) (c .before .before .is-node .ensures))
+
+pub run-error-spec : {M : Type 1} → statement M
+run-error-spec =
+    tie.close
+    (tie.spec
+    check-requires
+    shape-in-requires
+    is-node-requires
+    pick-requires
+    pick-requires-2
+    returns)

@@ -1,0 +1,59 @@
+use borrow.Author.Needs.{needs}
+use native.Mathlib.Omega.{arith}
+use mathlib.Core.Path.{sym, _∙_}
+use mathlib.Core.List.{[]}
+use Rattle.all_sheets.proofs.Checking.{refused-run, all-boards, few-run, written-run}
+use Rattle.all_sheets.proofs.run.write_run.Statement.{statement}
+use Rattle.all_sheets.proofs.run.write_run.Tie as tie
+
+run-error-requires : tie.Need-run-error-requires
+run-error-requires c κs = search needs
+
+returns : tie.Need-returns
+returns c = refused-run _ _ _ _ _ (c .before .run-error .ensures) (c .if1 .taken)
+
+shape-in-requires : tie.Need-shape-in-requires
+shape-in-requires c κs = search needs
+
+count-requires : tie.Need-count-requires
+count-requires c κs = search needs
+
+words-for-requires : tie.Need-words-for-requires
+words-for-requires c κs = search needs
+
+returns-2 : tie.Need-returns-2
+returns-2 c = few-run _ _ _ _ (sym (c .before .before .before .before .before .run-error .ensures) ∙ c .before .before .before .before .if1 .left) _ _ _ (c .before .before .before .shape-in .ensures) (c .before .before .count .ensures) (c .before .words-for .ensures) (omega arith)
+
+write-boards-requires : tie.Need-write-boards-requires
+write-boards-requires c κs =
+    let ok = sym (c .before .before .before .before .before .before .before .run-error .ensures) ∙ c .before .before .before .before .before .before .if1 .left in
+    let all = all-boards _ _ [] [] (sym (c .before .before .before .before .before .before .before .run-error .ensures) ∙ c .before .before .before .before .before .before .if1 .left) _ _ _ (c .before .before .before .before .before .shape-in .ensures) (c .before .before .before .before .count .ensures) (c .before .before .before .words-for .ensures) in
+    (ok, all, omega (arith, c .before .before .before .words-for .ensures))
+
+ended-requires : tie.Need-ended-requires
+ended-requires c κs = search needs
+
+same-length : tie.Need-same-length
+same-length c = search needs
+
+same-length-2 : tie.Need-same-length-2
+same-length-2 c = search needs
+
+returns-3 : tie.Need-returns-3
+returns-3 c = written-run _ _ _ _ (sym (c .before .before .before .before .before .before .before .before .before .before .before .before .before .run-error .ensures) ∙ c .before .before .before .before .before .before .before .before .before .before .before .before .if1 .left) _ _ _ (c .before .before .before .before .before .before .before .before .before .before .before .shape-in .ensures) (c .before .before .before .before .before .before .before .before .before .before .count .ensures) (c .before .before .before .before .before .before .before .before .before .words-for .ensures) (omega arith) _ _ _ _ (c .before .before .before .before .before .write-boards .ensures) (c .ended .ensures)
+
+pub write-run-spec : {M : Type 1} → statement M
+write-run-spec =
+    tie.close
+    (tie.spec
+    run-error-requires
+    returns
+    shape-in-requires
+    count-requires
+    words-for-requires
+    returns-2
+    write-boards-requires
+    ended-requires
+    same-length
+    same-length-2
+    returns-3)

@@ -1,0 +1,24 @@
+-- The code's own steps.
+use Prim.Native.Nat.{ℕ, _≤_, _<_}
+use mathlib.Core.Path.{_≡_}
+use mathlib.Core.Bool.{true, false, cond, _&&_}
+use mathlib.Core.List.{List, _++_}
+use lib.ListN.{length, drop}
+use lib.Dec.{ltb, eqb}
+use Rattle.numbers.specs.Numbers.{outputShort}
+use Rattle.plan.specs.Checks.{large}
+use Rattle.planner.specs.Sheet.{sourceError, plannedSheet}
+use Rattle.all_sheets.specs.declared.boards.Step.{Step}
+use Rattle.all_sheets.specs.declared.run.Run.{Run}
+use Rattle.all_sheets.specs.declared.run.Answer.{Answer}
+use Rattle.all_sheets.specs.declared.run.Answer.the-variants.{Written, Refused}
+
+-- The answer with `all` boards: 12 where nothing was written and a sheet is left.
+unfoldable pub ended : Run → ℕ → Answer
+ended run all = cond (eqb (run .size) 0 && ltb (run .next) all) (Refused outputShort) (Written run)
+
+-- A board's turn in a run, which turns the lent bytes o into t.
+pub record Boarded (p : List ℕ) (S : ℕ) (o : List ℕ) (r : Step) (t : List ℕ) : Type 0 where
+  pub dead : (sourceError large p S ≡ 0 → ⊥) → (r .size ≡ 0) × (r .full ≡ false) × (t ≡ o)
+  pub fits : sourceError large p S ≡ 0 → length (plannedSheet large p S) ≤ length o → (r .size ≡ length (plannedSheet large p S)) × (r .full ≡ false) × (t ≡ plannedSheet large p S ++ drop (length (plannedSheet large p S)) o)
+  pub full : sourceError large p S ≡ 0 → length o < length (plannedSheet large p S) → (r .full ≡ true) × (t ≡ o)

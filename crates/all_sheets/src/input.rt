@@ -1,0 +1,30 @@
+// A run of a plan that a program reads: the first `size` bytes of a buffer, read from an input that may be longer.
+use crate::run::Answer;
+use crate::run::write_run;
+use plan_input::PLAN_BYTES;
+use text::part::front;
+ghost use mathlib.Core.List.{List};
+ghost use Prim.Native.Nat.{ℕ};
+ghost use lib.ListN.{take};
+ghost use Rattle.sheet.specs.Input.{ReadInto};
+ghost use Rattle.all_sheets.specs.Run.{RunWritten};
+
+// A workspace for every plan: one of 4,096 boards.
+pub const WORDS: usize = 2097152;
+
+// Bytes for a run of a program: 102 of the longest sheets.
+pub const ROOM: usize = 2097152;
+
+// A size above PLAN_BYTES counts as PLAN_BYTES.
+pub fn run_of_input(
+    plan: &[u8; PLAN_BYTES],
+    size: usize,
+    from: u16,
+    work: &mut [u16; WORDS],
+    out: &mut [u8; ROOM],
+) -> Answer
+    ensures { λ r. ⌜ RunWritten (take size (now (plan .entry))) from (now (work .entry)) (now (out .entry)) r (now (work .exit)) (now (out .exit)) ⌝ }
+    ensures { λ r. ⌜ ((whole : List ℕ) → ReadInto whole (now (plan .entry)) size → RunWritten whole from (now (work .entry)) (now (out .entry)) r (now (work .exit)) (now (out .exit))) ⌝ }
+{
+    write_run(front(plan, size), from, work, out)
+}

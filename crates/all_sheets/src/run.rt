@@ -1,0 +1,70 @@
+// A run of sheets: as many whole ones a call as the lent bytes take.
+use crate::boards::write_boards;
+use logic::both;
+use logic::pick;
+use machine::node::count;
+use machine::node::is_node;
+use numbers::NODE_OUTSIDE;
+use numbers::OUTPUT_SHORT;
+use plan::check;
+use plan::layout::shape_in;
+ghost use mathlib.Core.Path.{_≡_};
+ghost use Prim.Native.Nat.{_*_};
+ghost use Rattle.all_sheets.specs.Run.{runError, RunWritten};
+ghost use Rattle.all_sheets.specs.Steps.{ended};
+
+// The workspace that a plan's boards take.
+pub const WORDS_A_BOARD: usize = 512;
+
+// The bytes that were written, and the board to go on with: the plan's board count where no sheet is left.
+pub struct Run {
+    pub size: usize,
+    pub next: u16,
+}
+
+pub enum Answer {
+    Written(Run),
+    Refused(u8),
+    FewWords,
+}
+
+// Checks 1 to 8 of the plan, then 9 of the board; 0 where none declines.
+fn run_error(plan: &[u8], from: u16) -> u8
+    ensures { λ r. ⌜ r ≡ runError (now (plan .entry)) from ⌝ }
+{
+    let error = check(plan);
+    let known = is_node(shape_in(plan), from);
+    pick(error != 0, error, pick(known, 0, NODE_OUTSIDE))
+}
+
+fn words_for(all: u16) -> usize
+    ensures { λ r. ⌜ r ≡ 512 * all ⌝ }
+{
+    WORDS_A_BOARD * (all as usize)
+}
+
+// 12 where nothing was written and a sheet is left.
+fn ended(run: Run, all: u16) -> Answer
+    ensures { λ r. ⌜ r ≡ ended run all ⌝ }
+{
+    if both(run.size == 0, run.next < all) {
+        return Answer::Refused(OUTPUT_SHORT);
+    }
+    Answer::Written(run)
+}
+
+// The sheets of the sound boards from `from` on, one behind the other from the start of `out`, up to the first that does not fit. What `work` holds afterwards
+// is left open.
+pub fn write_run(plan: &[u8], from: u16, work: &mut [u16], out: &mut [u8]) -> Answer
+    ensures { λ r. ⌜ RunWritten (now (plan .entry)) from (now (work .entry)) (now (out .entry)) r (now (work .exit)) (now (out .exit)) ⌝ }
+{
+    let error = run_error(plan, from);
+    if error != 0 {
+        return Answer::Refused(error);
+    }
+    let all = count(shape_in(plan));
+    if work.len() < words_for(all) {
+        return Answer::FewWords;
+    }
+    ended(write_boards(plan, from, all, work, out), all)
+}
