@@ -87,5 +87,5 @@ runOutput p from words o = cond (passes p from words) (runAfter p from o) o
 pub record RunWritten (p : List ℕ) (from : ℕ) (w o : List ℕ) (r : Answer) (v t : List ℕ) : Type 0 where
   pub answer : r ≡ runAnswer p from (length w) (length o)
   pub output : t ≡ runOutput p from (length w) o
-  -- Otherwise what the workspace holds afterwards is left open.
+  -- What the workspace holds after a run that passes is left open.
   pub kept : passes p from (length w) ≡ false → v ≡ w
