@@ -23,7 +23,8 @@ use Rattle.listing_text.specs.declared.field.Field.{Field}
 use Rattle.listing_text.specs.declared.field.Field.the-variants.{Number}
 use Rattle.listing_text.specs.Decimal.{decimal}
 use Rattle.listing_text.specs.Text.{blank, newline, line, headLine, refusedWord, refusal, kindText, viaText, lengthText, destLine, destLines}
-use Rattle.listing_text.specs.Steps.{putAll, Put, fieldText, kindIn, viaIn, lengthIn, noOutcome, outcomeLine, outcomeLines}
+use Rattle.planner.specs.Outcomes.{noOutcome}
+use Rattle.listing_text.specs.Steps.{putAll, Put, fieldText, kindIn, viaIn, lengthIn, outcomeLine, outcomeLines}
 use Rattle.listing_text.proofs.Puts.{put-none, put-then}
 
 line-more : (f g : List ℕ) (fs : List (List ℕ)) → (f ++ blank ∷ []) ++ line (g ∷ fs) ≡ line (f ∷ (g ∷ fs))

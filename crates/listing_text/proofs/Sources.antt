@@ -6,27 +6,25 @@ use mathlib.Core.Bool.{true}
 use mathlib.Core.List.{List}
 use lib.ListN.{length, take, drop, getD, length-drop}
 use lib.Seq.{take-all}
-use lib.Dec.{ltb}
-use borrow.Author.Tests.{eq-eqb, lt-ltb, le-ltb, ltb-false}
+use lib.Dec.{ltb, eqb}
+use borrow.Author.Tests.{eq-eqb, lt-ltb, le-ltb, ltb-false, eqb-true}
 use Rattle.numbers.specs.Numbers.{planShort}
 use Rattle.theory.proofs.Cases.{test}
 use Rattle.shape.specs.declared.shape.Shape.{Shape}
 use Rattle.shape.specs.Shape.{shapeError}
+use Rattle.shape.proofs.Shapes.{count-most}
 use Rattle.machine.specs.Number.{nodeCount}
 use Rattle.machine.specs.Node.{isNode, countAnswer}
 use Rattle.machine.proofs.Nodes.{node-of}
 use Rattle.plan.specs.Layout.{shapeOf}
 use Rattle.plan.specs.Checks.{large}
-use Rattle.dead.specs.Dead.{bitOf, maskAnswer, nodeAnswer}
-use Rattle.tables.specs.Table.{outwardAnswer}
 use Rattle.choice.specs.Pair.{pair}
 use Rattle.choice.specs.declared.outcome.Outcome.{Outcome}
 use Rattle.choice.specs.Outcome.{told}
 use Rattle.planner.specs.Sheet.{sourceError}
+use Rattle.planner.specs.Outcomes.{noOutcome, outcomeAt}
 use Rattle.planner.proofs.Planning.{Source, source-of}
-use Rattle.planner.proofs.OneDestination.{Ready, dest-planned, count-of}
 use Rattle.listing_text.specs.Text.{sourceIn, planIn, listingError}
-use Rattle.listing_text.specs.Steps.{noOutcome, Filled}
 
 -- The checks of the input.
 module _ (i : List ℕ) where
@@ -54,12 +52,20 @@ module _ (i : List ℕ) where
   pub source-sound : listingError i ≡ 0 → sourceError large (planIn i) (sourceIn i) ≡ 0
   source-sound h = sym (has-source (long-input h)) ∙ h
 
+-- The node count of any shape.
+pub count-small : (s : Shape) (r : ℕ) → r ≡ countAnswer s → r ≤ 4096
+unfolding nodeCount
+count-small s r e =
+    test (eqb (shapeError s) 0)
+    (λ z. omega (arith, (rw z at e), count-most s (eqb-true (shapeError s) 0 z)))
+    (λ z. omega (arith, (rw z at e)))
+
 module _ (p : List ℕ) (S : ℕ) (ok : sourceError large p S ≡ 0) where
   sound : Source large p S
   sound = source-of large p S ok
 
   pub counted : (r : ℕ) → r ≡ countAnswer (shapeOf p) → r ≡ nodeCount (shapeOf p)
-  counted r e = count-of (shapeOf p) S r (sound .node) e
+  counted r e = e ∙ rw (eq-eqb (shapeError (shapeOf p)) 0 (node-of (shapeOf p) S (sound .node) .sound))
 
   -- The nodes of the plan.
   pub node-below : (D : ℕ) → D < nodeCount (shapeOf p) → isNode (shapeOf p) D ≡ true
@@ -67,16 +73,6 @@ module _ (p : List ℕ) (S : ℕ) (ok : sourceError large p S ≡ 0) where
   node-below D below = rw (eq-eqb (shapeError (shapeOf p)) 0 (node-of (shapeOf p) S (sound .node) .sound)) (lt-ltb D (nodeCount (shapeOf p)) below)
 
   -- What is planned for each destination is what planning the pair answers.
-  pub planned-all :
-      (s : Shape) (masks dead from : List ℕ) (all : ℕ) (os : List Outcome) →
-      s ≡ shapeOf p →
-      ((n : ℕ) → getD masks n 0 ≡ maskAnswer large p n) →
-      ((n : ℕ) → getD dead n 0 ≡ bitOf (nodeAnswer large p n)) →
-      ((n : ℕ) → getD from n 0 ≡ outwardAnswer s masks S n) →
-      all ≡ countAnswer s →
-      Filled s masks dead from S all os →
-      (D : ℕ) → D < nodeCount (shapeOf p) → getD os D noOutcome ≡ told (shapeOf p) S (pair large p S D)
-  planned-all s masks dead from all os es em ed ef ea h D below =
-      let ready : Ready p S s masks dead from = record { plan = sound .plan; source = sound .node; alive = sound .alive; shape = es; links = em; nodes = ed; out = ef } in
-      let all-nodes : all ≡ nodeCount (shapeOf p) = counted all (ea ∙ ap countAnswer es) in
-      h D ∙ rw (lt-ltb D all (omega arith)) (dest-planned p S s masks dead from ready D (node-below D below))
+  pub planned-all : (os : List Outcome) → ((d : ℕ) → getD os d noOutcome ≡ outcomeAt large p S d) → (D : ℕ) → D < nodeCount (shapeOf p) → getD os D noOutcome ≡ told (shapeOf p) S (pair large p S D)
+  unfolding outcomeAt
+  planned-all os h D below = h D ∙ rw (eq-eqb (sourceError large p S) 0 ok, lt-ltb D (nodeCount (shapeOf p)) below)

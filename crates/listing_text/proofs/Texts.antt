@@ -10,15 +10,14 @@ use Rattle.plan.specs.Layout.{shapeOf}
 use Rattle.plan.specs.Checks.{large}
 use Rattle.choice.specs.Pair.{pair}
 use Rattle.choice.specs.declared.outcome.Outcome.{Outcome}
-use Rattle.choice.specs.Outcome.{told}
-use Rattle.planner.proofs.OneDestination.{count-small}
+use Rattle.planner.specs.Outcomes.{noOutcome, outcomeAt}
 use Rattle.planner.proofs.Planning.{source-of, answer-is}
 use Rattle.listing_text.specs.declared.writing.Head.{Head}
 use Rattle.listing_text.specs.Text.{sourceIn, planIn, listingError, headLine, refusal, listingOf}
-use Rattle.listing_text.specs.Steps.{Put, noOutcome, headOf, outcomeLines, outcomesText}
+use Rattle.listing_text.specs.Steps.{Put, headOf, outcomeLines, outcomesText}
 use Rattle.listing_text.proofs.Puts.{put-then}
 use Rattle.listing_text.proofs.Lines.{LineTold, refused-told, choice-told, lines-told}
-use Rattle.listing_text.proofs.Sources.{source-sound, counted, node-below}
+use Rattle.listing_text.proofs.Sources.{count-small, source-sound, counted, node-below, planned-all}
 
 -- The first line, then the others.
 pub text-put : {o t u : List ℕ} {k r : ℕ} (h : Head) (os : List Outcome) → Put o t 0 k (headLine (h .source) (h .nodes) (h .faults)) → Put t u k r (outcomeLines os (h .nodes)) → Put o u 0 r (outcomesText h os)
@@ -49,16 +48,16 @@ module _ (i : List ℕ) where
 
     accepted-text :
         (os : List Outcome) →
-        ((d : ℕ) → d < nodeCount (shapeOf (planIn i)) → getD os d noOutcome ≡ told (shapeOf (planIn i)) (sourceIn i) (pair large (planIn i) (sourceIn i) d)) →
+        ((d : ℕ) → getD os d noOutcome ≡ outcomeAt large (planIn i) (sourceIn i) d) →
         outcomesText (headOf (planIn i) (sourceIn i)) os ≡ listingOf i
     unfolding outcomesText headOf listingOf
-    accepted-text os h = rw (ok, all-nodes, lines-told os (planIn i) (sourceIn i) (nodeCount (shapeOf (planIn i))) line-told h)
+    accepted-text os h = rw (ok, all-nodes, lines-told os (planIn i) (sourceIn i) (nodeCount (shapeOf (planIn i))) line-told (planned-all (planIn i) (sourceIn i) (source-sound i ok) os h))
 
     pub planned-text :
         (p : List ℕ) (S : ℕ) (head : Head) (os : List Outcome) →
         p ≡ planIn i →
         S ≡ sourceIn i →
         head ≡ headOf p S →
-        ((d : ℕ) → d < nodeCount (shapeOf p) → getD os d noOutcome ≡ told (shapeOf p) S (pair large p S d)) →
+        ((d : ℕ) → getD os d noOutcome ≡ outcomeAt large p S d) →
         outcomesText head os ≡ listingOf i
     planned-text p S head os ep eS eh h = rw (eh, ep, eS) (accepted-text os (rw (ep, eS) at h))

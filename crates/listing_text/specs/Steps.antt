@@ -1,18 +1,14 @@
 -- The code's own steps.
 use Prim.Native.Nat.{ℕ, zero, suc, _+_}
 use mathlib.Core.Path.{_≡_}
-use mathlib.Core.Bool.{cond}
 use mathlib.Core.List.{List, [], _∷_, _++_}
 use lib.ListN.{length, getD, set}
-use lib.Dec.{ltb}
-use Rattle.shape.specs.declared.shape.Shape.{Shape}
-use Rattle.machine.specs.declared.leg.Mode.the-variants.{Adaptive}
 use Rattle.machine.specs.Node.{countAnswer}
 use Rattle.plan.specs.Layout.{shapeOf, faultCount}
 use Rattle.packet.specs.declared.route.Route.{Route}
 use Rattle.choice.specs.declared.outcome.Outcome.{Outcome}
 use Rattle.routes.specs.Said.{entryFor, heard}
-use Rattle.planner.specs.OneDestination.{outcomeTo}
+use Rattle.planner.specs.Outcomes.{noOutcome}
 use Rattle.listing_text.specs.declared.field.Field.{Field}
 use Rattle.listing_text.specs.declared.field.Field.the-variants.{Number, Dash}
 use Rattle.listing_text.specs.declared.writing.Head.{Head}
@@ -51,14 +47,6 @@ lengthIn (Outcome.Refused e) = Dash
 
 unfoldable pub outcomeLine : ℕ → Outcome → List ℕ
 outcomeLine D o = line (decimal D ∷ decimal (kindIn o) ∷ fieldText (viaIn o) ∷ fieldText (lengthIn o) ∷ [])
-
--- What an array of outcomes holds of no destination.
-abbrev pub noOutcome : Outcome
-noOutcome = Outcome.Given (Route.Direct Adaptive) 0
-
--- The outcomes of the first n destinations, and nothing past them. masks, dead: the dead links and nodes. from: the legs from the source.
-abbrev pub Filled : Shape → List ℕ → List ℕ → List ℕ → ℕ → ℕ → List Outcome → Type 0
-Filled s masks dead from S n os = (k : ℕ) → getD os k noOutcome ≡ cond (ltb k n) (outcomeTo s masks dead from S k) noOutcome
 
 unfoldable pub outcomeLines : List Outcome → ℕ → List ℕ
 outcomeLines os zero = []

@@ -5,7 +5,6 @@ mod field;
 mod header;
 mod input;
 mod line;
-mod outcomes;
 mod refusal;
 mod writing;
 

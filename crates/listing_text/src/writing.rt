@@ -3,13 +3,13 @@ use crate::checks::listing_error;
 use crate::checks::source_in;
 use crate::header::put_header;
 use crate::line::put_line;
-use crate::outcomes::outcomes_from;
 use crate::refusal::put_refusal;
 use choice::Outcome;
 use machine::node::count;
 use numbers::OUTPUT_SHORT;
 use plan::layout::count_in;
 use plan::layout::shape_in;
+use planner::outcomes::outcomes;
 use sheet::output::Written;
 ghost use mathlib.Core.Path.{_≡_};
 ghost use Prim.Native.Nat.{_≤_};
@@ -94,5 +94,5 @@ pub fn listing_text(input: &[u8], out: &mut [u8]) -> Written
     }
     let plan = &input[2..];
     let source = source_in(input);
-    write_text(out, head_of(plan, source), outcomes_from(plan, source))
+    write_text(out, head_of(plan, source), outcomes(plan, source))
 }

@@ -89,9 +89,9 @@ small-at p n c h a =
     (omega (arith, i .x, sound (shapeOf p) (shape-ok p h) X .high), omega (arith, i .y, sound (shapeOf p) (shape-ok p h) Y .high), omega (arith, i .z, sound (shapeOf p) (shape-ok p h) Z .high))
 
 -- The bit of the destination.
-pub straight-is : (p fd : List ℕ) (S D : ℕ) (t : Coords) → FromSet p Deterministic S fd → IsAt p D t → (b : Bool) → b ≡ inRows fd 0 t → b ≡ isClear p Deterministic S D
+pub has-is : (p : List ℕ) (m : Mode) (rows : List ℕ) (S D : ℕ) (t : Coords) → FromSet p m S rows → IsAt p D t → (b : Bool) → b ≡ inRows rows 0 t → b ≡ isClear p m S D
 unfolding inSet
-straight-is p fd S D t g to b e = e ∙ ap (inRows fd 0) (to .at) ∙ g D (to .node)
+has-is p m rows S D t g to b e = e ∙ ap (inRows rows 0) (to .at) ∙ g D (to .node)
 
 pub within-box : (p : List ℕ) (s : Shape) (words : List ℕ) (count S D : ℕ) (t : Coords) (bx by bz : ℕ) (masks rows : List ℕ) →
     OfPlan p s words count → IsAt p D t → IsBox p S D bx by bz → Ended Adaptive false s t masks → Are (clearIn bx by bz masks words count) rows → ToBetween p Adaptive S D rows 0
@@ -178,7 +178,7 @@ module _ (p : List ℕ) (s : Shape) (words : List ℕ) (count : ℕ) (dead ta td
       adaptive = g .adaptive;
       deterministic = g .deterministic;
       direct = direct;
-      one = straight-is p fd S D t (g .deterministic) to straight es;
+      one = has-is p Deterministic fd S D t (g .deterministic) to straight es;
     }
 
     pub by-sets : (length work ≡ 0 → ⊥) → BySets p s work S D a t fa fd straight
@@ -191,5 +191,5 @@ module _ (p : List ℕ) (s : Shape) (words : List ℕ) (count : ℕ) (dead ta td
       deterministic = g .deterministic;
       both = ⊎-elim (λ z. absurd (ne z)) (λ f. f .each D (to .node)) (g .prepared .sets);
       direct = direct;
-      one = straight-is p fd S D t (g .deterministic) to straight es;
+      one = has-is p Deterministic fd S D t (g .deterministic) to straight es;
     }

@@ -2,6 +2,7 @@ pub mod Order
 pub mod Decoded
 pub mod ViaNumbers
 pub mod General
+pub mod Standing
 pub mod NextOutside
 pub mod Knowing
 pub mod FirstSteps
@@ -11,3 +12,4 @@ pub mod Unlisted
 pub mod Destination
 pub mod Pairs
 pub mod Writing
+pub mod EachOutcome

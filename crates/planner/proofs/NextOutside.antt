@@ -22,7 +22,8 @@ use Rattle.rows.specs.Rows.{inRows, inSet}
 use Rattle.rows.specs.NextSet.{NextSet}
 use Rattle.rows.proofs.Bits.{double, bit-zero, bit-suc}
 use Rattle.planner.specs.declared.outside.At.{At}
-use Rattle.planner.specs.Outside.{Stands, NextOutside, placeOf}
+use Rattle.planner.specs.Outside.{Stands, NextOutside}
+use Rattle.planner.proofs.Standing.{row-after}
 
 -- ---- the bits that a number of k bits does not have
 pub others : (k v x : ℕ) → v < 2 ^ k → x < k → bit (2 ^ k - 1 - v) x ≡ not (bit v x)
@@ -141,29 +142,13 @@ module _ (s : Shape) (h : shapeError s ≡ 0) (rows : List ℕ) where
     pub onto : s .x ≤ found → (ny nz : ℕ) → ny ≡ cond (ltb (y + 1) (s .y)) (y + 1) 0 → nz ≡ cond (ltb (y + 1) (s .y)) z (z + 1) → Looking from 0 ny nz (first + s .x)
     onto m ny nz ey ez =
         let f = g .first-is in
-        let low = sound s h X .low in
-        test (ltb (y + 1) (s .y))
-        (λ t.
-        let less = ltb-true (y + 1) (s .y) t in
-        let a : ny ≡ y + 1 = ey ∙ rw t in
-        let b : nz ≡ z = ez ∙ rw t in
-        let sum : s .x * (ny + s .y * nz) ≡ first + s .x = rw (a, b) (let q : (y + 1) + s .y * z ≡ suc (y + s .y * z) = omega arith in rw q (omega (arith, mul-suc (s .x) (y + s .y * z)))) in
-        made a b (omega arith) (omega arith) (sym sum) (λ e. absurd (omega arith)))
-        (λ t.
-        let more : s .y ≤ y + 1 = borrow.Author.Tests.ltb-false (y + 1) (s .y) t in
-        let here = g .y-in in
-        let a : ny ≡ 0 = ey ∙ rw t in
-        let b : nz ≡ z + 1 = ez ∙ rw t in
-        let sum : s .x * (ny + s .y * nz) ≡ first + s .x = rw (a, b) (let q : 0 + s .y * (z + 1) ≡ suc (y + s .y * z) = rw (add-one z) (omega (arith, mul-suc (s .y) z)) in rw q (omega (arith, mul-suc (s .x) (y + s .y * z)))) in
-        made a b (omega arith) (omega arith) (sym sum) (λ e. (refl, a)))
-      where
-        made : {p q : ℕ} → ny ≡ p → nz ≡ q → ny < s .y → nz ≤ s .z → first + s .x ≡ s .x * (ny + s .y * nz) → (nz ≡ s .z → (_≡_ {A = ℕ} 0 0) × (ny ≡ 0)) → Looking from 0 ny nz (first + s .x)
-        made a b hy hz e end = record {
-          first-is = e;
+        let r = row-after s y z ny nz (g .y-in) l ey ez in
+        record {
+          first-is = omega (arith, r .first);
           x-in = omega arith;
-          y-in = hy;
-          z-in = hz;
-          at-end = end;
+          y-in = r .y-in;
+          z-in = r .z-in;
+          at-end = λ e. (refl, r .at-end e);
           onward = omega (arith, g .onward, g .x-in);
           skipped = λ v c d. all-passed (s .x) m (omega arith) v c (omega arith);
         }

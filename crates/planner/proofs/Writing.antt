@@ -60,6 +60,7 @@ use Rattle.planner.specs.Known.{isClear, IsAt, Prepared, Ready}
 use Rattle.planner.specs.Sheet.{sourceError, lists, entriesFrom, plannedSheet}
 use Rattle.planner.proofs.Knowing.{shape-ok}
 use Rattle.planner.proofs.FirstSteps.{nodes-few}
+use Rattle.planner.proofs.Standing.{starts, stands-end, stands-below, stands-node, stands-at}
 use Rattle.planner.proofs.Unlisted.{unclear-listed, clear-unlisted}
 use Rattle.planner.proofs.Planning.{Source, source-of, self-unlisted, sheet-few, sheet-accepted}
 
@@ -211,27 +212,13 @@ module _ (p : List ℕ) (s : Shape) (words : List ℕ) (count : ℕ) (dead ta td
   source : Source large p S
   source = record { plan = accepted; node = is-node (shapeOf p) S (record { sound = shape-ok p accepted; below = ready .source .node }); alive = ready .alive }
 
-  pub starts : Stands s (record { node = 0; x = 0; y = 0; z = 0 })
-  unfolding numberOf
-  starts = record { node = simp mul-zero refl; x = omega arith; y = sound s ok Y .low; z = omega arith; end = λ e. (refl, refl) }
-
-  -- The node is one of the shape, or the count.
-  stands-below : (at : At) → Stands s at → at .node ≤ nodeCount s
-  unfolding numberOf nodeCount
-  stands-below at g =
-      by-le (s .z) (at .z)
-      (λ m. let e : at .z ≡ s .z = omega (arith, g .z) in let o = g .end e in
-      let q : at .node ≡ 0 + s .x * (0 + s .y * s .z) = g .node ∙ rw (o .0, o .1, e) in
-      let r : 0 + s .x * (0 + s .y * s .z) ≡ s .x * s .y * s .z = (let w : 0 + s .y * s .z ≡ s .y * s .z = omega arith in rw w (omega (arith, mul-assoc (s .x) (s .y) (s .z)))) in
-      omega arith)
-      (λ m.
-      let n = number-below s ok (record { x = s .x - 1; y = at .y; z = at .z }) (record { x = omega (arith, sound s ok X .low); y = g .y; z = m }) in
-      omega (arith, g .node, g .x, sound s ok X .low, n))
+  pub node-known : (at : At) → Stands s at → at .x < s .x → at .z < s .z → (t : Coords) → t ≡ placeOf at → IsAt p (at .node) t
+  node-known at g hx hz t e = record { node = rw same at (stands-node s ok at g hx hz); at = e ∙ sym (stands-at s ok at g hx hz) ∙ ap (λ m. coordsOf m (at .node)) same }
 
   module _ (entries : List Entry) (listed : ℕ) (from r : At) (stand : Stands s from) (next : NextOutside s fa from r) (before : Listing p S entries listed (from .node)) where
     pub found : Going p s words count dead ta td work S a fa fd entries listed r
     found =
-        let few = stands-below r (next .stands) in
+        let few = stands-below s ok r (next .stands) in
         let up = next .onward in
         let n = nodeCount-same in
         let e : from .node + (r .node - from .node) ≡ r .node = omega arith in
@@ -255,14 +242,8 @@ module _ (p : List ℕ) (s : Shape) (words : List ℕ) (count : ℕ) (dead ta td
         (omega arith, omega arith)
 
     module _ (l : at .z < s .z) where
-      here : Inside s (placeOf at)
-      here = record { x = g .out l .0; y = g .stands .y; z = l }
-
       pub is-at : (t : Coords) → t ≡ placeOf at → IsAt p (at .node) t
-      is-at t e =
-          let below : at .node < nodeCount s = rw (g .stands .node) (number-below s ok (placeOf at) here) in
-          let c : coordsOf s (at .node) ≡ placeOf at = rw (g .stands .node) (coords-number s ok (placeOf at) here) in
-          record { node = rw same at below; at = e ∙ sym c ∙ ap (λ m. coordsOf m (at .node)) same }
+      is-at t e = node-known (at) (g .stands) (g .out l .0) l t e
 
       pub unclear : isClear p Adaptive S (at .node) ≡ false
       unclear = sym (ready .adaptive (at .node) (is-at (placeOf at) refl .node)) ∙ rw (← same) (g .out l .1)
@@ -286,17 +267,13 @@ module _ (p : List ℕ) (s : Shape) (words : List ℕ) (count : ℕ) (dead ta td
           (n .0, found (set entries listed e) (listed + 1) _ r after next (n .1))
 
     pub done : s .z ≤ at .z → first entries listed ≡ entriesFrom large p S 0 (nodeCount (shapeOf p))
-    unfolding numberOf nodeCount
     done m =
-        let e : at .z ≡ s .z = omega (arith, g .stands .z) in
-        let o = g .stands .end e in
-        let q : at .node ≡ 0 + s .x * (0 + s .y * s .z) = g .stands .node ∙ rw (o .0, o .1, e) in
-        let r : 0 + s .x * (0 + s .y * s .z) ≡ s .x * s .y * s .z = (let w : 0 + s .y * s .z ≡ s .y * s .z = omega arith in rw w (omega (arith, mul-assoc (s .x) (s .y) (s .z)))) in
+        let e = stands-end s ok at (g .stands) m in
         let n : nodeCount s ≡ nodeCount (shapeOf p) = ap nodeCount same in
         ended p S entries listed (at .node) (g .listing) (omega arith)
 
   pub begun : (r : At) → NextOutside s fa (record { node = 0; x = 0; y = 0; z = 0 }) r → Going p s words count dead ta td work S a fa fd (replicate 4095 noEntry) 0 r
-  begun r next = found (replicate 4095 noEntry) 0 _ r starts next (begin p S)
+  begun r next = found (replicate 4095 noEntry) 0 _ r (starts s ok) next (begin p S)
 
 -- What is made of a plan for its sound source S, with no sets to its nodes.
 pub planned-known :

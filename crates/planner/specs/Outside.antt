@@ -1,4 +1,4 @@
--- The code's own steps: the nodes that are not in a set, in rising order.
+-- The code's own steps: the nodes in rising order, each, or those that are not in a set.
 use Prim.Native.Nat.{ℕ, _+_, _*_, _≤_, _<_}
 use mathlib.Core.Path.{_≡_}
 use mathlib.Core.Bool.{true, false}
@@ -19,6 +19,12 @@ pub record Stands (s : Shape) (at : At) : Type 0 where
   pub y : at .y < s .y
   pub z : at .z ≤ s .z
   pub end : at .z ≡ s .z → (at .x ≡ 0) × (at .y ≡ 0)
+
+-- r is the next node; behind the last one where there is none.
+pub record Following (s : Shape) (at r : At) : Type 0 where
+  pub stands : Stands s r
+  pub node : r .node ≡ at .node + 1
+  pub inside : r .z < s .z → r .x < s .x
 
 -- r is the first node from `at` on that is not in the set; behind the last one where there is none.
 pub record NextOutside (s : Shape) (rows : List ℕ) (at r : At) : Type 0 where

@@ -226,7 +226,7 @@ fn by_losses(
     )
 }
 
-fn has(rows: &[u16; 256], c: Coords) -> bool
+pub fn has(rows: &[u16; 256], c: Coords) -> bool
     requires { ⌜ (c .x < 16) × (c .y < 16) × (c .z < 16) ⌝ }
     ensures { λ r. ⌜ r ≡ inRows (now (rows .entry)) 0 c ⌝ }
 {

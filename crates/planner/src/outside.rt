@@ -1,4 +1,4 @@
-// The nodes that are not in a set, in rising order.
+// The nodes in rising order: each, or those that are not in a set.
 use rows::next::next_set;
 use shape::Shape;
 ghost use mathlib.Core.Path.{_≡_};
@@ -6,7 +6,7 @@ ghost use mathlib.Core.Bool.{cond};
 ghost use Prim.Native.Nat.{_+_, _-_, _<_};
 ghost use lib.Dec.{ltb};
 ghost use Rattle.shape.specs.Shape.{shapeError};
-ghost use Rattle.planner.specs.Outside.{Stands, NextOutside};
+ghost use Rattle.planner.specs.Outside.{Stands, Following, NextOutside};
 
 // A node with its coordinates, or the place behind the last node of a row; behind the last node of all the node count, at (0, 0, extent of Z).
 pub struct At {
@@ -36,6 +36,29 @@ fn next_z(y: u8, rows: u8, z: u8) -> u8
     ensures { λ r. ⌜ r ≡ cond (ltb (y + 1) rows) z (z + 1) ⌝ }
 {
     if y + 1 < rows { z } else { z + 1 }
+}
+
+// The next node; behind the last one where there is none.
+pub fn following(shape: Shape, at: At) -> At
+    requires { ⌜ shapeError shape ≡ 0 ⌝ }
+    requires { ⌜ Stands shape at ⌝ }
+    requires { ⌜ (at .x < shape .x) × (at .z < shape .z) ⌝ }
+    ensures { λ r. ⌜ Following shape at r ⌝ }
+{
+    if at.x + 1 < shape.x {
+        return At {
+            node: at.node + 1,
+            x: at.x + 1,
+            y: at.y,
+            z: at.z,
+        };
+    }
+    At {
+        node: at.node + 1,
+        x: 0,
+        y: next_y(at.y, shape.y),
+        z: next_z(at.y, shape.y, at.z),
+    }
 }
 
 // The first node from `at` on that is not in the set; behind the last one where there is none.

@@ -1,7 +1,7 @@
 use native.Mathlib.Omega.{arith}
 use borrow.Author.Needs.{needs}
 use mathlib.Core.Path.{sym, _∙_}
-use Rattle.listing_text.proofs.Sources.{rest, long-input, source-sound}
+use Rattle.listing_text.proofs.Sources.{rest, long-input}
 use Rattle.listing_text.proofs.Texts.{head-small, refused-text, planned-text}
 use Rattle.listing_text.proofs.writing.listing_text.Statement.{statement}
 use Rattle.listing_text.proofs.writing.listing_text.Tie as tie
@@ -33,10 +33,8 @@ source-in-requires c κs = tt
 head-of-requires : tie.Need-head-of-requires
 head-of-requires c κs = tt
 
-outcomes-from-requires : tie.Need-outcomes-from-requires
-outcomes-from-requires c κs =
-    let i = c .before .before .before .before .before .before .before .before .args .input .now in
-    rw (rest i, c .before .before .source-in .ensures) (source-sound i (sym (c .before .before .before .before .before .listing-error .ensures) ∙ c .before .before .before .before .if1 .left))
+outcomes-requires : tie.Need-outcomes-requires
+outcomes-requires c κs = tt
 
 write-text-requires : tie.Need-write-text-requires
 write-text-requires c κs = head-small _ _ _ (c .before .head-of .ensures)
@@ -47,7 +45,7 @@ same-length-2 c = omega arith
 returns-2 : tie.Need-returns-2
 returns-2 c =
     let i = c .before .before .before .before .before .before .before .before .before .before .before .before .args .input .now in
-    rw (planned-text i (sym (c .before .before .before .before .before .before .before .before .before .listing-error .ensures) ∙ c .before .before .before .before .before .before .before .before .if1 .left) _ _ _ _ (rest i) (c .before .before .before .before .before .before .source-in .ensures) (c .before .before .before .before .head-of .ensures) (c .before .before .before .outcomes-from .ensures)) at (c .before .before .write-text .ensures)
+    rw (planned-text i (sym (c .before .before .before .before .before .before .before .before .before .listing-error .ensures) ∙ c .before .before .before .before .before .before .before .before .if1 .left) _ _ _ _ (rest i) (c .before .before .before .before .before .before .source-in .ensures) (c .before .before .before .before .head-of .ensures) (c .before .before .before .outcomes .ensures)) at (c .before .before .write-text .ensures)
 
 pub listing-text-spec : {M : Type 1} → statement M
 listing-text-spec =
@@ -62,7 +60,7 @@ listing-text-spec =
     part-plan-end
     source-in-requires
     head-of-requires
-    outcomes-from-requires
+    outcomes-requires
     write-text-requires
     same-length-2
     returns-2)

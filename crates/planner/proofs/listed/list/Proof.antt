@@ -1,4 +1,5 @@
-use Rattle.planner.proofs.Writing.{Going, ok, starts, begun, is-at, unclear, roomy, places, after, turn, few, done}
+use Rattle.planner.proofs.Writing.{Going, ok, begun, is-at, unclear, roomy, places, after, turn, few, done}
+use Rattle.planner.proofs.Standing.{starts}
 use Prim.Native.Nat.{_-_}
 use mathlib.Core.Path.{refl}
 use native.Mathlib.Omega.{arith}
@@ -19,7 +20,7 @@ abbrev μ-loop : tie.MeasureT-loop
 
 -- src/listed.rt:47:9
 next-outside-requires : tie.Need-next-outside-requires Inv-loop μ-loop
-next-outside-requires c κs = (ok _ _ _ _ _ _ _ _ _ _ _ _ (c .before .before .pre), starts _ _ _ _ _ _ _ _ _ _ _ _ (c .before .before .pre))
+next-outside-requires c κs = (ok _ _ _ _ _ _ _ _ _ _ _ _ (c .before .before .pre), starts _ (ok _ _ _ _ _ _ _ _ _ _ _ _ (c .before .before .pre)))
 
 -- src/listed.rt:57:5
 loop-holds : tie.Need-loop-holds Inv-loop μ-loop

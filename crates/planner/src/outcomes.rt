@@ -1,0 +1,199 @@
+// What planning answers for every destination of a source.
+use crate::dest::has;
+use crate::dest::outcome_to;
+use crate::outside::At;
+use crate::outside::following;
+use crate::sets_of::from_set;
+use crate::sheets::source_error;
+use choice::Outcome;
+use dead::dead_nodes;
+use losses::losses;
+use machine::hop::distance_at;
+use machine::leg::Mode;
+use machine::node::coords;
+use masks::table::table;
+use packet::Route;
+use plan::layout::shape_in;
+use shape::Coords;
+use shape::Shape;
+ghost use mathlib.Core.Path.{_≡_};
+ghost use mathlib.Core.Bool.{false};
+ghost use Prim.Native.Nat.{ℕ};
+ghost use lib.ListN.{getD};
+ghost use Rattle.plan.specs.Layout.{shapeOf, faultsOf};
+ghost use Rattle.plan.specs.Checks.{large};
+ghost use Rattle.dead.specs.Dead.{deadNode};
+ghost use Rattle.choice.specs.Outcome.{told};
+ghost use Rattle.choice.specs.Pair.{pair};
+ghost use Rattle.planner.specs.Sheet.{sourceError};
+ghost use Rattle.planner.specs.Known.{IsAt, Prepared, Ready};
+ghost use Rattle.planner.specs.Outcomes.{noOutcome, outcomeAt};
+
+// One destination, also where the direct adaptive leg is clear.
+fn any_outcome(
+    plan: &[u8],
+    shape: Shape,
+    words: &[u16; 256],
+    count: usize,
+    dead: &[u8; 4096],
+    ta: &[u16; 4608],
+    td: &[u16; 4608],
+    work: &[u16],
+    source: u16,
+    a: Coords,
+    fa: &[u16; 256],
+    fd: &[u16; 256],
+    dest: u16,
+    t: Coords,
+) -> Outcome
+    requires { ⌜ Ready (now plan) shape (now words) count (now dead) (now ta) (now td) (now work) source a (now fa) (now fd) ⌝ }
+    requires { ⌜ IsAt (now plan) dest t ⌝ }
+    ensures { λ r. ⌜ r ≡ told (shapeOf (now (plan .entry))) source (pair large (now (plan .entry)) source dest) ⌝ }
+{
+    if has(fa, t) {
+        return Outcome::Given(Route::Direct(Mode::Adaptive), distance_at(shape, a, t));
+    }
+    outcome_to(
+        plan,
+        shape,
+        words,
+        count,
+        dead,
+        ta,
+        td,
+        work,
+        source,
+        a,
+        fa,
+        fd,
+        dest,
+        t,
+    )
+}
+
+// Each destination is planned once.
+fn all_outcomes(
+    plan: &[u8],
+    shape: Shape,
+    words: &[u16; 256],
+    count: usize,
+    dead: &[u8; 4096],
+    ta: &[u16; 4608],
+    td: &[u16; 4608],
+    work: &[u16],
+    source: u16,
+    a: Coords,
+    fa: &[u16; 256],
+    fd: &[u16; 256],
+) -> [Outcome; 4096]
+    requires { ⌜ Ready (now plan) shape (now words) count (now dead) (now ta) (now td) (now work) source a (now fa) (now fd) ⌝ }
+    ensures { λ r. ⌜ ((d : ℕ) → getD r d noOutcome ≡ outcomeAt large (now (plan .entry)) source d) ⌝ }
+{
+    let mut outcomes = [Outcome::Given(Route::Direct(Mode::Adaptive), 0); 4096];
+    let mut at = At {
+        node: 0,
+        x: 0,
+        y: 0,
+        z: 0,
+    };
+    while at.z < shape.z {
+        let dest = at.node;
+        let t = Coords {
+            x: at.x,
+            y: at.y,
+            z: at.z,
+        };
+        let i = dest as usize;
+        outcomes[i] = any_outcome(
+            plan,
+            shape,
+            words,
+            count,
+            dead,
+            ta,
+            td,
+            work,
+            source,
+            a,
+            fa,
+            fd,
+            dest,
+            t,
+        );
+        at = following(shape, at);
+    }
+    outcomes
+}
+
+// By what is known of the plan: the sets from the source.
+fn outcomes_by(
+    plan: &[u8],
+    shape: Shape,
+    words: &[u16; 256],
+    count: usize,
+    dead: &[u8; 4096],
+    ta: &[u16; 4608],
+    td: &[u16; 4608],
+    work: &[u16],
+    source: u16,
+    a: Coords,
+) -> [Outcome; 4096]
+    requires { ⌜ Prepared (now plan) shape (now words) count (now dead) (now ta) (now td) (now work) ⌝ }
+    requires { ⌜ IsAt (now plan) source a ⌝ }
+    requires { ⌜ deadNode (faultsOf (now plan)) source ≡ false ⌝ }
+    ensures { λ r. ⌜ ((d : ℕ) → getD r d noOutcome ≡ outcomeAt large (now (plan .entry)) source d) ⌝ }
+{
+    let fa = from_set(plan, Mode::Adaptive, shape, words, count, source, a);
+    let fd = from_set(plan, Mode::Deterministic, shape, words, count, source, a);
+    all_outcomes(
+        plan,
+        shape,
+        words,
+        count,
+        dead,
+        ta,
+        td,
+        work,
+        source,
+        a,
+        &fa,
+        &fd,
+    )
+}
+
+// From a sound source, by the losses.
+fn outcomes_from(plan: &[u8], source: u16) -> [Outcome; 4096]
+    requires { ⌜ sourceError large (now plan) source ≡ 0 ⌝ }
+    ensures { λ r. ⌜ ((d : ℕ) → getD r d noOutcome ≡ outcomeAt large (now (plan .entry)) source d) ⌝ }
+{
+    let shape = shape_in(plan);
+    let lost = losses(plan);
+    let words = lost.words;
+    let count = lost.count as usize;
+    let dead = dead_nodes(plan);
+    let ta = table(Mode::Adaptive, false, shape);
+    let td = table(Mode::Deterministic, false, shape);
+    let none = [0u16; 0];
+    outcomes_by(
+        plan,
+        shape,
+        &words,
+        count,
+        &dead,
+        &ta,
+        &td,
+        &none,
+        source,
+        coords(shape, source),
+    )
+}
+
+// By the destination's number; nothing where a check declines the source, or past the nodes.
+pub fn outcomes(plan: &[u8], source: u16) -> [Outcome; 4096]
+    ensures { λ r. ⌜ ((d : ℕ) → getD r d noOutcome ≡ outcomeAt large (now (plan .entry)) source d) ⌝ }
+{
+    if source_error(plan, source) != 0 {
+        return [Outcome::Given(Route::Direct(Mode::Adaptive), 0); 4096];
+    }
+    outcomes_from(plan, source)
+}
