@@ -11,3 +11,8 @@ pub mod Unlisted
 pub mod Destination
 pub mod Pairs
 pub mod Writing
+pub mod Filling
+pub mod Checking
+pub mod Boarding
+pub mod ByBoard
+pub mod Running

@@ -1,11 +1,14 @@
-// Planning: a pair, and the sheet of a source.
+// Planning: a pair, the sheet of a source, and a run of the sheets of all sources.
 mod between;
+mod boards;
 mod dest;
 mod far;
+mod fill;
 mod key_number;
 mod listed;
 mod near;
 mod outside;
 pub mod pair;
+pub mod run;
 mod sets_of;
 pub mod sheets;
