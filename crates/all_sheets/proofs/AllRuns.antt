@@ -19,13 +19,13 @@ use Rattle.machine.specs.Number.{nodeCount}
 use Rattle.plan.specs.Layout.{shapeOf}
 use Rattle.plan.specs.Checks.{large, torusPlans, planError}
 use Rattle.plan.proofs.Plans.{accepted}
-use Rattle.all_sheets.specs.declared.run.Run.{Run}
-use Rattle.all_sheets.specs.declared.run.Answer.{Answer}
-use Rattle.all_sheets.specs.declared.run.Answer.the-variants.{Written, Refused, FewWords}
+use Rattle.planner.specs.declared.run.Run.{Run}
+use Rattle.planner.specs.declared.run.Answer.{Answer}
+use Rattle.planner.specs.declared.run.Answer.the-variants.{Written, Refused, FewWords}
 use Rattle.all_sheets.specs.All.{left, allSheets}
-use Rattle.all_sheets.specs.Run.{runSheets, runNext, joined, boards, runBytes, runOf, runAfter, runError, fewWords, noneFits, runAnswer, passes, runOutput}
+use Rattle.planner.specs.Run.{runSheets, runNext, joined, boards, runBytes, runOf, runAfter, runError, fewWords, noneFits, runAnswer, passes, runOutput}
 use Rattle.all_sheets.specs.Runs.{Ran, Runs, last, onward}
-use Rattle.all_sheets.proofs.Checking.{accepted-run, board-of, board-error}
+use Rattle.planner.proofs.Checking.{accepted-run, board-of, board-error}
 use Rattle.all_sheets.proofs.Leaving.{next-within, next-same, next-left, none-left, run-left-bytes}
 
 by-answer :

@@ -11,9 +11,9 @@ use Rattle.sheet.specs.Input.{ReadInto}
 use Rattle.sheet.proofs.Inputs.{DecidedBy, read-whole}
 use Rattle.plan.specs.Checks.{large, planError}
 use Rattle.plan_input.proofs.Long.{long-declined, error-decided}
-use Rattle.all_sheets.specs.declared.run.Answer.{Answer}
-use Rattle.all_sheets.specs.declared.run.Answer.the-variants.{Refused}
-use Rattle.all_sheets.specs.Run.{runError, runAnswer, passes, runOutput, RunWritten}
+use Rattle.planner.specs.declared.run.Answer.{Answer}
+use Rattle.planner.specs.declared.run.Answer.the-variants.{Refused}
+use Rattle.planner.specs.Run.{runError, runAnswer, passes, runOutput, RunWritten}
 
 -- A declined plan decides the answer, and leaves the lent bytes.
 module _ (p : List ℕ) (from words : ℕ) (h : planError large p ≡ 0 → ⊥) where

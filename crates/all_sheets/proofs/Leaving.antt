@@ -9,8 +9,8 @@ use Rattle.plan.specs.Checks.{large, planError}
 use Rattle.plan.specs.Reading.{isPlan}
 use Rattle.planner.specs.Sheet.{sourceError, plannedSheet}
 use Rattle.all_sheets.specs.All.{sheetsFrom, left}
-use Rattle.all_sheets.specs.Run.{runSheets, runNext, joined, boards, runBytes}
-use Rattle.all_sheets.proofs.ByBoard.{by-board}
+use Rattle.planner.specs.Run.{runSheets, runNext, joined, boards, runBytes}
+use Rattle.planner.proofs.ByBoard.{by-board}
 use Rattle.all_sheets.proofs.Lengths.{sheet-long, sheet-fits}
 
 module _ (p : List ℕ) (S n : ℕ) where

@@ -3,9 +3,9 @@ use Prim.Native.Nat.{ℕ, _<_}
 use mathlib.Core.Path.{_≡_}
 use mathlib.Core.List.{List, _++_}
 use lib.ListN.{length, take}
-use Rattle.all_sheets.specs.declared.run.Run.{Run}
-use Rattle.all_sheets.specs.declared.run.Answer.the-variants.{Written}
-use Rattle.all_sheets.specs.Run.{boards, runAnswer, runOutput}
+use Rattle.planner.specs.declared.run.Run.{Run}
+use Rattle.planner.specs.declared.run.Answer.the-variants.{Written}
+use Rattle.planner.specs.Run.{boards, runAnswer, runOutput}
 
 -- A run from the board `from` on, with a workspace of so many words, which writes r and turns the lent bytes o into t.
 pub record Ran (p : List ℕ) (from words : ℕ) (r : Run) (o t : List ℕ) : Type 0 where

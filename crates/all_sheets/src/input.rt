@@ -1,13 +1,13 @@
 // A run of a plan that a program reads: the first `size` bytes of a buffer, read from an input that may be longer.
-use crate::run::Answer;
-use crate::run::write_run;
 use plan_input::PLAN_BYTES;
+use planner::run::Answer;
+use planner::run::write_run;
 use text::part::front;
 ghost use mathlib.Core.List.{List};
 ghost use Prim.Native.Nat.{ℕ};
 ghost use lib.ListN.{take};
 ghost use Rattle.sheet.specs.Input.{ReadInto};
-ghost use Rattle.all_sheets.specs.Run.{RunWritten};
+ghost use Rattle.planner.specs.Run.{RunWritten};
 
 // A workspace for every plan: one of 4,096 boards.
 pub const WORDS: usize = 2097152;

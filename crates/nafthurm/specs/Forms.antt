@@ -21,7 +21,7 @@ use Rattle.choice.specs.Choice.{det}
 use Rattle.choice.specs.Answer.{answered}
 use Rattle.choice.specs.Outcome.{outcomeNumber, toldAs}
 use Rattle.sheet.specs.declared.output.Written.{Written}
-use Rattle.all_sheets.specs.declared.run.Answer.{Answer}
+use Rattle.planner.specs.declared.run.Answer.{Answer}
 use Rattle.routes.specs.Said.{saidBy, entryFor, heard}
 use Rattle.nafthurm.specs.declared.forms.ShapeForm.{ShapeForm}
 use Rattle.nafthurm.specs.declared.forms.LegForm.{LegForm}

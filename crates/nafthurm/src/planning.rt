@@ -17,7 +17,7 @@ ghost use Rattle.plan.specs.Checks.{large};
 ghost use Rattle.choice.specs.Pair.{pair};
 ghost use Rattle.choice.specs.Outcome.{told};
 ghost use Rattle.planner.specs.Sheet.{sourceError, plannedSheet};
-ghost use Rattle.all_sheets.specs.Run.{runAnswer, runOutput, passes};
+ghost use Rattle.planner.specs.Run.{runAnswer, runOutput, passes};
 ghost use Rattle.nafthurm.specs.Forms.{writtenFor, plannedFor, runFor};
 
 #[no_mangle]

@@ -46,7 +46,7 @@ use Rattle.masks.specs.Masks.{gatherAt, Ended, Masked}
 use Rattle.masks.proofs.Spans.{box-inside}
 use Rattle.masks.proofs.Tables.{gathered}
 use Rattle.planner.specs.Known.{isClear, OfPlan, IsAt, FromSet, ToBetween, BothTo, IsBox, routeTold, isGiven, Near, Nearing, Faring, Ready, BySets, ByLosses}
-use Rattle.planner.proofs.Knowing.{shape-ok, to-within}
+use Rattle.planner.proofs.Knowing.{shape-ok, dead-byte, to-within}
 use Rattle.planner.proofs.FirstSteps.{nodes-few}
 use Rattle.planner.proofs.Planning.{Source, pair-dead, pair-alive}
 
@@ -151,8 +151,7 @@ module _ (p : List ℕ) (s : Shape) (words : List ℕ) (count : ℕ) (dead ta td
   dest-small = omega (arith, to .node, nodes-few (shapeOf p) (shape-ok p h))
 
   dead-is : getD dead D 0 ≡ bitOf (deadNode (faultsOf p) D)
-  unfolding isPlan
-  dead-is = g .prepared .nodes D ∙ rw (eq-eqb (planError large p) 0 h)
+  dead-is = dead-byte p dead h (g .prepared .nodes) D
 
   pub dead-told : (getD dead D 0 ≡ 0 → ⊥) → Outcome.Refused deadEnd ≡ told (shapeOf p) S (pair large p S D)
   unfolding told toldAs

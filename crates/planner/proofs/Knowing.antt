@@ -8,7 +8,7 @@ use mathlib.Core.List.{List}
 use lib.ListN.{length, getD, set, length-set}
 use lib.Seq.{getD-set-same, getD-set-other}
 use lib.Dec.{eqb}
-use borrow.Author.Tests.{eqb-true, eqb-false}
+use borrow.Author.Tests.{eq-eqb, eqb-true, eqb-false}
 use Rattle.theory.proofs.Cases.{test, by-le}
 use Rattle.shape.specs.declared.shape.Shape.{Shape}
 use Rattle.shape.specs.declared.shape.Coords.{Coords}
@@ -20,9 +20,11 @@ use Rattle.machine.specs.declared.leg.Mode.the-variants.{Adaptive, Deterministi
 use Rattle.machine.specs.Number.{nodeCount, coordsOf, Inside}
 use Rattle.machine.specs.Hop.{rule, distance}
 use Rattle.machine.proofs.Numbers.{inside}
-use Rattle.plan.specs.Layout.{shapeOf}
+use Rattle.plan.specs.Layout.{shapeOf, faultsOf}
 use Rattle.plan.specs.Checks.{large, torusPlans, planError}
+use Rattle.plan.specs.Reading.{isPlan}
 use Rattle.plan.proofs.Plans.{accepted}
+use Rattle.dead.specs.Dead.{deadNode, bitOf, nodeAnswer}
 use Rattle.rows.specs.Bits.{bit, rowOf}
 use Rattle.rows.specs.Rows.{inRows, inSet, inProduct}
 use Rattle.rows.specs.Product.{Are}
@@ -38,6 +40,11 @@ use Rattle.planner.specs.Rows.{Elsewhere, Put}
 
 pub shape-ok : (p : List ℕ) → planError large p ≡ 0 → shapeError (shapeOf p) ≡ 0
 shape-ok p h = accepted torusPlans large p h .shape
+
+-- The byte of a node.
+pub dead-byte : (p dead : List ℕ) → planError large p ≡ 0 → ((n : ℕ) → getD dead n 0 ≡ bitOf (nodeAnswer large p n)) → (n : ℕ) → getD dead n 0 ≡ bitOf (deadNode (faultsOf p) n)
+unfolding isPlan
+dead-byte p dead h nodes n = nodes n ∙ rw (eq-eqb (planError large p) 0 h)
 
 -- The largest number of 16 bits has every bit.
 all-bits : (x : ℕ) → x < 16 → bit 65535 x ≡ true

@@ -13,3 +13,8 @@ pub mod Destination
 pub mod Pairs
 pub mod Writing
 pub mod EachOutcome
+pub mod Filling
+pub mod Checking
+pub mod Boarding
+pub mod ByBoard
+pub mod Running

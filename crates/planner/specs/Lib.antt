@@ -1,4 +1,5 @@
 pub mod Sheet
+pub mod Run
 pub mod Outcomes
 pub mod Demand
 -- The code's own steps.
@@ -7,3 +8,4 @@ pub mod ViaNumber
 pub mod Outside
 pub mod Rows
 pub mod Known
+pub mod Steps

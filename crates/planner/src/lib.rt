@@ -1,12 +1,15 @@
-// Planning: a pair, the sheet of a source, and all outcomes of a source.
+// Planning: a pair, the sheet of a source, all outcomes of a source, and a run of the sheets of all sources.
 mod between;
+mod boards;
 mod dest;
 mod far;
+mod fill;
 mod key_number;
 mod listed;
 mod near;
 pub mod outcomes;
 mod outside;
 pub mod pair;
+pub mod run;
 mod sets_of;
 pub mod sheets;

@@ -12,8 +12,8 @@ use Rattle.routes.specs.Layout.{formatBy}
 use Rattle.routes.proofs.Sheets.{accepted}
 use Rattle.planner.specs.Sheet.{sourceError, plannedSheet}
 use Rattle.planner.proofs.Planning.{source-of, sheet-accepted}
-use Rattle.all_sheets.specs.Run.{runSheets, joined}
-use Rattle.all_sheets.proofs.ByBoard.{by-board}
+use Rattle.planner.specs.Run.{runSheets, joined}
+use Rattle.planner.proofs.ByBoard.{by-board}
 use Rattle.sheets.specs.declared.tally.Tally.{Tally}
 use Rattle.sheets.specs.Tally.{tallied, talliedAll, Sized, EachSized}
 

@@ -10,7 +10,7 @@ ghost use Prim.Native.Nat.{ℕ, _+_, _-_, _≤_, _<_, min};
 ghost use lib.ListN.{length};
 ghost use Rattle.sheet.specs.Bytes.{word};
 ghost use Rattle.routes.specs.Layout.{entriesOf};
-ghost use Rattle.all_sheets.specs.Run.{joined};
+ghost use Rattle.planner.specs.Run.{joined};
 ghost use Rattle.sheets.specs.Tally.{plus, isWithout, withoutIn, noTally, tallied, talliedAll, EachSized};
 
 pub struct Tally {

@@ -2,9 +2,9 @@ use borrow.Author.Needs.{needs}
 use native.Mathlib.Omega.{arith}
 use mathlib.Core.Path.{sym, _∙_}
 use mathlib.Core.List.{[]}
-use Rattle.all_sheets.proofs.Checking.{refused-run, all-boards, few-run, written-run}
-use Rattle.all_sheets.proofs.run.write_run.Statement.{statement}
-use Rattle.all_sheets.proofs.run.write_run.Tie as tie
+use Rattle.planner.proofs.Checking.{refused-run, all-boards, few-run, written-run}
+use Rattle.planner.proofs.run.write_run.Statement.{statement}
+use Rattle.planner.proofs.run.write_run.Tie as tie
 
 run-error-requires : tie.Need-run-error-requires
 run-error-requires c κs = search needs

@@ -7,8 +7,8 @@ use lib.Dec.{eqb}
 use borrow.Author.Tests.{eqb-true, eqb-false, lt-ltb, le-ltb}
 use Rattle.theory.proofs.Cases.{test, by-le}
 use Rattle.plan.specs.Checks.{large}
 use Rattle.planner.specs.Sheet.{sourceError, plannedSheet}
-use Rattle.all_sheets.specs.Run.{runSheets, runNext}
+use Rattle.planner.specs.Run.{runSheets, runNext}
 
 module _ (p : List ℕ) (S n room : ℕ) where
   abbrev s : List ℕ

@@ -1,7 +1,7 @@
 use borrow.Author.Needs.{needs}
-use Rattle.all_sheets.proofs.Checking.{run-error}
-use Rattle.all_sheets.proofs.run.run_error.Statement.{statement}
-use Rattle.all_sheets.proofs.run.run_error.Tie as tie
+use Rattle.planner.proofs.Checking.{run-error}
+use Rattle.planner.proofs.run.run_error.Statement.{statement}
+use Rattle.planner.proofs.run.run_error.Tie as tie
 
 check-requires : tie.Need-check-requires
 check-requires c κs = search needs

@@ -7,11 +7,11 @@ use lib.ListN.{length, drop}
 use lib.Dec.{ltb, eqb}
 use Rattle.numbers.specs.Numbers.{outputShort}
 use Rattle.plan.specs.Checks.{large}
 use Rattle.planner.specs.Sheet.{sourceError, plannedSheet}
-use Rattle.all_sheets.specs.declared.boards.Step.{Step}
-use Rattle.all_sheets.specs.declared.run.Run.{Run}
-use Rattle.all_sheets.specs.declared.run.Answer.{Answer}
-use Rattle.all_sheets.specs.declared.run.Answer.the-variants.{Written, Refused}
+use Rattle.planner.specs.declared.boards.Step.{Step}
+use Rattle.planner.specs.declared.run.Run.{Run}
+use Rattle.planner.specs.declared.run.Answer.{Answer}
+use Rattle.planner.specs.declared.run.Answer.the-variants.{Written, Refused}
 
 -- The answer with `all` boards: 12 where nothing was written and a sheet is left.
 unfoldable pub ended : Run → ℕ → Answer

@@ -18,11 +18,11 @@ use Rattle.plan.specs.Layout.{shapeOf}
 use Rattle.plan.specs.Checks.{large, torusPlans, planError}
 use Rattle.plan.proofs.Plans.{accepted}
 use Rattle.dead.proofs.Table.{is-node}
-use Rattle.all_sheets.specs.declared.run.Run.{Run}
-use Rattle.all_sheets.specs.declared.run.Answer.{Answer}
-use Rattle.all_sheets.specs.declared.run.Answer.the-variants.{Refused, FewWords}
-use Rattle.all_sheets.specs.Run.{boards, runOf, runAfter, runError, runAnswer, passes, runOutput, RunWritten}
-use Rattle.all_sheets.specs.Steps.{ended}
+use Rattle.planner.specs.declared.run.Run.{Run}
+use Rattle.planner.specs.declared.run.Answer.{Answer}
+use Rattle.planner.specs.declared.run.Answer.the-variants.{Refused, FewWords}
+use Rattle.planner.specs.Run.{boards, runOf, runAfter, runError, runAnswer, passes, runOutput, RunWritten}
+use Rattle.planner.specs.Steps.{ended}
 
 checked : (a : Bool) → cond a 0 nodeOutside ≡ (declined (not a) nodeOutside then 0)
 checked true = refl

@@ -1,8 +1,8 @@
 use borrow.Author.Needs.{needs}
 use mathlib.Core.Path.{sym, _∙_}
-use Rattle.all_sheets.specs.Steps.{ended}
-use Rattle.all_sheets.proofs.run.ended.Statement.{statement}
-use Rattle.all_sheets.proofs.run.ended.Tie as tie
+use Rattle.planner.specs.Steps.{ended}
+use Rattle.planner.proofs.run.ended.Statement.{statement}
+use Rattle.planner.proofs.run.ended.Tie as tie
 
 both-requires : tie.Need-both-requires
 both-requires c κs = search needs

@@ -8,12 +8,12 @@ use mathlib.Core.List.{List, [], _∷_, _++_, append-assoc, append-nil}
 use lib.ListN.{length, take, drop, length-append, length-take, length-drop, take-append-drop, drop-of-length-le}
 use lib.Seq.{length-take-le, take-all, take-append-seam, drop-append-seam, drop-drop}
 use Rattle.plan.specs.Checks.{large}
 use Rattle.planner.specs.Sheet.{plannedSheet}
-use Rattle.all_sheets.specs.declared.boards.Step.{Step}
-use Rattle.all_sheets.specs.declared.run.Run.{Run}
-use Rattle.all_sheets.specs.Run.{runSheets, runNext, joined, boards, runBytes, runOf, runAfter}
-use Rattle.all_sheets.specs.Steps.{Boarded}
-use Rattle.all_sheets.proofs.ByBoard.{Dead, Fits, Full, by-board}
+use Rattle.planner.specs.declared.boards.Step.{Step}
+use Rattle.planner.specs.declared.run.Run.{Run}
+use Rattle.planner.specs.Run.{runSheets, runNext, joined, boards, runBytes, runOf, runAfter}
+use Rattle.planner.specs.Steps.{Boarded}
+use Rattle.planner.proofs.ByBoard.{Dead, Fits, Full, by-board}
 
 -- The first `size` bytes of t are the sheets of the boards before `next`
 pub record Running (p : List ℕ) (from all : ℕ) (o t : List ℕ) (size next : ℕ) : Type 0 where

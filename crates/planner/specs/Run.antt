@@ -11,10 +11,10 @@ use Rattle.machine.specs.Number.{nodeCount}
 use Rattle.machine.specs.Node.{isNode}
 use Rattle.plan.specs.Layout.{shapeOf}
 use Rattle.plan.specs.Checks.{large, planError}
 use Rattle.planner.specs.Sheet.{sourceError, plannedSheet}
-use Rattle.all_sheets.specs.declared.run.Run.{Run}
-use Rattle.all_sheets.specs.declared.run.Answer.{Answer}
-use Rattle.all_sheets.specs.declared.run.Answer.the-variants.{Written, Refused, FewWords}
+use Rattle.planner.specs.declared.run.Run.{Run}
+use Rattle.planner.specs.declared.run.Answer.{Answer}
+use Rattle.planner.specs.declared.run.Answer.the-variants.{Written, Refused, FewWords}
 
 -- Of the n boards from S on, the sheets of the sound ones, in rising order, that `room` bytes take: up to the first that does not fit.
 unfoldable pub runSheets : List ℕ → ℕ → ℕ → ℕ → List (List ℕ)

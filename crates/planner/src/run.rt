@@ -10,8 +10,8 @@ use plan::check;
 use plan::layout::shape_in;
 ghost use mathlib.Core.Path.{_≡_};
 ghost use Prim.Native.Nat.{_*_};
-ghost use Rattle.all_sheets.specs.Run.{runError, RunWritten};
-ghost use Rattle.all_sheets.specs.Steps.{ended};
+ghost use Rattle.planner.specs.Run.{runError, RunWritten};
+ghost use Rattle.planner.specs.Steps.{ended};
 
 // The workspace that a plan's boards take.
 pub const WORDS_A_BOARD: usize = 512;

@@ -1,0 +1,116 @@
+-- A board's turn in a run.
+use Prim.Native.Nat.{ℕ, _≤_, _<_}
+use native.Mathlib.Omega.{arith}
+use mathlib.Core.Path.{_≡_, refl, sym, ap, _∙_}
+use mathlib.Core.Logic.{inr}
+use mathlib.Core.Bool.{false}
+use mathlib.Core.List.{List, _++_}
+use lib.ListN.{length, getD, drop}
+use lib.Dec.{eqb}
+use Rattle.theory.proofs.Cases.{test}
+use Rattle.sheet.specs.declared.output.Written.{Written}
+use Rattle.sheet.specs.declared.output.Written.the-variants.{Bytes, Refused}
+use Rattle.sheet.specs.Output.{roomError, written, outAfter}
+use Rattle.sheet.proofs.Outputs.{of-refusal, no-room, room}
+use Rattle.shape.specs.declared.shape.Shape.{Shape}
+use Rattle.shape.specs.declared.shape.Coords.{Coords}
+use Rattle.machine.specs.declared.leg.Mode.the-variants.{Adaptive, Deterministic}
+use Rattle.machine.specs.Number.{nodeCount}
+use Rattle.machine.specs.Node.{coordsAnswer}
+use Rattle.plan.specs.Layout.{shapeOf, faultsOf}
+use Rattle.plan.specs.Checks.{large}
+use Rattle.dead.specs.Dead.{deadNode, bitOf, nodeAnswer}
+use Rattle.dead.proofs.Table.{is-node}
+use Rattle.route_value.specs.declared.reading.Routes.{Routes}
+use Rattle.route_value.specs.Writing.{routeEntries, sheetOf, countError}
+use Rattle.losses.specs.OfPlan.{AreLosses}
+use Rattle.masks.specs.Masks.{Masked}
+use Rattle.planner.specs.declared.boards.Step.{Step}
+use Rattle.planner.specs.Sheet.{sourceError, entriesFrom, plannedSheet}
+use Rattle.planner.specs.Run.{runError}
+use Rattle.planner.specs.Known.{OfPlan, IsAt, Filled, Prepared}
+use Rattle.planner.specs.Steps.{Boarded}
+use Rattle.planner.proofs.Knowing.{shape-ok, dead-byte}
+use Rattle.planner.proofs.FirstSteps.{nodes-few}
+use Rattle.planner.proofs.Filling.{at-coords}
+use Rattle.planner.proofs.Planning.{Source, source-of, no-error}
+use Rattle.planner.proofs.Writing.{put-is}
+use Rattle.planner.proofs.Checking.{accepted-run}
+
+-- What is made of a plan once a run.
+module _ (p : List ℕ) (from : ℕ) (s : Shape) (words : List ℕ) (count : ℕ) (h : runError p from ≡ 0) (es : s ≡ shapeOf p) (l : AreLosses p words count) where
+  pub run-plan : OfPlan p s words count
+  run-plan = record { plan = accepted-run p from h; shape = es; losses = l }
+
+  pub run-prepared :
+      (dead ta td work : List ℕ) → ((n : ℕ) → getD dead n 0 ≡ bitOf (nodeAnswer large p n)) → Masked Adaptive false s ta → Masked Deterministic false s td → Filled p work →
+      Prepared p s words count dead ta td work
+  run-prepared dead ta td work nodes ma md f = record { of-plan = run-plan; nodes = nodes; adaptive = ma; deterministic = md; sets = inr f }
+
+abbrev stepOf : Written → Step
+stepOf (Bytes n) = record { size = n; full = false }
+stepOf (Refused n) = record { size = 0; full = eqb n 12 }
+
+-- The sheet s of a sound source, which turns the lent bytes o into t.
+module _ (p : List ℕ) (S : ℕ) (sound : sourceError large p S ≡ 0) (o t : List ℕ) (w : Written) (made : (w ≡ written (roomError (sourceError large p S) (plannedSheet large p S) o) (plannedSheet large p S)) × (t ≡ outAfter (roomError (sourceError large p S) (plannedSheet large p S) o) (plannedSheet large p S) o)) where
+  abbrev s : List ℕ
+  s = plannedSheet large p S
+
+  abbrev e : ℕ
+  e = sourceError large p S
+
+  refusal : (n : ℕ) → (n ≡ 0 → ⊥) → roomError e s o ≡ n → (w ≡ Refused n) × (t ≡ o)
+  unfolding written outAfter
+  refusal n z h =
+      of-refusal (λ k. (w ≡ written k s) × (t ≡ outAfter k s o) → (w ≡ Refused k) × (t ≡ o)) (λ k m. m) n z (rw h at made)
+
+  fitting : e ≡ 0 → length s ≤ length o → (w ≡ Bytes (length s)) × (t ≡ s ++ drop (length s) o)
+  unfolding written outAfter
+  fitting h l = rw (room e s o h l) at made
+
+  boarded : Boarded p S o (stepOf w) t
+  boarded = record {
+    dead = λ n. absurd (n sound);
+    fits = λ h l. let k = fitting h l in (ap (λ x. stepOf x .size) (k .0), ap (λ x. stepOf x .full) (k .0), k .1);
+    full = λ h l. let k = refusal 12 (λ z. omega arith) (no-room e s o h l) in (ap (λ x. stepOf x .full) (k .0), k .1);
+  }
+
+  boarded-bytes : (n : ℕ) → w ≡ Bytes n → Boarded p S o (record { size = n; full = false }) t
+  boarded-bytes n q = rw q at boarded
+
+  boarded-refused : (n : ℕ) → w ≡ Refused n → Boarded p S o (record { size = 0; full = eqb n 12 }) t
+  boarded-refused n q = rw q at boarded
+
+module _ (p : List ℕ) (s : Shape) (words : List ℕ) (count : ℕ) (dead ta td work : List ℕ) (k : Prepared p s words count dead ta td work) (S : ℕ) (l : S < nodeCount (shapeOf p)) where
+  pub board-small : S < 4096
+  board-small = omega (arith, nodes-few (shapeOf p) (shape-ok p (k .of-plan .plan)))
+
+  dead-is : getD dead S 0 ≡ bitOf (deadNode (faultsOf p) S)
+  dead-is = dead-byte p dead (k .of-plan .plan) (k .nodes) S
+
+  pub dead-board : (getD dead S 0 ≡ 0 → ⊥) → (o : List ℕ) → Boarded p S o (record { size = 0; full = false }) o
+  dead-board n o =
+      let no : sourceError large p S ≡ 0 → ⊥ = λ e. n (dead-is ∙ ap bitOf (source-of large p S e .alive)) in
+      record { dead = λ _. (refl, refl, refl); fits = λ e m. absurd (no e); full = λ e m. absurd (no e) }
+
+  module _ (z : getD dead S 0 ≡ 0) where
+    source : Source large p S
+    source = record {
+      plan = k .of-plan .plan;
+      node = is-node (shapeOf p) S (record { sound = shape-ok p (k .of-plan .plan); below = l });
+      alive = test (deadNode (faultsOf p) S) (λ d. let q : _≡_ {A = ℕ} 1 0 = sym (dead-is ∙ ap bitOf d) ∙ z in absurd (omega arith)) (λ d. d);
+    }
+
+    pub board-at : (a : Coords) → a ≡ coordsAnswer s S → Prepared p s words count dead ta td work × (IsAt p S a × (deadNode (faultsOf p) S ≡ false))
+    board-at a e = (k, (at-coords p (k .of-plan .plan) s S a (k .of-plan .shape) l e, source .alive))
+
+    module _ (r : Routes) (made : (r .source ≡ S) × (routeEntries r ≡ entriesFrom large p S 0 (nodeCount (shapeOf p)))) (o t : List ℕ) (w : Written)
+        (put : (w ≡ written (roomError (countError r) (sheetOf r) o) (sheetOf r)) × (t ≡ outAfter (roomError (countError r) (sheetOf r) o) (sheetOf r) o)) where
+      sound : sourceError large p S ≡ 0
+      sound = no-error large p S source
+
+      pub board-bytes : (n : ℕ) → w ≡ Bytes n → Boarded p S o (record { size = n; full = false }) t
+      board-bytes n q = boarded-bytes p S sound o t w (put-is p S 0 r o w t (sym sound) refl made put) n q
+
+      pub board-refused : (n : ℕ) → w ≡ Refused n → Boarded p S o (record { size = 0; full = eqb n 12 }) t
+      board-refused n q = boarded-refused p S sound o t w (put-is p S 0 r o w t (sym sound) refl made put) n q

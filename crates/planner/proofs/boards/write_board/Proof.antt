@@ -1,0 +1,69 @@
+use borrow.Author.Needs.{needs}
+use Rattle.planner.proofs.Boarding.{board-small, dead-board, board-at, board-bytes, board-refused}
+use Rattle.planner.proofs.boards.write_board.Statement.{statement}
+use Rattle.planner.proofs.boards.write_board.Tie as tie
+use Rattle.planner.proofs.boards.write_board.Reads as reads
+use Rattle.planner.proofs.boards.write_board.Lts as lts
+use Rattle.machine.proofs.node.coords.Reads as coords-reads
+use Rattle.planner.proofs.listed.routes_from.Reads as routes-from-reads
+use Rattle.route_value.proofs.put_routes.Reads as put-routes-reads
+
+-- src/boards.rt:48:8
+element-copy-out-if1 : tie.Need-element-copy-out-if1
+element-copy-out-if1 c = board-small _ _ _ _ _ _ _ _ (c .before .before .before .pre .0) _ (c .before .before .before .pre .1)
+
+-- src/boards.rt:49:9
+returns : tie.Need-returns
+returns c = dead-board _ _ _ _ _ _ _ _ (c .before .before .before .before .before .pre .0) _ (c .before .before .before .before .before .pre .1) (c .if1 .taken) _
+
+-- src/boards.rt:64:9
+coords-requires : tie.Need-coords-requires
+coords-requires c κs = search needs
+
+-- src/boards.rt:54:9
+routes-from-requires : tie.Need-routes-from-requires
+routes-from-requires c κs = board-at _ _ _ _ _ _ _ _ (c .before .before .before .before .before .before .pre .0) _ (c .before .before .before .before .before .before .pre .1) (c .before .if1 .left) _ (c .coords .ensures)
+
+-- src/boards.rt:66:11
+put-routes-requires : tie.Need-put-routes-requires
+put-routes-requires c κs = search needs
+
+-- src/boards.rt:67:24
+enum-known-size : tie.Need-enum-known-size
+enum-known-size c = search needs
+
+-- src/boards.rt:71:26
+enum-known-number : tie.Need-enum-known-number
+enum-known-number c = search needs
+
+-- src/boards.rt:31:1
+same-length : tie.Need-same-length
+same-length c = search needs
+
+-- src/boards.rt:31:1
+returns-2 : tie.Need-returns-2
+returns-2 c = board-bytes _ _ _ _ _ _ _ _ (c .before .before .before .before .before .before .before .before .before .before .before .before .before .before .pre .0) _ (c .before .before .before .before .before .before .before .before .before .before .before .before .before .before .pre .1) (c .before .before .before .before .before .before .before .before .before .if1 .left) _ (c .before .before .before .before .before .before .before .routes-from .ensures) _ _ _ (c .before .before .before .before .before .put-routes .ensures) _ (c .before .size .given .1)
+
+-- src/boards.rt:31:1
+same-length-2 : tie.Need-same-length-2
+same-length-2 c = search needs
+
+-- src/boards.rt:31:1
+returns-3 : tie.Need-returns-3
+returns-3 c = board-refused _ _ _ _ _ _ _ _ (c .before .before .before .before .before .before .before .before .before .before .before .before .before .before .pre .0) _ (c .before .before .before .before .before .before .before .before .before .before .before .before .before .before .pre .1) (c .before .before .before .before .before .before .before .before .before .if1 .left) _ (c .before .before .before .before .before .before .before .routes-from .ensures) _ _ _ (c .before .before .before .before .before .put-routes .ensures) _ (c .before .number .given .1)
+
+pub write-board-spec : {M : Type 1} → statement M
+write-board-spec =
+    tie.close
+    (tie.spec
+    element-copy-out-if1
+    returns
+    coords-requires
+    routes-from-requires
+    put-routes-requires
+    enum-known-size
+    enum-known-number
+    same-length
+    returns-2
+    same-length-2
+    returns-3)

@@ -1,0 +1,154 @@
+// The boards of a run, one after the other.
+use crate::fill::fill;
+use crate::listed::routes_from;
+use crate::run::Run;
+use dead::dead_nodes;
+use losses::losses;
+use machine::leg::Mode;
+use machine::node::coords;
+use masks::table::table;
+use numbers::OUTPUT_SHORT;
+use plan::layout::shape_in;
+use route_value::put_routes;
+use shape::Shape;
+use sheet::output::Written;
+ghost use mathlib.Core.Path.{_≡_};
+ghost use Prim.Native.Nat.{_*_, _≤_, _<_};
+ghost use lib.ListN.{length};
+ghost use Rattle.machine.specs.Number.{nodeCount};
+ghost use Rattle.plan.specs.Layout.{shapeOf};
+ghost use Rattle.plan.specs.Checks.{large};
+ghost use Rattle.planner.specs.Run.{runError, runOf, runAfter};
+ghost use Rattle.planner.specs.Known.{Prepared};
+ghost use Rattle.planner.specs.Steps.{Boarded};
+
+// The bytes of a board's sheet, none where it is dead; and whether the sheet does not fit.
+pub struct Step {
+    pub size: usize,
+    pub full: bool,
+}
+
+fn write_board(
+    plan: &[u8],
+    shape: Shape,
+    words: &[u16; 256],
+    count: usize,
+    dead: &[u8; 4096],
+    ta: &[u16; 4608],
+    td: &[u16; 4608],
+    work: &[u16],
+    source: u16,
+    out: &mut [u8],
+) -> Step
+    requires { ⌜ Prepared (now plan) shape (now words) count (now dead) (now ta) (now td) (now work) ⌝ }
+    requires { ⌜ source < nodeCount (shapeOf (now plan)) ⌝ }
+    ensures { λ r. ⌜ Boarded (now (plan .entry)) source (now (out .entry)) r (now (out .exit)) ⌝ }
+{
+    let at = source as usize;
+    if dead[at] != 0 {
+        return Step {
+            size: 0,
+            full: false,
+        };
+    }
+    let routes = routes_from(
+        plan,
+        shape,
+        words,
+        count,
+        dead,
+        ta,
+        td,
+        work,
+        source,
+        coords(shape, source),
+    );
+    match put_routes(routes, out) {
+        Written::Bytes(size) => Step {
+            size: size,
+            full: false,
+        },
+        Written::Refused(number) => Step {
+            size: 0,
+            full: number == OUTPUT_SHORT,
+        },
+    }
+}
+
+// The run from a board on, with the sets to all nodes.
+fn boards_from(
+    plan: &[u8],
+    shape: Shape,
+    words: &[u16; 256],
+    count: usize,
+    dead: &[u8; 4096],
+    ta: &[u16; 4608],
+    td: &[u16; 4608],
+    work: &[u16],
+    from: u16,
+    all: u16,
+    out: &mut [u8],
+) -> Run
+    requires { ⌜ Prepared (now plan) shape (now words) count (now dead) (now ta) (now td) (now work) ⌝ }
+    requires { ⌜ all ≡ nodeCount (shapeOf (now plan)) ⌝ }
+    ensures { λ r. ⌜ r ≡ runOf (now (plan .entry)) from (length (now (out .entry))) ⌝ }
+    ensures { λ _. ⌜ now (out .exit) ≡ runAfter (now (plan .entry)) from (now (out .entry)) ⌝ }
+{
+    let mut size: usize = 0;
+    let mut next = from;
+    while next < all {
+        let step = write_board(
+            plan,
+            shape,
+            words,
+            count,
+            dead,
+            ta,
+            td,
+            work,
+            next,
+            &mut out[size..],
+        );
+        if step.full {
+            return Run {
+                size: size,
+                next: next,
+            };
+        }
+        size = size + step.size;
+        next = next + 1;
+    }
+    Run {
+        size: size,
+        next: next,
+    }
+}
+
+// The run from a board on, of an accepted plan with `all` boards: the sets to all nodes are made once.
+pub fn write_boards(plan: &[u8], from: u16, all: u16, work: &mut [u16], out: &mut [u8]) -> Run
+    requires { ⌜ (runError (now plan) from ≡ 0) × (all ≡ nodeCount (shapeOf (now plan))) × (512 * all ≤ length (now work)) ⌝ }
+    ensures { λ r. ⌜ r ≡ runOf (now (plan .entry)) from (length (now (out .entry))) ⌝ }
+    ensures { λ _. ⌜ now (out .exit) ≡ runAfter (now (plan .entry)) from (now (out .entry)) ⌝ }
+{
+    let shape = shape_in(plan);
+    let lost = losses(plan);
+    let words = lost.words;
+    let count = lost.count as usize;
+    let dead = dead_nodes(plan);
+    let ta = table(Mode::Adaptive, false, shape);
+    let td = table(Mode::Deterministic, false, shape);
+    fill(plan, shape, &words, count, &ta, &td, all, work);
+    boards_from(
+        plan,
+        shape,
+        &words,
+        count,
+        &dead,
+        &ta,
+        &td,
+        work,
+        from,
+        all,
+        out,
+    )
+}
