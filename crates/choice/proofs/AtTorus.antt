@@ -8,21 +8,19 @@ use Rattle.theory.specs.Machine.{Inside}
 use Rattle.theory.specs.Clear.{clear}
 use Rattle.theory.specs.Choice.{best}
 use Rattle.theory.specs.Plan.{planned}
-use Rattle.theory.proofs.Clear.{empty-clear, clear-iff, clearLegs-same}
-use Rattle.theory.proofs.Choice.{best-same}
+use Rattle.theory.proofs.Clear.{empty-clear, clear-iff}
 use Rattle.shape.specs.declared.shape.Shape.{Shape}
 use Rattle.shape.specs.Shape.{shapeError}
 use Rattle.machine.specs.declared.leg.Mode.the-variants.{Adaptive}
 use Rattle.machine.specs.Number.{nodeCount}
-use Rattle.machine.specs.Hop.{distance, link}
+use Rattle.machine.specs.Hop.{distance}
 use Rattle.machine.specs.Torus.{leg, torus}
-use Rattle.machine.proofs.Laws.{distance-self, triangle, useful-link}
-use Rattle.machine.proofs.Torus.{torus-laws, allowed-useful}
-use Rattle.choice.specs.Choice.{Choice, mostVias, targetsOf, Below, AdmitsIn, choices, before, beforeIn, legLength}
+use Rattle.machine.proofs.Laws.{distance-self, triangle}
+use Rattle.machine.proofs.Torus.{torus-laws}
+use Rattle.choice.specs.Choice.{Choice, mostVias, targetsOf, Below, AdmitsIn, beforeIn, legLength}
 use Rattle.choice.specs.Further.{firstBy, better, directly, furthered}
 use Rattle.choice.specs.Pair.{routeBy}
 use Rattle.choice.proofs.Lists.{below-targets}
-use Rattle.choice.proofs.Listed.{lists-admits}
 use Rattle.choice.proofs.Further as Further
 use Rattle.choice.proofs.Shortest as Shortest
 
@@ -54,15 +52,6 @@ module _ (s : Shape) (h : shapeError s ≡ 0) (sound : ℕ → ℕ → Bool) (S 
   pub direct-first : clear (torus s) sound (leg D Adaptive) S ≡ true → routeBy s sound S D ≡ some (leg D Adaptive ∷ [])
   unfolding routeBy planned firstBy
   direct-first c = Shortest.direct-first (legLength s) (nodeCount s) (distance-self s) (leg-triangle s h) (clear (torus s) sound) mostVias S D hS hD c
-
-  -- Two accounts of the sound links that agree where there are links give one route.
-  pub route-same : (other : ℕ → ℕ → Bool) → ((n d : ℕ) → n < nodeCount s → link s n d ≡ true → sound n d ≡ other n d) → routeBy s sound S D ≡ routeBy s other S D
-  unfolding routeBy planned
-  route-same other same =
-      best-same (beforeIn s S) _ _ (choices s S D)
-      (λ c m. clearLegs-same (torus s) (torus-laws s h) sound other
-      (λ l p d at end a. same p d at (useful-link s p (l .target) d (allowed-useful s h p (l .target) at end (l .mode) d a)))
-      S c hS (admits-inside s S D hD c (lists-admits mostVias (nodeCount s) S D c m)))
 
   -- The route: the first of the better direct leg and, over all nodes w, of the better leg to w with the better leg from w to D behind it.
   pub route-first : routeBy s sound S D ≡ best (beforeIn s S) (λ _. true) (furthered (legLength s) (clear (torus s) sound) 0 (nodeCount s) S D)

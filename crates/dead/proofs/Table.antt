@@ -58,11 +58,6 @@ module _ (s : Shape) (n : ℕ) (hn : Node s n) where
       (λ e. rw e (bit-marks (markBit t n d) (neighbour s n d) (opposite d) (bit-marks t n d m (node-below s n hn) k) (next-below d) (opposite-low d k)))
       (λ e. rw e m)
 
-  pub from-marks : (t : List ℕ) (d k : ℕ) → Marks t → d + k ≤ 6 → Marks (markFrom s t n d k)
-  unfolding markFrom
-  from-marks t d zero m h = m
-  from-marks t d (suc k) m h = link-marks (markFrom s t n d k) (d + k) (from-marks t d k m (omega arith)) (omega arith)
-
 -- One direction more.
 pub from-more : (s : Shape) (start t next : List ℕ) (n first d : ℕ) → first ≤ d → t ≡ markFrom s start n first (d - first) → next ≡ markLink s t n d → next ≡ markFrom s start n first (d + 1 - first)
 unfolding markFrom

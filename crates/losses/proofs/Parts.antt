@@ -1,9 +1,8 @@
 -- A fault's word: its parts, and that it fits.
-use Prim.Native.Nat.{ℕ, _+_, _*_, _/_, _%_, _≤_, _<_}
+use Prim.Native.Nat.{ℕ, _+_, _*_, _/_, _%_, _<_}
 use native.Mathlib.Omega.{arith}
 use mathlib.Core.Path.{_≡_, _∙_}
 use mathlib.Core.Bool.{true}
-use Rattle.theory.proofs.Cases.{test}
 use Rattle.shape.specs.declared.shape.Shape.{Shape}
 use Rattle.shape.specs.declared.shape.Coords.{Coords}
 use Rattle.shape.specs.declared.shape.Dim.the-variants.{X, Y, Z}
@@ -13,16 +12,11 @@ use Rattle.machine.specs.Number.{coordsOf, Inside}
 use Rattle.machine.specs.Node.{coordsAnswer}
 use Rattle.machine.proofs.Numbers.{inside}
 use Rattle.plan.specs.declared.layout.Fault.{Fault}
-use Rattle.plan.specs.Kinds.{nodeKind}
 use Rattle.plan.specs.Checks.{faultExists}
-use Rattle.dead.proofs.Links.{kind-low, exists-of}
+use Rattle.dead.proofs.Links.{exists-of}
 use Rattle.dead.proofs.Answers.{exists-node}
 use Rattle.losses.specs.Loss.{lossAt, lossKind}
 use Rattle.losses.specs.OfPlan.{keptKind, wordOf}
-
-pub kept-most : (k : ℕ) → keptKind k ≤ 9
-unfolding keptKind
-kept-most k = test (nodeKind k) (λ e. rw e (omega arith)) (λ e. rw e (omega (arith, kind-low k)))
 
 -- Coordinates of four bits each.
 pub record Small (c : Coords) : Type 0 where

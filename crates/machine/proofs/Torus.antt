@@ -46,11 +46,11 @@ module _ (s : Shape) (h : shapeError s ≡ 0) (n t : ℕ) (hn : n < nodeCount s)
   pub allowed-useful : (m : Mode) (dir : ℕ) → allowedBy rule m s n t dir ≡ true → useful s n t dir ≡ true
   allowed-useful m dir e = allowed-by-useful rule m dir e
 
-  pub useful-named : (dir : ℕ) → useful s n t dir ≡ true → dir < 6
+  useful-named : (dir : ℕ) → useful s n t dir ≡ true → dir < 6
   useful-named dir e = link-named s n dir (useful-link s n t dir e)
 
   -- A deterministic leg's one direction.
-  pub first-allowed : (ties : ℕ → Bool) → firstDirection ties s n t ≤ 5 → allowedBy ties Deterministic s n t (firstDirection ties s n t) ≡ true
+  first-allowed : (ties : ℕ → Bool) → firstDirection ties s n t ≤ 5 → allowedBy ties Deterministic s n t (firstDirection ties s n t) ≡ true
   unfolding allowedBy
   first-allowed ties l = rw (le-leb (firstDirection ties s n t) 5 l) (eq-eqb (firstDirection ties s n t) (firstDirection ties s n t) refl)
 

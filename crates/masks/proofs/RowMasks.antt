@@ -112,7 +112,3 @@ takes-deterministic mode from len ring false c at ways a b h m ew ea eb =
     rw (eb, ea, ew, m)
     (and-not (λ x. crosses len ring false c (cond from at x) (cond from x at)) (λ x. goes rule len ring (cond from at x) (cond from x at)) len h
     ∙ row-same _ _ len (λ x l. ap (λ (t : Bool). crosses len ring false c (cond from at x) (cond from x at) && t) (agree-minus (goes rule len ring (cond from at x) (cond from x at)))))
-
-pub ways-small : (from : Bool) (len : ℕ) (ring : Bool) (at ways : ℕ) → len ≤ 16 → ways ≡ waysRow from len ring at → ways ≤ 65535
-unfolding waysRow
-ways-small from len ring at ways h e = let most : 2 ^ len ≤ 65536 = pow-mono {i = len} {j = 16} h in omega (arith, row-below (λ x. goes rule len ring (cond from at x) (cond from x at)) len)

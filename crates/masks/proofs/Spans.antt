@@ -18,7 +18,7 @@ use Rattle.legs.specs.Between.{between}
 use Rattle.rows.specs.Bits.{bit, rowOf}
 use Rattle.rows.specs.Rows.{inProduct}
 use Rattle.rows.proofs.Bits.{row-bit}
-use Rattle.rows.proofs.Combined.{row-same, bit-ones}
+use Rattle.rows.proofs.Combined.{row-same}
 use Rattle.masks.specs.Ranges.{inRange}
 use Rattle.masks.specs.Span.{fullMask, betweenMask, boxOf}
 use Rattle.masks.proofs.Ranges.{ring-between, open-between}
@@ -133,17 +133,8 @@ pub full-none : (len : ℕ) → 16 < len → 0 ≡ fullMask len
 unfolding fullMask
 full-none len h = rw (lt-leb len 16 h)
 
-pub full-bit : (len x : ℕ) → len ≤ 16 → x < len → bit (fullMask len) x ≡ true
-unfolding fullMask
-full-bit len x h l = rw (le-leb len 16 h) (bit-ones len x ∙ lt-ltb x len l)
-
 -- ---- nodes
 module _ (s : Shape) (h : shapeError s ≡ 0) where
-  -- Every node is in the product of all places.
-  pub full-inside : (c : Coords) → Inside s c → inProduct (fullMask (s .x)) (fullMask (s .y)) (fullMask (s .z)) c ≡ true
-  unfolding inProduct
-  full-inside c i = rw (full-bit (s .x) (c .x) (sound s h X .high) (i .x), full-bit (s .y) (c .y) (sound s h Y .high) (i .y), full-bit (s .z) (c .z) (sound s h Z .high) (i .z))
-
   -- A node is in the box of two others exactly if it lies between them in each dimension.
   pub box-inside :
       (a t c : Coords) → Inside s a → Inside s t → Inside s c →

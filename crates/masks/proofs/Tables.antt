@@ -19,7 +19,6 @@ use Rattle.shape.specs.Shape.{shapeError, extentOf, wrappedIn, coordOf}
 use Rattle.shape.proofs.Shapes.{sound}
 use Rattle.machine.specs.declared.leg.Mode.{Mode}
 use Rattle.machine.specs.Hop.{pickDim}
-use Rattle.machine.specs.Number.{Inside}
 use Rattle.rows.proofs.Taking.{getD-same}
 use Rattle.rows.specs.Bits.{rowOf}
 use Rattle.masks.specs.Ranges.{waysRow, endWay, anyWay}
@@ -171,10 +170,3 @@ gathered mode from s table ends at full x y z g i l =
     small true b = x
     small false true = y
     small false false = z
-
--- The same at coordinates inside a shape that no check declines.
-pub gathered-inside : (mode : Mode) (from : Bool) (s : Shape) → shapeError s ≡ 0 → (table ends : List ℕ) (at : Coords) → Masked mode from s table → Inside s at → ((i : ℕ) → i < 288 → getD ends i 0 ≡ gatherAt table at i) → Ended mode from s at ends
-gathered-inside mode from s h table ends at full i g = gathered mode from s table ends at full (below X (i .x)) (below Y (i .y)) (below Z (i .z)) g
-  where
-    below : (d : Dim) → coordOf at d < extentOf s d → coordOf at d < 16
-    below d l = omega (arith, sound s h d .high)

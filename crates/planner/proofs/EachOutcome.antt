@@ -1,14 +1,13 @@
 -- What planning answers for every destination of a source: one by one.
-use Prim.Native.Nat.{ℕ, zero, suc, _+_, _≤_, _<_}
+use Prim.Native.Nat.{ℕ, _≤_, _<_}
 use native.Mathlib.Omega.{arith}
 use mathlib.Core.Path.{_≡_, refl, sym, ap, _∙_}
 use mathlib.Core.Bool.{Bool, true, false, cond}
 use mathlib.Core.List.{List}
-use lib.ListN.{length, getD, set, replicate}
-use lib.Dec.{ltb, eqb}
+use lib.ListN.{getD, set, replicate}
+use lib.Dec.{ltb}
 use borrow.Author.Tests.{eq-eqb, ne-eqb}
 use Rattle.theory.specs.Machine.{sumBy}
-use Rattle.theory.proofs.Cases.{test}
 use Rattle.sheet.proofs.Fill as Fill
 use Rattle.sheet.proofs.Fill.{Filling}
 use Rattle.shape.specs.declared.shape.Shape.{Shape}
@@ -26,11 +25,11 @@ use Rattle.packet.specs.declared.route.Route.{Route}
 use Rattle.choice.specs.declared.outcome.Outcome.{Outcome}
 use Rattle.choice.specs.Outcome.{told, toldAs}
 use Rattle.choice.specs.Pair.{pair}
-use Rattle.rows.specs.Rows.{inRows, inSet}
+use Rattle.rows.specs.Rows.{inRows}
 use Rattle.planner.specs.declared.outside.At.{At}
 use Rattle.planner.specs.Outside.{placeOf, Stands, Following}
 use Rattle.planner.specs.KeyNumber.{pickOutcome}
-use Rattle.planner.specs.Known.{isClear, IsAt, FromSet, Ready}
+use Rattle.planner.specs.Known.{IsAt, Ready}
 use Rattle.planner.specs.Sheet.{sourceError}
 use Rattle.planner.specs.Outcomes.{noOutcome, outcomeAt}
 use Rattle.planner.proofs.Knowing.{shape-ok}

@@ -1,7 +1,7 @@
--- The number of the choices by a via: it is that of the two legs in their better modes, and the length decides before all else.
-use Prim.Native.Nat.{ℕ, _+_, _*_, _≤_, _<_}
+-- The number of the choices by a via is that of the two legs in their better modes.
+use Prim.Native.Nat.{ℕ, _+_}
 use native.Mathlib.Omega.{arith}
-use mathlib.Core.Path.{_≡_, refl, sym, _∙_}
+use mathlib.Core.Path.{_≡_, refl, sym}
 use mathlib.Core.Bool.{Bool, true, false, cond, _&&_, true≢false}
 use mathlib.Core.List.{[], _∷_}
 use mathlib.Core.Option.{Option, none, some}
@@ -13,43 +13,9 @@ use Rattle.choice.specs.Choice.{viasOf, det, detsOf}
 use Rattle.choice.specs.OneVia.{viaOf, firstDet}
 use Rattle.choice.specs.Further.{better}
 use Rattle.choice.proofs.Further.{better-is}
-use Rattle.search.specs.Number.{lengthPlace, unclear, detOf, viaNumber}
+use Rattle.search.specs.Number.{unclear, detOf, viaNumber}
 use Rattle.planner.specs.KeyNumber.{digits, keyNumber}
 use Rattle.planner.specs.ViaNumber.{viaNumberBy}
-
-det-by-most : (a : Bool) → detOf a ≤ 1
-det-by-most true = omega arith
-det-by-most false = omega arith
-
--- A via is never below its length's place, and with both legs clear it is below that of the next length.
-pub number-least : (a₁ d₁ a₂ d₂ : Bool) (len v : ℕ) → len ≤ 256 → len * lengthPlace ≤ viaNumber len v a₁ d₁ a₂ d₂
-unfolding viaNumber
-number-least a₁ true a₂ true len v h = omega arith
-number-least a₁ true a₂ false len v h = omega arith
-number-least a₁ false a₂ d₂ len v h = omega arith
-
-pub number-most : (a₁ a₂ : Bool) (len v : ℕ) → v < 4096 → viaNumber len v a₁ true a₂ true < (len + 1) * lengthPlace
-unfolding viaNumber
-number-most a₁ a₂ len v h = omega (arith, det-by-most a₁, det-by-most a₂)
-
--- Of two vias the one with the shorter length has the lower number, whatever their modes, and whether the other's legs are clear or not.
-pub shorter-lower :
-    (a₁ a₂ b₁ e₁ b₂ e₂ : Bool) (len more u v : ℕ) → u < 4096 → len < more → more ≤ 256 →
-    viaNumber len u a₁ true a₂ true < viaNumber more v b₁ e₁ b₂ e₂
-shorter-lower a₁ a₂ b₁ e₁ b₂ e₂ len more u v low shorter most = omega (arith, number-most a₁ a₂ len u low, number-least b₁ e₁ b₂ e₂ more v most)
-
--- Of two vias of one length, both legs clear: the one with fewer deterministic legs; and of those with as many, the lower node.
-pub fewer-lower :
-    (a₁ a₂ b₁ b₂ : Bool) (len u v : ℕ) → u < 4096 → detOf a₁ + detOf a₂ < detOf b₁ + detOf b₂ →
-    viaNumber len u a₁ true a₂ true < viaNumber len v b₁ true b₂ true
-unfolding viaNumber
-fewer-lower a₁ a₂ b₁ b₂ len u v low fewer = omega (arith, det-by-most a₁)
-
-pub node-lower :
-    (a₁ a₂ b₁ b₂ : Bool) (len u v : ℕ) → u < v → detOf a₁ + detOf a₂ ≡ detOf b₁ + detOf b₂ →
-    viaNumber len u a₁ true a₂ true < viaNumber len v b₁ true b₂ true
-unfolding viaNumber
-node-lower a₁ a₂ b₁ b₂ len u v lower same = omega (arith, det-by-most a₁)
 
 -- Two bits say of a leg in which mode it is better taken.
 abbrev Tells : Bool → Bool → Option Leg → Type 0

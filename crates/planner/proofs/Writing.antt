@@ -1,8 +1,7 @@
 -- Writing the sheet of a source: its checks, the entries one by one, and the sheet.
-use Prim.Native.Nat.{ℕ, zero, suc, _+_, _-_, _*_, _≤_, _<_}
+use Prim.Native.Nat.{ℕ, zero, suc, _+_, _-_, _≤_, _<_}
 use native.Mathlib.Omega.{arith}
 use native.Mathlib.Numerals.{add-one}
-use native.Mathlib.Nat.{mul-zero, mul-assoc}
 use mathlib.Core.Path.{_≡_, refl, sym, ap, _∙_}
 use mathlib.Core.Logic.{inl}
 use mathlib.Core.Bool.{Bool, true, false, cond, not, true≢false}
@@ -10,23 +9,21 @@ use mathlib.Core.List.{List, [], _∷_, _++_}
 use lib.ListN.{length, getD, set, length-set, replicate}
 use lib.Seq.{getD-set-same, getD-set-other}
 use lib.Dec.{eqb}
-use borrow.Author.Tests.{eq-eqb, ne-eqb, lt-ltb}
+use borrow.Author.Tests.{eq-eqb, ne-eqb}
 use Rattle.numbers.specs.Numbers.{nodeOutside, deadEnd}
 use Rattle.theory.specs.Checks.{declined, _then_}
-use Rattle.theory.proofs.Cases.{by-order, by-le}
+use Rattle.theory.proofs.Cases.{by-order}
 use Rattle.sheet.specs.declared.output.Written.{Written}
 use Rattle.sheet.specs.Bytes.{listFrom}
 use Rattle.sheet.specs.Output.{roomError, written, outAfter}
 use Rattle.sheet.proofs.Records.{from-same}
 use Rattle.shape.specs.declared.shape.Shape.{Shape}
 use Rattle.shape.specs.declared.shape.Coords.{Coords}
-use Rattle.shape.specs.declared.shape.Dim.the-variants.{X, Y, Z}
+use Rattle.shape.specs.declared.shape.Dim.the-variants.{X}
 use Rattle.shape.specs.Shape.{shapeError}
 use Rattle.shape.proofs.Shapes.{sound}
-use Rattle.machine.specs.declared.leg.Mode.{Mode}
 use Rattle.machine.specs.declared.leg.Mode.the-variants.{Adaptive, Deterministic}
-use Rattle.machine.specs.Number.{nodeCount, numberOf, coordsOf, Inside}
-use Rattle.machine.proofs.Numbers.{coords-number, number-below}
+use Rattle.machine.specs.Number.{nodeCount, numberOf, coordsOf}
 use Rattle.rows.specs.Rows.{inSet}
 use Rattle.machine.specs.Node.{isNode, coordsAnswer}
 use Rattle.machine.proofs.Nodes.{node-of}
@@ -35,18 +32,14 @@ use Rattle.plan.specs.Checks.{large, planError}
 use Rattle.plan.specs.Reading.{isPlan}
 use Rattle.dead.specs.Dead.{deadNode, bitOf, nodeAnswer}
 use Rattle.dead.proofs.Table.{is-node}
-use Rattle.packet.specs.declared.route.Route.{Route}
 use Rattle.choice.specs.declared.outcome.Outcome.{Outcome}
-use Rattle.choice.specs.Choice.{det, lengthOf}
-use Rattle.choice.specs.Answer.{Answer, Given, Refused}
-use Rattle.choice.specs.Outcome.{told, toldAs}
+use Rattle.choice.specs.Answer.{Answer, Refused}
+use Rattle.choice.specs.Outcome.{told}
 use Rattle.choice.specs.Pair.{pair}
 use Rattle.routes.specs.declared.layout.Entry.{Entry}
 use Rattle.routes.specs.Layout as Layout
 use Rattle.routes.specs.Layout.{noEntry}
 use Rattle.routes.specs.Said.{entryFor, heard}
-use Rattle.routes.specs.Checks.{sheetError}
-use Rattle.routes.specs.Writing.{writeError}
 use Rattle.routes.proofs.Saying.{entry-told}
 use Rattle.route_value.specs.declared.reading.Routes.{Routes}
 use Rattle.route_value.specs.Writing.{sheetBytes, routeEntries, sheetOf, countError}
@@ -62,7 +55,7 @@ use Rattle.planner.proofs.Knowing.{shape-ok}
 use Rattle.planner.proofs.FirstSteps.{nodes-few}
 use Rattle.planner.proofs.Standing.{starts, stands-end, stands-below, stands-node, stands-at}
 use Rattle.planner.proofs.Unlisted.{unclear-listed, clear-unlisted}
-use Rattle.planner.proofs.Planning.{Source, source-of, self-unlisted, sheet-few, sheet-accepted}
+use Rattle.planner.proofs.Planning.{Source, source-of, self-unlisted, sheet-few}
 
 -- ---- the checks
 checks : (a b : Bool) → cond a (cond b deadEnd 0) nodeOutside ≡ (declined (not a) nodeOutside then declined b deadEnd then 0)
@@ -124,9 +117,6 @@ module _ (p : List ℕ) (S : ℕ) where
 
     most : nodeCount (shapeOf p) ≤ 4096
     most = nodes-few (shapeOf p) (node-of (shapeOf p) S (s .node) .sound)
-
-    pub bound : listed ≤ 4096
-    bound = omega (arith, most, g .few)
 
     rest : entriesFrom large p S d (nodeCount (shapeOf p) - d) ≡ cond (lists x) (entryFor d x ∷ entriesFrom large p S (d + 1) (nodeCount (shapeOf p) - (d + 1))) (entriesFrom large p S (d + 1) (nodeCount (shapeOf p) - (d + 1)))
     unfolding entriesFrom
@@ -313,12 +303,6 @@ module _ (p : List ℕ) (S e : ℕ) (r : Routes) (o : List ℕ) (w : Written) (o
       (w ≡ written (roomError k (sheetOf r) o) (sheetOf r)) × (out ≡ outAfter (roomError k (sheetOf r) o) (sheetOf r) o) →
       (w ≡ written (roomError (sourceError large p S) (plannedSheet large p S) o) (plannedSheet large p S)) × (out ≡ outAfter (roomError (sourceError large p S) (plannedSheet large p S) o) (plannedSheet large p S) o)
   by-checks k q h = rw (none, ← q, ← sheet-is) h
-
-  -- Written with the check of a route sheet.
-  pub written-is :
-      (w ≡ written (writeError large p (sheetOf r) o) (sheetOf r)) × (out ≡ outAfter (writeError large p (sheetOf r) o) (sheetOf r) o) →
-      (w ≡ written (roomError (sourceError large p S) (plannedSheet large p S) o) (plannedSheet large p S)) × (out ≡ outAfter (roomError (sourceError large p S) (plannedSheet large p S) o) (plannedSheet large p S) o)
-  written-is h = by-checks (sheetError large p (sheetOf r)) (ap (sheetError large p) sheet-is ∙ sheet-accepted large p S (source-of large p S none)) h
 
   -- And with no such check.
   pub put-is :

@@ -53,11 +53,6 @@ admitted-legs Q s S D one two (l ∷ m ∷ []) a =
     subst Q (sym is) (two (l .target) (l .mode) (m .mode) (subst (AdmitsIn s S D) is a))
 admitted-legs Q s S D one two (l ∷ m ∷ n ∷ ls) a = let h = a .few in absurd (omega arith)
 
--- An admitted choice, from the code's enum of it.
-pub heard-told : (s : Shape) (S D : ℕ) (c : Choice) → AdmitsIn s S D c → heard D (told s S (Given c)) ≡ Given c
-unfolding heard told toldAs legsTo
-heard-told s S D c a = admitted-legs (λ c. heard D (told s S (Given c)) ≡ Given c) s S D (λ m. refl) (λ v m n _. refl) c a
-
 -- An entry says what it was made for.
 pub says-choice : (s : Shape) (S D : ℕ) (c : Choice) → AdmitsIn s S D c → saidBy (entryFor D (Given c)) ≡ Given c
 unfolding saidBy entryFor viasOf kindOf kindFrom hasModes

@@ -13,19 +13,13 @@ use Rattle.machine.specs.Hop.{distance}
 use Rattle.machine.proofs.ByCoords.{distance-at}
 use Rattle.machine.proofs.Numbers.{inside}
 use Rattle.rows.specs.Rows.{inSet}
-use Rattle.search.specs.FirstVia.{hasRows, inAll, isVia}
+use Rattle.search.specs.FirstVia.{hasRows}
 use Rattle.search.specs.Number.{viaNumber}
 use Rattle.search.specs.BestVia.{within, askable, numberIn}
 
 long-enough : (len at n : ℕ) → at + n ≤ len → hasRows len at n ≡ true
 unfolding hasRows
 long-enough len at n h = le-leb (at + n) len h
-
-pub via-is :
-    (s : Shape) → shapeError s ≡ 0 → (bx by bz : ℕ) (from to : List ℕ) (at : ℕ) → at + 256 ≤ length to →
-    (v : ℕ) → isVia s bx by bz from to at v ≡ inAll s bx by bz from to at v
-unfolding isVia
-via-is s h bx by bz from to at k v = rw (eq-eqb (shapeError s) 0 h, long-enough (length to) at 256 k)
 
 inside-within : (s : Shape) (c : Coords) → Inside s c → within s c ≡ true
 unfolding within

@@ -1,14 +1,14 @@
 -- The way along one dimension that a deterministic leg takes: chosen at its start, and kept to its end.
 use Prim.Native.Nat.{ℕ, _+_, _-_, _*_, _≤_, _<_}
 use mathlib.Core.Bool.{Bool, true, false, false≢true, cond, not, _&&_}
-use mathlib.Core.Path.{_≡_, refl, sym, ap, _∙_}
+use mathlib.Core.Path.{_≡_, refl, sym, _∙_}
 use mathlib.Core.Logic.{_⊎_, ⊎-elim}
 use native.Mathlib.Omega.{arith}
 use lib.Dec.{leb}
-use borrow.Author.Tests.{lt-ltb, le-ltb, le-leb, lt-leb, ne-eqb, eq-eqb, leb-true, ltb-true}
-use Rattle.theory.proofs.Cases.{by-le, by-order}
+use borrow.Author.Tests.{lt-ltb, le-ltb, le-leb, lt-leb, ne-eqb, leb-true, ltb-true}
+use Rattle.theory.proofs.Cases.{by-le}
 use Rattle.shape.specs.Axis.{place, axisUseful}
-use Rattle.shape.specs.Steps.{ahead, ringUseful, goes}
+use Rattle.shape.specs.Steps.{ahead, goes}
 use Rattle.shape.proofs.AxisLaws.{Ahead, ahead-is, plus-ahead, minus-ahead, plus-in, plus-last, minus-in, minus-first, ring-useful, open-useful, axis-some, place-below}
 
 ahead-one : (len p q u v : ℕ) → Ahead len p q u → Ahead len p q v → u ≡ v
@@ -17,50 +17,11 @@ ahead-one len p q u v a b = by-le p q (λ h. omega (arith, a .up h, b .up h)) (�
 pub ahead-of : (len p q u : ℕ) → p < len → q < len → Ahead len p q u → ahead len p q ≡ u
 ahead-of len p q u hp hq w = ahead-one len p q _ u (ahead-is len p q hp hq) w
 
--- The hops going plus from q to p are those left of the ring.
-pub ahead-back : (len p q u : ℕ) → 0 < u → Ahead len p q u → Ahead len q p (len - u)
-ahead-back len p q u k w =
-    by-order p q
-    (λ a. let e = w .up (omega arith) in let b = w .below in record { below = omega arith; up = λ h. absurd (omega arith); round = λ _. omega arith })
-    (λ a. let e = w .up (omega arith) in absurd (omega arith))
-    (λ a. let e = w .round a in let b = w .below in record { below = omega arith; up = λ _. omega arith; round = λ h. absurd (omega arith) })
-
-same-leb : (a b c d : ℕ) → (a ≤ b → c ≤ d) → (c ≤ d → a ≤ b) → leb a b ≡ leb c d
-same-leb a b c d f g = by-le a b (λ h. le-leb a b h ∙ sym (le-leb c d (f h))) (λ h. by-le c d (λ k. absurd (omega (arith, g k))) (λ k. lt-leb a b h ∙ sym (lt-leb c d k)))
-
 nowhere : (len p q : ℕ) → Ahead len p q 0 → p < len → q < len → p ≡ q
 nowhere len p q w hp hq = by-le p q (λ h. omega (arith, w .up h)) (λ h. omega (arith, w .round h))
 
-ring-mirror : (len p q : ℕ) (plus : Bool) → p < len → q < len → axisUseful len true q p (not plus) ≡ axisUseful len true p q plus
-ring-mirror len p q plus hp hq = rw (ring-useful len q p (not plus) hq hp, ring-useful len p q plus hp hq) (by-le 1 (ahead len p q) (far plus) near)
-  where
-    w : Ahead len p q (ahead len p q)
-    w = ahead-is len p q hp hq
-
-    far : (plus : Bool) → 1 ≤ ahead len p q → ringUseful len (ahead len q p) (not plus) ≡ ringUseful len (ahead len p q) plus
-    far true h =
-        let b = w .below in
-        rw (ahead-of len q p (len - ahead len p q) hq hp (ahead-back len p q (ahead len p q) h w), ne-eqb (len - ahead len p q) 0 (λ e. omega arith), ne-eqb (ahead len p q) 0 (λ e. omega arith))
-        (same-leb len (2 * (len - ahead len p q)) (2 * ahead len p q) len (λ k. omega arith) (λ k. omega arith))
-    far false h =
-        let b = w .below in
-        rw (ahead-of len q p (len - ahead len p q) hq hp (ahead-back len p q (ahead len p q) h w), ne-eqb (len - ahead len p q) 0 (λ e. omega arith), ne-eqb (ahead len p q) 0 (λ e. omega arith))
-        (same-leb (2 * (len - ahead len p q)) len len (2 * ahead len p q) (λ k. omega arith) (λ k. omega arith))
-
-    near : ahead len p q < 1 → ringUseful len (ahead len q p) (not plus) ≡ ringUseful len (ahead len p q) plus
-    near h =
-        let z : ahead len p q ≡ 0 = omega arith in
-        let e = nowhere len p q (rw z at w) hp hq in
-        rw (eq-eqb (ahead len p q) 0 z, eq-eqb (ahead len q p) 0 (ap (λ n. ahead len n p) (sym e) ∙ ap (ahead len p) e ∙ z))
-
--- A hop is useful from p to q where the hop the other way is useful from q to p.
-pub mirror : (len : ℕ) (ring : Bool) (p q : ℕ) (plus : Bool) → p < len → q < len → axisUseful len ring q p (not plus) ≡ axisUseful len ring p q plus
-mirror len true p q plus hp hq = ring-mirror len p q plus hp hq
-mirror len false p q true hp hq = rw (open-useful len q p false hq hp, open-useful len p q true hp hq)
-mirror len false p q false hp hq = rw (open-useful len q p true hq hp, open-useful len p q false hp hq)
-
 -- ---- the place before q on the way from p, with the target moved there
-pub target-back : (len p q u : ℕ) → p < len → q < len → Ahead len p q (u + 1) → Ahead len p (place len q false) u
+target-back : (len p q u : ℕ) → p < len → q < len → Ahead len p q (u + 1) → Ahead len p (place len q false) u
 target-back len p q u hp hq w =
     by-le 1 q
     (λ a. rw (minus-in len q a) (by-le p q
@@ -70,7 +31,7 @@ target-back len p q u hp hq w =
     (λ b. let e = w .up b in absurd (omega arith))
     (λ b. let e = w .round b in record { below = omega (arith, w .below); up = λ _. omega arith; round = λ h. absurd (omega arith) })))
 
-pub target-on : (len p q u : ℕ) → p < len → q < len → u + 1 < len → Ahead len p q u → Ahead len p (place len q true) (u + 1)
+target-on : (len p q u : ℕ) → p < len → q < len → u + 1 < len → Ahead len p q u → Ahead len p (place len q true) (u + 1)
 target-on len p q u hp hq k w =
     by-le len (q + 1)
     (λ a. rw (plus-last len q a) (let e = w .up (omega arith) in record { below = k; up = λ h. absurd (omega arith); round = λ h. omega arith }))
@@ -78,7 +39,7 @@ target-on len p q u hp hq k w =
     (λ b. let e = w .up b in record { below = k; up = λ _. omega arith; round = λ h. absurd (omega arith) })
     (λ b. let e = w .round b in record { below = k; up = λ h. absurd (omega arith); round = λ _. omega arith })))
 
-pub target-whole : (len p q u : ℕ) → p < len → q < len → u + 1 ≡ len → Ahead len p q u → p ≡ place len q true
+target-whole : (len p q u : ℕ) → p < len → q < len → u + 1 ≡ len → Ahead len p q u → p ≡ place len q true
 target-whole len p q u hp hq k w =
     by-le len (q + 1)
     (λ a. rw (plus-last len q a) (let e = w .up (omega arith) in omega arith))

@@ -4,7 +4,7 @@ use logic::pick;
 use numbers::EXTENT_OUTSIDE;
 use numbers::WRONG_WRAP;
 ghost use mathlib.Core.Path.{_≡_};
-ghost use Rattle.shape.specs.Shape.{badExtent, badWrap, badExtents, badWraps, shapeError, extentOf, wrappedIn, coordOf, put};
+ghost use Rattle.shape.specs.Shape.{badExtent, badWrap, badExtents, badWraps, shapeError, extentOf, wrappedIn, coordOf};
 
 pub struct Shape {
     pub x: u8,
@@ -52,28 +52,6 @@ pub fn coord(c: Coords, d: Dim) -> u8
         Dim::X => c.x,
         Dim::Y => c.y,
         Dim::Z => c.z,
-    }
-}
-
-pub fn with_coord(c: Coords, d: Dim, v: u8) -> Coords
-    ensures { λ r. ⌜ r ≡ put c d v ⌝ }
-{
-    match d {
-        Dim::X => Coords {
-            x: v,
-            y: c.y,
-            z: c.z,
-        },
-        Dim::Y => Coords {
-            x: c.x,
-            y: v,
-            z: c.z,
-        },
-        Dim::Z => Coords {
-            x: c.x,
-            y: c.y,
-            z: v,
-        },
     }
 }
 

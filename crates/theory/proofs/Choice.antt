@@ -134,12 +134,6 @@ module _ {C : Type 0} (before : C → C → Bool) (O : Order before) (ok₁ ok�
         best-first before O ok₂ cs c (record { listed = b .listed; passes = k; least = λ e m t. b .least e m (fewer e t) });
   }
 
--- Two tests that agree on the candidates.
-pub best-same : {C : Type 0} (before : C → C → Bool) (ok₁ ok₂ : C → Bool) (cs : List C) → ((c : C) → List·Memᴰ c cs → ok₁ c ≡ ok₂ c) → best before ok₁ cs ≡ best before ok₂ cs
-unfolding best earlier
-best-same before ok₁ ok₂ [] h = refl
-best-same before ok₁ ok₂ (c ∷ cs) h = rw (h c (List·Memᴰ·head refl), best-same before ok₁ ok₂ cs (λ e m. h e (List·Memᴰ·tail m)))
-
 -- The order by a key, compared place by place.
 pub lex-less : (x y : ℕ) (xs ys : List ℕ) → x < y → lex (x ∷ xs) (y ∷ ys) ≡ true
 unfolding lex

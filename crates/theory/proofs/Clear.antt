@@ -1,9 +1,9 @@
--- The test `clear` passes exactly on clear legs, and `clear` looks one hop ahead.
+-- The test `clear` passes exactly on clear legs.
 use Prim.Native.Nat.{ℕ, zero, suc, _<_}
 use native.Mathlib.Omega.{arith}
 use mathlib.Core.Path.{_≡_, refl, sym, _∙_}
 use mathlib.Core.Logic.{_↔_}
-use mathlib.Core.Bool.{Bool, true, false, cond, _&&_, and-eq-true-iff}
+use mathlib.Core.Bool.{Bool, true, false, and-eq-true-iff}
 use mathlib.Core.List.{List, [], _∷_}
 use lib.Dec.{eqb}
 use borrow.Author.Tests.{eqb-true, eqb-false}
@@ -66,23 +66,6 @@ module _ {Leg : Type 0} (M : Machine Leg) (L : Laws M) (sound : ℕ → ℕ → 
     unfolding clear
     clear-iff p at = (passes-clear _ p at refl, clear-passes _ p at refl)
 
-    ahead : (p : ℕ) → p < M .size → every (M .ways) (λ d. cond (M .allowed l p d) (sound p d && clear M sound l (M .next p d)) true) ≡ true → Clear M sound l p
-    ahead p at h [] w = tt
-    ahead p at h (d ∷ ds) w =
-        let both = and-eq-true-iff (sound p d) _ .0 (rw (w .0) at (every-true (M .ways) _ h d (L .named l p d at end (w .0)))) in
-        (both .0, clear-iff (M .next p d) (L .inside l p d at end (w .0)) .0 (both .1) ds (w .1))
-
-    -- The test looks one hop ahead, as a table of the nodes is filled: each from those one hop nearer to the target.
-    pub clear-ahead : (p : ℕ) → p < M .size → clear M sound l p ≡ every (M .ways) (λ d. cond (M .allowed l p d) (sound p d && clear M sound l (M .next p d)) true)
-    clear-ahead p at =
-        same-test _ _
-        (λ h. true-every (M .ways) _ λ d lt. test (M .allowed l p d)
-        (λ a.
-        let on = clear-on l p d a (clear-iff p at .0 h) in
-        rw a (and-eq-true-iff (sound p d) _ .1 (on .0, clear-iff (M .next p d) (L .inside l p d at end a) .1 (on .1))))
-        (λ a. rw a))
-        (λ h. clear-iff p at .1 (ahead p at h))
-
   -- A choice passes the test exactly if all its legs are clear.
   pub clearLegs-iff : (p : ℕ) (ls : List Leg) → p < M .size → Inside M ls → (clearLegs M sound p ls ≡ true) ↔ ClearLegs M sound p ls
   unfolding clearBy
@@ -107,8 +90,3 @@ module _ {Leg : Type 0} (M : Machine Leg) (L : Laws M) (sound₁ sound₂ : ℕ 
       same-test _ _
       (λ h. two .1 (λ ds w. sound-same M L sound₁ sound₂ same l p ds at end w (one .0 h ds w)))
       (λ h. one .1 (λ ds w. sound-same M L sound₂ sound₁ (λ l p d at end a. sym (same l p d at end a)) l p ds at end w (two .0 h ds w)))
-
-  pub clearLegs-same : (p : ℕ) (ls : List Leg) → p < M .size → Inside M ls → clearLegs M sound₁ p ls ≡ clearLegs M sound₂ p ls
-  unfolding clearBy
-  clearLegs-same p [] at i = refl
-  clearLegs-same p (l ∷ ls) at i = rw (clear-same l p at (i .0), clearLegs-same (M .target l) ls (i .0) (i .1))
