@@ -35,13 +35,21 @@ table-requires c κs = search needs
 table-requires-2 : tie.Need-table-requires-2
 table-requires-2 c κs = search needs
 
+-- src/boards.rt:139:14
+table-requires-3 : tie.Need-table-requires-3
+table-requires-3 c κs = search needs
+
+-- src/boards.rt:139:14
+table-requires-4 : tie.Need-table-requires-4
+table-requires-4 c κs = search needs
+
 -- src/boards.rt:140:5
 fill-requires : tie.Need-fill-requires
-fill-requires c κs = (run-plan _ _ _ _ _ (c .before .before .before .before .before .before .before .before .before .before .before .before .before .before .pre .0) (c .before .before .before .before .before .before .before .before .before .before .shape-in .ensures) (c .before .before .before .before .before .before .before .before .before .losses .ensures), (c .before .before .before .before .before .table .ensures, (c .before .before .before .before .table2 .ensures, (c .before .before .before .before .before .before .before .before .before .before .before .before .before .before .pre .1, c .before .before .before .before .before .before .before .before .before .before .before .before .before .before .pre .2))))
+fill-requires c κs = (run-plan _ _ _ _ _ (c .before .before .before .before .before .before .before .before .before .before .before .before .before .before .before .before .pre .0) (c .before .before .before .before .before .before .before .before .before .before .before .before .shape-in .ensures) (c .before .before .before .before .before .before .before .before .before .before .before .losses .ensures), (c .before .before .before .before .before .before .before .table .ensures, (c .before .before .before .before .before .before .table2 .ensures, (c .before .before .before .before .before .before .before .before .before .before .before .before .before .before .before .before .pre .1, c .before .before .before .before .before .before .before .before .before .before .before .before .before .before .before .before .pre .2))))
 
 -- src/boards.rt:141:5
 boards-from-requires : tie.Need-boards-from-requires
-boards-from-requires c κs = (run-prepared _ _ _ _ _ (c .before .before .before .before .before .before .before .before .before .before .before .before .before .before .before .before .before .before .before .before .before .before .before .pre .0) (c .before .before .before .before .before .before .before .before .before .before .before .before .before .before .before .before .before .before .before .shape-in .ensures) (c .before .before .before .before .before .before .before .before .before .before .before .before .before .before .before .before .before .before .losses .ensures) _ _ _ _ (c .before .before .before .before .before .before .before .before .before .before .before .before .before .before .before .dead-nodes .ensures) (c .before .before .before .before .before .before .before .before .before .before .before .before .before .before .table .ensures) (c .before .before .before .before .before .before .before .before .before .before .before .before .before .table2 .ensures) (c .before .before .before .before .before .before .before .before .fill .ensures), c .before .before .before .before .before .before .before .before .before .before .before .before .before .before .before .before .before .before .before .before .before .before .before .pre .1)
+boards-from-requires c κs = (run-prepared _ _ _ _ _ (c .before .before .before .before .before .before .before .before .before .before .before .before .before .before .before .before .before .before .before .before .before .before .before .before .before .before .before .pre .0) (c .before .before .before .before .before .before .before .before .before .before .before .before .before .before .before .before .before .before .before .before .before .before .before .shape-in .ensures) (c .before .before .before .before .before .before .before .before .before .before .before .before .before .before .before .before .before .before .before .before .before .before .losses .ensures) _ _ _ _ (c .before .before .before .before .before .before .before .before .before .before .before .before .before .before .before .before .before .before .before .dead-nodes .ensures) (c .before .before .before .before .before .before .before .before .before .before .before .before .before .before .before .before .before .before .table .ensures) (c .before .before .before .before .before .before .before .before .before .before .before .before .before .before .before .before .before .table2 .ensures) (c .before .before .before .before .before .before .before .before .before .before .fill .ensures), ((c .before .before .before .before .before .before .before .before .before .before .before .before .before .before .before .before .table3 .ensures, c .before .before .before .before .before .before .before .before .before .before .before .before .before .before .before .table4 .ensures), c .before .before .before .before .before .before .before .before .before .before .before .before .before .before .before .before .before .before .before .before .before .before .before .before .before .before .before .pre .1))
 
 -- src/boards.rt:128:1
 same-length : tie.Need-same-length
@@ -65,6 +73,8 @@ write-boards-spec =
     dead-nodes-requires
     table-requires
     table-requires-2
+    table-requires-3
+    table-requires-4
     fill-requires
     boards-from-requires
     same-length
