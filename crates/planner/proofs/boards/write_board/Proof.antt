@@ -9,55 +9,42 @@ use Rattle.masks.proofs.table.gather.Reads as gather-reads
 use Rattle.planner.proofs.listed.routes_from.Reads as routes-from-reads
 use Rattle.route_value.proofs.put_routes.Reads as put-routes-reads
 
--- src/boards.rt:56:8
 element-copy-out-if1 : tie.Need-element-copy-out-if1
 element-copy-out-if1 c = board-small _ _ _ _ _ _ _ _ (c .before .before .before .pre .0) _ (c .before .before .before .pre .1 .1)
 
--- src/boards.rt:57:9
 returns : tie.Need-returns
 returns c = dead-board _ _ _ _ _ _ _ _ (c .before .before .before .before .before .pre .0) _ (c .before .before .before .before .before .pre .1 .1) (c .if1 .taken) _
 
--- src/boards.rt:62:9
 coords-requires : tie.Need-coords-requires
 coords-requires c κs = search needs
 
--- src/boards.rt:63:20
 gather-requires : tie.Need-gather-requires
 gather-requires c κs = search needs
 
--- src/boards.rt:64:25
 gather-requires-2 : tie.Need-gather-requires-2
 gather-requires-2 c κs = search needs
 
--- src/boards.rt:65:9
 routes-from-requires : tie.Need-routes-from-requires
 routes-from-requires c κs = board-at _ _ _ _ _ _ _ _ (c .before .before .before .before .before .before .before .before .before .before .pre .0) _ (c .before .before .before .before .before .before .before .before .before .before .pre .1 .1) (c .before .before .before .before .before .if1 .left) _ _ _ (c .before .before .before .gather .result) (c .before .before .gather2 .result) (c .before .before .before .before .before .before .before .before .before .before .pre .1 .0) (c .before .before .before .before .coords .ensures) (c .before .before .before .gather .ensures) (c .before .before .gather2 .ensures)
 
--- src/boards.rt:79:11
 put-routes-requires : tie.Need-put-routes-requires
 put-routes-requires c κs = search needs
 
--- src/boards.rt:80:24
 enum-known-size : tie.Need-enum-known-size
 enum-known-size c = search needs
 
--- src/boards.rt:84:26
 enum-known-number : tie.Need-enum-known-number
 enum-known-number c = search needs
 
--- src/boards.rt:36:1
 same-length : tie.Need-same-length
 same-length c = search needs
 
--- src/boards.rt:36:1
 returns-2 : tie.Need-returns-2
 returns-2 c = board-bytes _ _ _ _ _ _ _ _ (c .before .before .before .before .before .before .before .before .before .before .before .before .before .before .before .before .before .before .pre .0) _ (c .before .before .before .before .before .before .before .before .before .before .before .before .before .before .before .before .before .before .pre .1 .1) (c .before .before .before .before .before .before .before .before .before .before .before .before .before .if1 .left) _ (c .before .before .before .before .before .before .before .routes-from .ensures) _ _ _ (c .before .before .before .before .before .put-routes .ensures) _ (c .before .size .given .1)
 
--- src/boards.rt:36:1
 same-length-2 : tie.Need-same-length-2
 same-length-2 c = search needs
 
--- src/boards.rt:36:1
 returns-3 : tie.Need-returns-3
 returns-3 c = board-refused _ _ _ _ _ _ _ _ (c .before .before .before .before .before .before .before .before .before .before .before .before .before .before .before .before .before .before .pre .0) _ (c .before .before .before .before .before .before .before .before .before .before .before .before .before .before .before .before .before .before .pre .1 .1) (c .before .before .before .before .before .before .before .before .before .before .before .before .before .if1 .left) _ (c .before .before .before .before .before .before .before .routes-from .ensures) _ _ _ (c .before .before .before .before .before .put-routes .ensures) _ (c .before .number .given .1)
 

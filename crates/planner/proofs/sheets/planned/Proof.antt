@@ -12,53 +12,41 @@ use Rattle.masks.proofs.table.table.Reads as table-reads
 use Rattle.plan.proofs.layout.shape_in.Reads as shape-in-reads
 use Rattle.planner.proofs.listed.routes_from.Reads as routes-from-reads
 
--- src/sheets.rt:46:9
 shape-in-requires : tie.Need-shape-in-requires
 shape-in-requires c κs = search needs
 
--- src/sheets.rt:47:9
 losses-requires : tie.Need-losses-requires
 losses-requires c κs = search needs
 
--- src/sheets.rt:49:17
 cast-count : tie.Need-cast-count
 cast-count c = search needs
 
--- src/sheets.rt:50:16
 dead-nodes-requires : tie.Need-dead-nodes-requires
 dead-nodes-requires c κs = search needs
 
--- src/sheets.rt:51:14
 table-requires : tie.Need-table-requires
 table-requires c κs = search needs
 
--- src/sheets.rt:52:14
 table-requires-2 : tie.Need-table-requires-2
 table-requires-2 c κs = search needs
 
--- src/sheets.rt:54:9
 coords-requires : tie.Need-coords-requires
 coords-requires c κs = search needs
 
--- src/sheets.rt:55:20
 ends-requires : tie.Need-ends-requires
 ends-requires c κs = search needs
 
--- src/sheets.rt:56:25
 ends-requires-2 : tie.Need-ends-requires-2
 ends-requires-2 c κs = search needs
 
--- src/sheets.rt:65:9
 slice-aggregate-routes-from : tie.Need-slice-aggregate-routes-from
 slice-aggregate-routes-from c = search needs
 
--- src/sheets.rt:57:5
 routes-from-requires : tie.Need-routes-from-requires
 routes-from-requires c κs =
     let k = planned-known _ _ _ _ _ _ _ _ _ (c .before .before .before .before .before .before .before .before .before .before .before .before .before .before .before .before .before .before .pre) (c .before .before .before .before .before .before .before .before .before .before .before .before .before .before .before .before .shape-in .ensures) (c .before .before .before .before .before .before .before .before .before .before .before .before .before .before .before .losses .ensures) (c .before .before .before .before .before .before .before .before .before .before .before .before .dead-nodes .ensures) (c .before .before .before .before .before .before .before .before .before .before .before .table .ensures) (c .before .before .before .before .before .before .before .before .before .before .table2 .ensures) (c .before .before .before .before .before .before .before .before .before .coords .ensures) in
     (k .0, (k .1 .0, (c .before .before .before .before .before .before .before .before .ends .ensures, (c .before .before .before .before .before .before .before .ends2 .ensures, k .1 .1))))
 
--- src/sheets.rt:42:1
 returns : tie.Need-returns
 returns c = search needs
 
