@@ -3,7 +3,7 @@ use Prim.Native.Nat.{ℕ, _≤_, _<_}
 use native.Mathlib.Omega.{arith}
 use mathlib.Core.Path.{_≡_, refl, sym, ap, _∙_}
 use mathlib.Core.Logic.{inr}
-use mathlib.Core.Bool.{false}
+use mathlib.Core.Bool.{true, false}
 use mathlib.Core.List.{List, _++_}
 use lib.ListN.{length, getD, drop}
 use lib.Dec.{eqb}
@@ -24,7 +24,7 @@ use Rattle.dead.proofs.Table.{is-node}
 use Rattle.route_value.specs.declared.reading.Routes.{Routes}
 use Rattle.route_value.specs.Writing.{routeEntries, sheetOf, countError}
 use Rattle.losses.specs.OfPlan.{AreLosses}
-use Rattle.masks.specs.Masks.{Masked}
+use Rattle.masks.specs.Masks.{gatherAt, Ended, Masked}
 use Rattle.planner.specs.declared.boards.Step.{Step}
 use Rattle.planner.specs.Sheet.{sourceError, entriesFrom, plannedSheet}
 use Rattle.planner.specs.Run.{runError}
@@ -32,6 +32,7 @@ use Rattle.planner.specs.Known.{OfPlan, IsAt, Filled, Prepared}
 use Rattle.planner.specs.Steps.{Boarded}
 use Rattle.planner.proofs.Knowing.{shape-ok, dead-byte}
 use Rattle.planner.proofs.FirstSteps.{nodes-few}
+use Rattle.planner.proofs.Destination.{gathered-at}
 use Rattle.planner.proofs.Filling.{at-coords}
 use Rattle.planner.proofs.Planning.{Source, source-of, no-error}
 use Rattle.planner.proofs.Writing.{put-is}
@@ -101,8 +102,15 @@ module _ (p : List ℕ) (s : Shape) (words : List ℕ) (count : ℕ) (dead ta td
       alive = test (deadNode (faultsOf p) S) (λ d. let q : _≡_ {A = ℕ} 1 0 = sym (dead-is ∙ ap bitOf d) ∙ z in absurd (omega arith)) (λ d. d);
     }
 
-    pub board-at : (a : Coords) → a ≡ coordsAnswer s S → Prepared p s words count dead ta td work × (IsAt p S a × (deadNode (faultsOf p) S ≡ false))
-    board-at a e = (k, (at-coords p (k .of-plan .plan) s S a (k .of-plan .shape) l e, source .alive))
+    -- The masks of the source, from those of all sources.
+    pub board-at :
+        (sa sd : List ℕ) (a : Coords) (adaptive deterministic : List ℕ) → Masked Adaptive true s sa × Masked Deterministic true s sd → a ≡ coordsAnswer s S →
+        ((i : ℕ) → i < 288 → getD adaptive i 0 ≡ gatherAt sa a i) → ((i : ℕ) → i < 288 → getD deterministic i 0 ≡ gatherAt sd a i) →
+        Prepared p s words count dead ta td work × (IsAt p S a × (Ended Adaptive true s a adaptive × (Ended Deterministic true s a deterministic × (deadNode (faultsOf p) S ≡ false))))
+    board-at sa sd a adaptive deterministic m e ga gd =
+        let h = k .of-plan .plan in
+        let at = at-coords p h s S a (k .of-plan .shape) l e in
+        (k, (at, (gathered-at p s S a sa adaptive h at Adaptive true (m .0) ga, (gathered-at p s S a sd deterministic h at Deterministic true (m .1) gd, source .alive))))
 
     module _ (r : Routes) (made : (r .source ≡ S) × (routeEntries r ≡ entriesFrom large p S 0 (nodeCount (shapeOf p)))) (o t : List ℕ) (w : Written)
         (put : (w ≡ written (roomError (countError r) (sheetOf r) o) (sheetOf r)) × (t ≡ outAfter (roomError (countError r) (sheetOf r) o) (sheetOf r) o)) where

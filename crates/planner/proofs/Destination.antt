@@ -95,8 +95,8 @@ pub within-box : (p : List ℕ) (s : Shape) (words : List ℕ) (count S D : ℕ)
     OfPlan p s words count → IsAt p D t → IsBox p S D bx by bz → Ended Adaptive false s t masks → Are (clearIn bx by bz masks words count) rows → ToBetween p Adaptive S D rows 0
 within-box p s words count S D t bx by bz masks rows k to b e r v l w = to-within p s words count k D t to Adaptive masks rows bx by bz e r v l (b v l .1 w)
 
-pub gathered-at : (p : List ℕ) (s : Shape) (D : ℕ) (t : Coords) (table masks : List ℕ) → planError large p ≡ 0 → IsAt p D t → (m : Mode) → Masked m false s table → ((i : ℕ) → i < 288 → getD masks i 0 ≡ gatherAt table t i) → Ended m false s t masks
-gathered-at p s D t table masks h to m full g = let k = small-at p D t h to in gathered m false s table masks t full (k .0) (k .1) (k .2) g
+pub gathered-at : (p : List ℕ) (s : Shape) (D : ℕ) (t : Coords) (table masks : List ℕ) → planError large p ≡ 0 → IsAt p D t → (m : Mode) (from : Bool) → Masked m from s table → ((i : ℕ) → i < 288 → getD masks i 0 ≡ gatherAt table t i) → Ended m from s t masks
+gathered-at p s D t table masks h to m from full g = let k = small-at p D t h to in gathered m from s table masks t full (k .0) (k .1) (k .2) g
 
 -- ---- what the steps rest on
 pub nearing :

@@ -62,8 +62,8 @@ to-fill p s words count ta td all old work n c adaptive deterministic k ma md ea
       (
         at,
         (
-          gathered-at p s n c ta adaptive (k .plan) at Adaptive ma ga,
-          (gathered-at p s n c td deterministic (k .plan) at Deterministic md gd, (omega (arith, nodes-few (shapeOf p) (shape-ok p (k .plan))), omega (arith, g .long))),
+          gathered-at p s n c ta adaptive (k .plan) at Adaptive false ma ga,
+          (gathered-at p s n c td deterministic (k .plan) at Deterministic false md gd, (omega (arith, nodes-few (shapeOf p) (shape-ok p (k .plan))), omega (arith, g .long))),
         ),
       ),
     )

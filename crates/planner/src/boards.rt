@@ -6,6 +6,7 @@ use dead::dead_nodes;
 use losses::losses;
 use machine::leg::Mode;
 use machine::node::coords;
+use masks::table::gather;
 use masks::table::table;
 use numbers::OUTPUT_SHORT;
 use plan::layout::shape_in;
@@ -13,11 +14,14 @@ use route_value::put_routes;
 use shape::Shape;
 use sheet::output::Written;
 ghost use mathlib.Core.Path.{_≡_};
+ghost use mathlib.Core.Bool.{true};
 ghost use Prim.Native.Nat.{_*_, _≤_, _<_};
 ghost use lib.ListN.{length};
+ghost use Rattle.machine.specs.declared.leg.Mode.the-variants.{Adaptive, Deterministic};
 ghost use Rattle.machine.specs.Number.{nodeCount};
 ghost use Rattle.plan.specs.Layout.{shapeOf};
 ghost use Rattle.plan.specs.Checks.{large};
+ghost use Rattle.masks.specs.Masks.{Masked};
 ghost use Rattle.planner.specs.Run.{runError, runOf, runAfter};
 ghost use Rattle.planner.specs.Known.{Prepared};
 ghost use Rattle.planner.specs.Steps.{Boarded};
@@ -28,6 +32,7 @@ pub struct Step {
     pub full: bool,
 }
 
+// sa, sd: the masks of all sources; ta, td: those of all targets.
 fn write_board(
     plan: &[u8],
     shape: Shape,
@@ -37,10 +42,13 @@ fn write_board(
     ta: &[u16; 4608],
     td: &[u16; 4608],
     work: &[u16],
+    sa: &[u16; 4608],
+    sd: &[u16; 4608],
     source: u16,
     out: &mut [u8],
 ) -> Step
     requires { ⌜ Prepared (now plan) shape (now words) count (now dead) (now ta) (now td) (now work) ⌝ }
+    requires { ⌜ (Masked Adaptive true shape (now sa)) × (Masked Deterministic true shape (now sd)) ⌝ }
     requires { ⌜ source < nodeCount (shapeOf (now plan)) ⌝ }
     ensures { λ r. ⌜ Boarded (now (plan .entry)) source (now (out .entry)) r (now (out .exit)) ⌝ }
 {
@@ -51,6 +59,9 @@ fn write_board(
             full: false,
         };
     }
+    let a = coords(shape, source);
+    let adaptive = gather(sa, a);
+    let deterministic = gather(sd, a);
     let routes = routes_from(
         plan,
         shape,
@@ -61,7 +72,9 @@ fn write_board(
         td,
         work,
         source,
-        coords(shape, source),
+        a,
+        &adaptive,
+        &deterministic,
     );
     match put_routes(routes, out) {
         Written::Bytes(size) => Step {
@@ -85,11 +98,14 @@ fn boards_from(
     ta: &[u16; 4608],
     td: &[u16; 4608],
     work: &[u16],
+    sa: &[u16; 4608],
+    sd: &[u16; 4608],
     from: u16,
     all: u16,
     out: &mut [u8],
 ) -> Run
     requires { ⌜ Prepared (now plan) shape (now words) count (now dead) (now ta) (now td) (now work) ⌝ }
+    requires { ⌜ (Masked Adaptive true shape (now sa)) × (Masked Deterministic true shape (now sd)) ⌝ }
     requires { ⌜ all ≡ nodeCount (shapeOf (now plan)) ⌝ }
     ensures { λ r. ⌜ r ≡ runOf (now (plan .entry)) from (length (now (out .entry))) ⌝ }
     ensures { λ _. ⌜ now (out .exit) ≡ runAfter (now (plan .entry)) from (now (out .entry)) ⌝ }
@@ -106,6 +122,8 @@ fn boards_from(
             ta,
             td,
             work,
+            sa,
+            sd,
             next,
             &mut out[size..],
         );
@@ -137,6 +155,8 @@ pub fn write_boards(plan: &[u8], from: u16, all: u16, work: &mut [u16], out: &mu
     let dead = dead_nodes(plan);
     let ta = table(Mode::Adaptive, false, shape);
     let td = table(Mode::Deterministic, false, shape);
+    let sa = table(Mode::Adaptive, true, shape);
+    let sd = table(Mode::Deterministic, true, shape);
     fill(plan, shape, &words, count, &ta, &td, all, work);
     boards_from(
         plan,
@@ -147,6 +167,8 @@ pub fn write_boards(plan: &[u8], from: u16, all: u16, work: &mut [u16], out: &mu
         &ta,
         &td,
         work,
+        &sa,
+        &sd,
         from,
         all,
         out,

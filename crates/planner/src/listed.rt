@@ -2,7 +2,7 @@
 use crate::dest::outcome_to;
 use crate::outside::At;
 use crate::outside::next_outside;
-use crate::sets_of::from_set;
+use crate::sets_of::from_masks;
 use machine::leg::Mode;
 use route_value::Routes;
 use routes::Entry;
@@ -11,11 +11,13 @@ use routes::layout::MOST_ENTRIES;
 use shape::Coords;
 use shape::Shape;
 ghost use mathlib.Core.Path.{_≡_};
-ghost use mathlib.Core.Bool.{false};
+ghost use mathlib.Core.Bool.{true, false};
+ghost use Rattle.machine.specs.declared.leg.Mode.the-variants.{Adaptive, Deterministic};
 ghost use Rattle.machine.specs.Number.{nodeCount};
 ghost use Rattle.plan.specs.Layout.{shapeOf, faultsOf};
 ghost use Rattle.plan.specs.Checks.{large};
 ghost use Rattle.dead.specs.Dead.{deadNode};
+ghost use Rattle.masks.specs.Masks.{Ended};
 ghost use Rattle.route_value.specs.Writing.{routeEntries};
 ghost use Rattle.planner.specs.Sheet.{entriesFrom};
 ghost use Rattle.planner.specs.Known.{IsAt, Prepared, Ready};
@@ -98,7 +100,7 @@ fn list(
     }
 }
 
-// From a sound source. The empty run `work` has no sets.
+// From a sound source, whose masks they are. The empty run `work` has no sets.
 pub fn routes_from(
     plan: &[u8],
     shape: Shape,
@@ -110,14 +112,36 @@ pub fn routes_from(
     work: &[u16],
     source: u16,
     a: Coords,
+    adaptive: &[u16; 288],
+    deterministic: &[u16; 288],
 ) -> Routes
     requires { ⌜ Prepared (now plan) shape (now words) count (now dead) (now ta) (now td) (now work) ⌝ }
     requires { ⌜ IsAt (now plan) source a ⌝ }
+    requires { ⌜ Ended Adaptive true shape a (now adaptive) ⌝ }
+    requires { ⌜ Ended Deterministic true shape a (now deterministic) ⌝ }
     requires { ⌜ deadNode (faultsOf (now plan)) source ≡ false ⌝ }
     ensures { λ r. ⌜ (r .source ≡ source) × (routeEntries r ≡ entriesFrom large (now (plan .entry)) source 0 (nodeCount (shapeOf (now (plan .entry))))) ⌝ }
 {
-    let fa = from_set(plan, Mode::Adaptive, shape, words, count, source, a);
-    let fd = from_set(plan, Mode::Deterministic, shape, words, count, source, a);
+    let fa = from_masks(
+        plan,
+        Mode::Adaptive,
+        shape,
+        words,
+        count,
+        source,
+        a,
+        adaptive,
+    );
+    let fd = from_masks(
+        plan,
+        Mode::Deterministic,
+        shape,
+        words,
+        count,
+        source,
+        a,
+        deterministic,
+    );
     list(
         plan,
         shape,

@@ -15,7 +15,25 @@ ghost use Rattle.planner.specs.Rows.{Put, Elsewhere};
 // Every place of a dimension.
 const ALL: u16 = 65535;
 
-// The nodes with a clear leg from this one.
+// The nodes with a clear leg from this one, whose masks they are.
+pub fn from_masks(
+    plan: &[u8],
+    mode: Mode,
+    shape: Shape,
+    words: &[u16; 256],
+    count: usize,
+    node: u16,
+    c: Coords,
+    masks: &[u16; 288],
+) -> [u16; 256]
+    requires { ⌜ OfPlan (now plan) shape (now words) count ⌝ }
+    requires { ⌜ IsAt (now plan) node c ⌝ }
+    requires { ⌜ Ended mode true shape c (now masks) ⌝ }
+    ensures { λ r. ⌜ FromSet (now (plan .entry)) mode node r ⌝ }
+{
+    clear_in(ALL, ALL, ALL, masks, words, count)
+}
+
 pub fn from_set(
     plan: &[u8],
     mode: Mode,
@@ -30,7 +48,7 @@ pub fn from_set(
     ensures { λ r. ⌜ FromSet (now (plan .entry)) mode node r ⌝ }
 {
     let masks = ends(mode, true, shape, c);
-    clear_in(ALL, ALL, ALL, &masks, words, count)
+    from_masks(plan, mode, shape, words, count, node, c, &masks)
 }
 
 // The nodes with a clear leg to this one, whose masks they are.

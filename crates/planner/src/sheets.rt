@@ -7,6 +7,7 @@ use losses::losses;
 use machine::leg::Mode;
 use machine::node::coords;
 use machine::node::is_node;
+use masks::table::ends;
 use masks::table::table;
 use numbers::DEAD_END;
 use numbers::NODE_OUTSIDE;
@@ -50,6 +51,9 @@ fn planned(plan: &[u8], source: u16) -> Routes
     let ta = table(Mode::Adaptive, false, shape);
     let td = table(Mode::Deterministic, false, shape);
     let none = [0u16; 0];
+    let a = coords(shape, source);
+    let adaptive = ends(Mode::Adaptive, true, shape, a);
+    let deterministic = ends(Mode::Deterministic, true, shape, a);
     routes_from(
         plan,
         shape,
@@ -60,7 +64,9 @@ fn planned(plan: &[u8], source: u16) -> Routes
         &td,
         &none,
         source,
-        coords(shape, source),
+        a,
+        &adaptive,
+        &deterministic,
     )
 }
 

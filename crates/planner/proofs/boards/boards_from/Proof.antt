@@ -9,62 +9,49 @@ use Rattle.planner.proofs.boards.boards_from.Lts as lts
 use Rattle.planner.proofs.boards.write_board.Reads as write-board-reads
 
 abbrev Inv-loop : tie.InvT-loop
-Inv-loop plan shape words count dead ta td work from all out₀ size₀ next₀ out size next = Running plan from all out₀ out size next
+Inv-loop plan shape words count dead ta td work sa sd from all out₀ size₀ next₀ out size next = Running plan from all out₀ out size next
 
 abbrev μ-loop : tie.MeasureT-loop
-μ-loop plan shape words count dead ta td work from all out₀ size₀ next₀ out size next = all - next
+μ-loop plan shape words count dead ta td work sa sd from all out₀ size₀ next₀ out size next = all - next
 
--- src/boards.rt:99:5
 loop-holds : tie.Need-loop-holds Inv-loop μ-loop
 loop-holds c = begin _ _ _ _
 
--- src/boards.rt:110:13
 sub-write-board : tie.Need-sub-write-board Inv-loop μ-loop
 sub-write-board c = omega (arith, c .before .loop .inv .within, c .before .loop .inv .long)
 
--- src/boards.rt:110:13
 part-write-board-start : tie.Need-part-write-board-start Inv-loop μ-loop
 part-write-board-start c = search needs
 
--- src/boards.rt:110:13
 part-write-board-end : tie.Need-part-write-board-end Inv-loop μ-loop
 part-write-board-end c = search needs
 
--- src/boards.rt:100:13
 write-board-requires : tie.Need-write-board-requires Inv-loop μ-loop
-write-board-requires c κs = (c .before .before .before .before .before .before .pre .0, let e = c .before .before .before .before .before .before .pre .1 in omega arith)
+write-board-requires c κs = (c .before .before .before .before .before .before .pre .0, (c .before .before .before .before .before .before .pre .1 .0, let e = c .before .before .before .before .before .before .pre .1 .1 in omega arith))
 
--- src/boards.rt:113:13
 same-length : tie.Need-same-length Inv-loop μ-loop
-same-length c = stopped _ _ _ _ _ _ _ (c .before .before .before .before .before .before .loop .inv) (omega arith) _ _ (c .before .before .before .write-board .ensures) (c .if1 .taken) (c .before .before .before .before .before .before .before .before .before .before .pre .1) .2
+same-length c = stopped _ _ _ _ _ _ _ (c .before .before .before .before .before .before .loop .inv) (omega arith) _ _ (c .before .before .before .write-board .ensures) (c .if1 .taken) (c .before .before .before .before .before .before .before .before .before .before .pre .1 .1) .2
 
--- src/boards.rt:113:13
 returns : tie.Need-returns Inv-loop μ-loop
-returns c = let k = stopped _ _ _ _ _ _ _ (c .before .before .before .before .before .before .loop .inv) (omega arith) _ _ (c .before .before .before .write-board .ensures) (c .if1 .taken) (c .before .before .before .before .before .before .before .before .before .before .pre .1) in (k .0, k .1)
+returns c = let k = stopped _ _ _ _ _ _ _ (c .before .before .before .before .before .before .loop .inv) (omega arith) _ _ (c .before .before .before .write-board .ensures) (c .if1 .taken) (c .before .before .before .before .before .before .before .before .before .before .pre .1 .1) in (k .0, k .1)
 
--- src/boards.rt:118:16
 add-size : tie.Need-add-size Inv-loop μ-loop
-add-size c = omega (arith, turned _ _ _ _ _ _ _ (c .before .before .before .before .before .before .before .loop .inv) (omega arith) _ _ (c .before .before .before .before .write-board .ensures) (c .before .if1 .left) .within)
+add-size c = let h = c .before .before .before .before .before .before .before .before .before .before .before .good in omega (arith, turned _ _ _ _ _ _ _ (c .before .before .before .before .before .before .before .loop .inv) (omega arith) _ _ (c .before .before .before .before .write-board .ensures) (c .before .if1 .left) .within)
 
--- src/boards.rt:119:16
 add-next : tie.Need-add-next Inv-loop μ-loop
 add-next c = omega arith
 
--- src/boards.rt:99:5
 loop-less : tie.Need-loop-less Inv-loop μ-loop
 loop-less c = omega arith
 
--- src/boards.rt:99:5
 loop-again : tie.Need-loop-again Inv-loop μ-loop
 loop-again c = turned _ _ _ _ _ _ _ (c .before .before .before .before .before .before .before .loop .inv) (omega arith) _ _ (c .before .before .before .before .write-board .ensures) (c .before .if1 .left)
 
--- src/boards.rt:79:1
 same-length-2 : tie.Need-same-length-2 Inv-loop μ-loop
 same-length-2 c = c .before .loop .inv .long
 
--- src/boards.rt:79:1
 returns-2 : tie.Need-returns-2 Inv-loop μ-loop
-returns-2 c = all-done _ _ _ _ _ _ _ (c .before .loop .inv) (omega arith) (c .before .before .before .before .before .pre .1)
+returns-2 c = all-done _ _ _ _ _ _ _ (c .before .loop .inv) (omega arith) (c .before .before .before .before .before .pre .1 .1)
 
 pub boards-from-spec : {M : Type 1} → statement M
 boards-from-spec =

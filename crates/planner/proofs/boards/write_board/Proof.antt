@@ -5,52 +5,48 @@ use Rattle.planner.proofs.boards.write_board.Tie as tie
 use Rattle.planner.proofs.boards.write_board.Reads as reads
 use Rattle.planner.proofs.boards.write_board.Lts as lts
 use Rattle.machine.proofs.node.coords.Reads as coords-reads
+use Rattle.masks.proofs.table.gather.Reads as gather-reads
 use Rattle.planner.proofs.listed.routes_from.Reads as routes-from-reads
 use Rattle.route_value.proofs.put_routes.Reads as put-routes-reads
 
--- src/boards.rt:48:8
 element-copy-out-if1 : tie.Need-element-copy-out-if1
-element-copy-out-if1 c = board-small _ _ _ _ _ _ _ _ (c .before .before .before .pre .0) _ (c .before .before .before .pre .1)
+element-copy-out-if1 c = board-small _ _ _ _ _ _ _ _ (c .before .before .before .pre .0) _ (c .before .before .before .pre .1 .1)
 
--- src/boards.rt:49:9
 returns : tie.Need-returns
-returns c = dead-board _ _ _ _ _ _ _ _ (c .before .before .before .before .before .pre .0) _ (c .before .before .before .before .before .pre .1) (c .if1 .taken) _
+returns c = dead-board _ _ _ _ _ _ _ _ (c .before .before .before .before .before .pre .0) _ (c .before .before .before .before .before .pre .1 .1) (c .if1 .taken) _
 
--- src/boards.rt:64:9
 coords-requires : tie.Need-coords-requires
 coords-requires c κs = search needs
 
--- src/boards.rt:54:9
-routes-from-requires : tie.Need-routes-from-requires
-routes-from-requires c κs = board-at _ _ _ _ _ _ _ _ (c .before .before .before .before .before .before .pre .0) _ (c .before .before .before .before .before .before .pre .1) (c .before .if1 .left) _ (c .coords .ensures)
+gather-requires : tie.Need-gather-requires
+gather-requires c κs = search needs
 
--- src/boards.rt:66:11
+gather-requires-2 : tie.Need-gather-requires-2
+gather-requires-2 c κs = search needs
+
+routes-from-requires : tie.Need-routes-from-requires
+routes-from-requires c κs = board-at _ _ _ _ _ _ _ _ (c .before .before .before .before .before .before .before .before .before .before .pre .0) _ (c .before .before .before .before .before .before .before .before .before .before .pre .1 .1) (c .before .before .before .before .before .if1 .left) _ _ _ (c .before .before .before .gather .result) (c .before .before .gather2 .result) (c .before .before .before .before .before .before .before .before .before .before .pre .1 .0) (c .before .before .before .before .coords .ensures) (c .before .before .before .gather .ensures) (c .before .before .gather2 .ensures)
+
 put-routes-requires : tie.Need-put-routes-requires
 put-routes-requires c κs = search needs
 
--- src/boards.rt:67:24
 enum-known-size : tie.Need-enum-known-size
 enum-known-size c = search needs
 
--- src/boards.rt:71:26
 enum-known-number : tie.Need-enum-known-number
 enum-known-number c = search needs
 
--- src/boards.rt:31:1
 same-length : tie.Need-same-length
 same-length c = search needs
 
--- src/boards.rt:31:1
 returns-2 : tie.Need-returns-2
-returns-2 c = board-bytes _ _ _ _ _ _ _ _ (c .before .before .before .before .before .before .before .before .before .before .before .before .before .before .pre .0) _ (c .before .before .before .before .before .before .before .before .before .before .before .before .before .before .pre .1) (c .before .before .before .before .before .before .before .before .before .if1 .left) _ (c .before .before .before .before .before .before .before .routes-from .ensures) _ _ _ (c .before .before .before .before .before .put-routes .ensures) _ (c .before .size .given .1)
+returns-2 c = board-bytes _ _ _ _ _ _ _ _ (c .before .before .before .before .before .before .before .before .before .before .before .before .before .before .before .before .before .before .pre .0) _ (c .before .before .before .before .before .before .before .before .before .before .before .before .before .before .before .before .before .before .pre .1 .1) (c .before .before .before .before .before .before .before .before .before .before .before .before .before .if1 .left) _ (c .before .before .before .before .before .before .before .routes-from .ensures) _ _ _ (c .before .before .before .before .before .put-routes .ensures) _ (c .before .size .given .1)
 
--- src/boards.rt:31:1
 same-length-2 : tie.Need-same-length-2
 same-length-2 c = search needs
 
--- src/boards.rt:31:1
 returns-3 : tie.Need-returns-3
-returns-3 c = board-refused _ _ _ _ _ _ _ _ (c .before .before .before .before .before .before .before .before .before .before .before .before .before .before .pre .0) _ (c .before .before .before .before .before .before .before .before .before .before .before .before .before .before .pre .1) (c .before .before .before .before .before .before .before .before .before .if1 .left) _ (c .before .before .before .before .before .before .before .routes-from .ensures) _ _ _ (c .before .before .before .before .before .put-routes .ensures) _ (c .before .number .given .1)
+returns-3 c = board-refused _ _ _ _ _ _ _ _ (c .before .before .before .before .before .before .before .before .before .before .before .before .before .before .before .before .before .before .pre .0) _ (c .before .before .before .before .before .before .before .before .before .before .before .before .before .before .before .before .before .before .pre .1 .1) (c .before .before .before .before .before .before .before .before .before .before .before .before .before .if1 .left) _ (c .before .before .before .before .before .before .before .routes-from .ensures) _ _ _ (c .before .before .before .before .before .put-routes .ensures) _ (c .before .number .given .1)
 
 pub write-board-spec : {M : Type 1} → statement M
 write-board-spec =
@@ -59,6 +55,8 @@ write-board-spec =
     element-copy-out-if1
     returns
     coords-requires
+    gather-requires
+    gather-requires-2
     routes-from-requires
     put-routes-requires
     enum-known-size

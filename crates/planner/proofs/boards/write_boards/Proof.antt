@@ -11,47 +11,42 @@ use Rattle.plan.proofs.layout.shape_in.Reads as shape-in-reads
 use Rattle.planner.proofs.boards.boards_from.Reads as boards-from-reads
 use Rattle.planner.proofs.fill.fill.Reads as fill-reads
 
--- src/boards.rt:133:9
 shape-in-requires : tie.Need-shape-in-requires
 shape-in-requires c κs = search needs
 
--- src/boards.rt:134:9
 losses-requires : tie.Need-losses-requires
 losses-requires c κs = search needs
 
--- src/boards.rt:136:17
 cast-count : tie.Need-cast-count
 cast-count c = search needs
 
--- src/boards.rt:137:16
 dead-nodes-requires : tie.Need-dead-nodes-requires
 dead-nodes-requires c κs = search needs
 
--- src/boards.rt:138:14
 table-requires : tie.Need-table-requires
 table-requires c κs = search needs
 
--- src/boards.rt:139:14
 table-requires-2 : tie.Need-table-requires-2
 table-requires-2 c κs = search needs
 
--- src/boards.rt:140:5
+table-requires-3 : tie.Need-table-requires-3
+table-requires-3 c κs = search needs
+
+table-requires-4 : tie.Need-table-requires-4
+table-requires-4 c κs = search needs
+
 fill-requires : tie.Need-fill-requires
-fill-requires c κs = (run-plan _ _ _ _ _ (c .before .before .before .before .before .before .before .before .before .before .before .before .before .before .pre .0) (c .before .before .before .before .before .before .before .before .before .before .shape-in .ensures) (c .before .before .before .before .before .before .before .before .before .losses .ensures), (c .before .before .before .before .before .table .ensures, (c .before .before .before .before .table2 .ensures, (c .before .before .before .before .before .before .before .before .before .before .before .before .before .before .pre .1, c .before .before .before .before .before .before .before .before .before .before .before .before .before .before .pre .2))))
+fill-requires c κs = (run-plan _ _ _ _ _ (c .before .before .before .before .before .before .before .before .before .before .before .before .before .before .before .before .pre .0) (c .before .before .before .before .before .before .before .before .before .before .before .before .shape-in .ensures) (c .before .before .before .before .before .before .before .before .before .before .before .losses .ensures), (c .before .before .before .before .before .before .before .table .ensures, (c .before .before .before .before .before .before .table2 .ensures, (c .before .before .before .before .before .before .before .before .before .before .before .before .before .before .before .before .pre .1, c .before .before .before .before .before .before .before .before .before .before .before .before .before .before .before .before .pre .2))))
 
--- src/boards.rt:141:5
 boards-from-requires : tie.Need-boards-from-requires
-boards-from-requires c κs = (run-prepared _ _ _ _ _ (c .before .before .before .before .before .before .before .before .before .before .before .before .before .before .before .before .before .before .before .before .before .before .before .pre .0) (c .before .before .before .before .before .before .before .before .before .before .before .before .before .before .before .before .before .before .before .shape-in .ensures) (c .before .before .before .before .before .before .before .before .before .before .before .before .before .before .before .before .before .before .losses .ensures) _ _ _ _ (c .before .before .before .before .before .before .before .before .before .before .before .before .before .before .before .dead-nodes .ensures) (c .before .before .before .before .before .before .before .before .before .before .before .before .before .before .table .ensures) (c .before .before .before .before .before .before .before .before .before .before .before .before .before .table2 .ensures) (c .before .before .before .before .before .before .before .before .fill .ensures), c .before .before .before .before .before .before .before .before .before .before .before .before .before .before .before .before .before .before .before .before .before .before .before .pre .1)
+boards-from-requires c κs = (run-prepared _ _ _ _ _ (c .before .before .before .before .before .before .before .before .before .before .before .before .before .before .before .before .before .before .before .before .before .before .before .before .before .before .before .pre .0) (c .before .before .before .before .before .before .before .before .before .before .before .before .before .before .before .before .before .before .before .before .before .before .before .shape-in .ensures) (c .before .before .before .before .before .before .before .before .before .before .before .before .before .before .before .before .before .before .before .before .before .before .losses .ensures) _ _ _ _ (c .before .before .before .before .before .before .before .before .before .before .before .before .before .before .before .before .before .before .before .dead-nodes .ensures) (c .before .before .before .before .before .before .before .before .before .before .before .before .before .before .before .before .before .before .table .ensures) (c .before .before .before .before .before .before .before .before .before .before .before .before .before .before .before .before .before .table2 .ensures) (c .before .before .before .before .before .before .before .before .before .before .fill .ensures), ((c .before .before .before .before .before .before .before .before .before .before .before .before .before .before .before .before .table3 .ensures, c .before .before .before .before .before .before .before .before .before .before .before .before .before .before .before .table4 .ensures), c .before .before .before .before .before .before .before .before .before .before .before .before .before .before .before .before .before .before .before .before .before .before .before .before .before .before .before .pre .1))
 
--- src/boards.rt:128:1
 same-length : tie.Need-same-length
 same-length c = search needs
 
--- src/boards.rt:128:1
 same-length-2 : tie.Need-same-length-2
 same-length-2 c = search needs
 
--- src/boards.rt:128:1
 returns : tie.Need-returns
 returns c = search needs
 
@@ -65,6 +60,8 @@ write-boards-spec =
     dead-nodes-requires
     table-requires
     table-requires-2
+    table-requires-3
+    table-requires-4
     fill-requires
     boards-from-requires
     same-length

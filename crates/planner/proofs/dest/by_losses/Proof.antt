@@ -1,4 +1,5 @@
 use Rattle.machine.specs.declared.leg.Mode.the-variants.{Adaptive, Deterministic}
+use mathlib.Core.Bool.{false}
 use Rattle.planner.proofs.Destination.{first-given, none-given, gathered-at}
 use Rattle.planner.proofs.dest.by_losses.Statement.{statement}
 use Rattle.planner.proofs.dest.by_losses.Tie as tie
@@ -15,7 +16,7 @@ gather-requires c κs = tt
 
 -- src/dest.rt:178:9
 near-by-masks-requires : tie.Need-near-by-masks-requires
-near-by-masks-requires c κs = let g = c .before .before .before .pre in (g .of-plan, (g .source, (g .target, (gathered-at _ _ _ _ _ (c .before .gather .result) (g .of-plan .plan) (g .target) Adaptive (g .masks) (c .before .gather .ensures), (g .adaptive, (g .direct, g .one))))))
+near-by-masks-requires c κs = let g = c .before .before .before .pre in (g .of-plan, (g .source, (g .target, (gathered-at _ _ _ _ _ (c .before .gather .result) (g .of-plan .plan) (g .target) Adaptive false (g .masks) (c .before .gather .ensures), (g .adaptive, (g .direct, g .one))))))
 
 -- src/dest.rt:191:8
 is-given-requires : tie.Need-is-given-requires
@@ -31,7 +32,7 @@ gather-requires-2 c κs = tt
 
 -- src/dest.rt:195:5
 far-by-masks-requires : tie.Need-far-by-masks-requires
-far-by-masks-requires c κs = let g = c .before .before .before .before .before .before .before .before .before .pre in (g .of-plan, (g .source, (g .target, (gathered-at _ _ _ _ _ (c .before .before .before .before .before .before .before .gather .result) (g .of-plan .plan) (g .target) Adaptive (g .masks) (c .before .before .before .before .before .before .before .gather .ensures), (gathered-at _ _ _ _ _ (c .before .before .gather2 .result) (g .of-plan .plan) (g .target) Deterministic (g .others) (c .before .before .gather2 .ensures), (g .adaptive, (g .deterministic, none-given _ _ _ _ _ (c .before .before .before .before .before .near-by-masks .ensures) (c .before .before .before .before .is-given .ensures) (c .before .before .before .if1 .left))))))))
+far-by-masks-requires c κs = let g = c .before .before .before .before .before .before .before .before .before .pre in (g .of-plan, (g .source, (g .target, (gathered-at _ _ _ _ _ (c .before .before .before .before .before .before .before .gather .result) (g .of-plan .plan) (g .target) Adaptive false (g .masks) (c .before .before .before .before .before .before .before .gather .ensures), (gathered-at _ _ _ _ _ (c .before .before .gather2 .result) (g .of-plan .plan) (g .target) Deterministic false (g .others) (c .before .before .gather2 .ensures), (g .adaptive, (g .deterministic, none-given _ _ _ _ _ (c .before .before .before .before .before .near-by-masks .ensures) (c .before .before .before .before .is-given .ensures) (c .before .before .before .if1 .left))))))))
 
 -- src/dest.rt:159:1
 returns-2 : tie.Need-returns-2

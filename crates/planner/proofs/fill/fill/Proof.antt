@@ -17,51 +17,39 @@ Inv-loop plan shape words count ta td all work₀ node₀ work node = (node ≤ 
 abbrev μ-loop : tie.MeasureT-loop
 μ-loop plan shape words count ta td all work₀ node₀ work node = all - node
 
--- src/fill.rt:34:5
 loop-holds : tie.Need-loop-holds Inv-loop μ-loop
 loop-holds c = (omega arith, none-filled _ _)
 
--- src/fill.rt:35:13
 coords-requires : tie.Need-coords-requires Inv-loop μ-loop
 coords-requires c κs = search needs
 
--- src/fill.rt:36:24
 gather-requires : tie.Need-gather-requires Inv-loop μ-loop
 gather-requires c κs = search needs
 
--- src/fill.rt:37:29
 gather-requires-2 : tie.Need-gather-requires-2 Inv-loop μ-loop
 gather-requires-2 c κs = search needs
 
--- src/fill.rt:48:19
 cast-put-both : tie.Need-cast-put-both Inv-loop μ-loop
 cast-put-both c = search needs
 
--- src/fill.rt:48:13
 mul-put-both : tie.Need-mul-put-both Inv-loop μ-loop
 mul-put-both c = omega arith
 
--- src/fill.rt:38:9
 put-both-requires : tie.Need-put-both-requires Inv-loop μ-loop
 put-both-requires c κs = to-fill _ _ _ _ _ _ _ _ _ _ _ (c .before .before .before .before .gather .result) (c .before .before .before .gather2 .result) (c .before .before .before .before .before .before .before .before .before .before .pre .0) (c .before .before .before .before .before .before .before .before .before .before .pre .1 .0) (c .before .before .before .before .before .before .before .before .before .before .pre .1 .1 .0) (c .before .before .before .before .before .before .before .before .before .before .pre .1 .1 .1 .0) (c .before .before .before .before .before .before .before .before .before .before .pre .1 .1 .1 .1) (c .before .before .before .before .before .before .before .loop .inv .1) (omega arith) (c .before .before .before .before .before .coords .ensures) (c .before .before .before .before .gather .ensures) (c .before .before .before .gather2 .ensures)
 
--- src/fill.rt:50:16
 add-node : tie.Need-add-node Inv-loop μ-loop
 add-node c = omega arith
 
--- src/fill.rt:34:5
 loop-less : tie.Need-loop-less Inv-loop μ-loop
 loop-less c = omega arith
 
--- src/fill.rt:34:5
 loop-again : tie.Need-loop-again Inv-loop μ-loop
 loop-again c = let e = c .before .before .put-both .ensures in (omega arith, one-filled _ (c .before .before .before .before .before .before .before .before .before .before .before .before .before .pre .0 .plan) _ _ _ _ _ refl (c .before .before .before .before .before .before .before .before .before .before .loop .inv .1) (e .0) (e .1))
 
--- src/fill.rt:17:1
 same-length : tie.Need-same-length Inv-loop μ-loop
 same-length c = c .before .loop .inv .1 .long
 
--- src/fill.rt:17:1
 returns : tie.Need-returns Inv-loop μ-loop
 returns c = all-filled _ _ _ _ (let e = c .before .before .before .before .pre .1 .1 .1 .0 in omega arith) (c .before .loop .inv .1)
 

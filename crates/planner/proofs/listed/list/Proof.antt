@@ -18,59 +18,45 @@ Inv-loop plan shape words count dead ta td work source a fa fd entries₀ listed
 abbrev μ-loop : tie.MeasureT-loop
 μ-loop plan shape words count dead ta td work source a fa fd entries₀ listed₀ at₀ entries listed at = 4097 - at .node
 
--- src/listed.rt:47:9
 next-outside-requires : tie.Need-next-outside-requires Inv-loop μ-loop
 next-outside-requires c κs = (ok _ _ _ _ _ _ _ _ _ _ _ _ (c .before .before .pre), starts _ (ok _ _ _ _ _ _ _ _ _ _ _ _ (c .before .before .pre)))
 
--- src/listed.rt:57:5
 loop-holds : tie.Need-loop-holds Inv-loop μ-loop
 loop-holds c = begun _ _ _ _ _ _ _ _ _ _ _ _ (c .before .before .before .pre) _ (c .next-outside .ensures)
 
--- src/listed.rt:64:13
 outcome-to-requires : tie.Need-outcome-to-requires Inv-loop μ-loop
 outcome-to-requires c κs = let inv = c .before .before .before .loop .inv in (inv .ready, (is-at _ _ _ _ _ _ _ _ _ _ _ _ (inv .ready) _ _ _ inv (c .if1 .taken) _ refl, unclear _ _ _ _ _ _ _ _ _ _ _ _ (inv .ready) _ _ _ inv (c .if1 .taken)))
 
--- src/listed.rt:80:27
 entry-for-requires : tie.Need-entry-for-requires Inv-loop μ-loop
 entry-for-requires c κs = tt
 
--- src/listed.rt:80:9
 mul-entries : tie.Need-mul-entries Inv-loop μ-loop
 mul-entries c = let r = (let inv = c .before .before .before .before .before .loop .inv in roomy _ _ _ _ _ _ _ _ _ _ _ _ (inv .ready) _ _ _ inv (c .before .before .if1 .taken)) in omega (arith, r)
 
--- src/listed.rt:80:9
 array-set-from-entries : tie.Need-array-set-from-entries Inv-loop μ-loop
 array-set-from-entries c = let inv = c .before .before .before .before .before .loop .inv in roomy _ _ _ _ _ _ _ _ _ _ _ _ (inv .ready) _ _ _ inv (c .before .before .if1 .taken)
 
--- src/listed.rt:81:18
 add-listed : tie.Need-add-listed Inv-loop μ-loop
 add-listed c = let r = (let inv = c .before .before .before .before .before .loop .inv in roomy _ _ _ _ _ _ _ _ _ _ _ _ (inv .ready) _ _ _ inv (c .before .before .if1 .taken)) in omega (arith, r)
 
--- src/listed.rt:86:23
 add-t27 : tie.Need-add-t27 Inv-loop μ-loop
 add-t27 c = let r = (let inv = c .before .before .before .before .before .loop .inv in places _ _ _ _ _ _ _ _ _ _ _ _ (inv .ready) _ _ _ inv (c .before .before .if1 .taken)) in omega (arith, r .1)
 
--- src/listed.rt:87:20
 add-t28 : tie.Need-add-t28 Inv-loop μ-loop
 add-t28 c = let r = (let inv = c .before .before .before .before .before .before .loop .inv in places _ _ _ _ _ _ _ _ _ _ _ _ (inv .ready) _ _ _ inv (c .before .before .before .if1 .taken)) in omega (arith, r .0)
 
--- src/listed.rt:82:9
 next-outside-requires-2 : tie.Need-next-outside-requires-2 Inv-loop μ-loop
 next-outside-requires-2 c κs = let inv = c .before .before .before .before .before .before .loop .inv in (ok _ _ _ _ _ _ _ _ _ _ _ _ (inv .ready), after _ _ _ _ _ _ _ _ _ _ _ _ (inv .ready) _ _ _ inv (c .before .before .before .if1 .taken))
 
--- src/listed.rt:57:5
 loop-less : tie.Need-loop-less Inv-loop μ-loop
 loop-less c = let r = (let inv = c .before .before .before .before .before .before .before .loop .inv in places _ _ _ _ _ _ _ _ _ _ _ _ (inv .ready) _ _ _ inv (c .before .before .before .before .if1 .taken)) in omega (arith, r .1, c .next-outside2 .ensures .onward)
 
--- src/listed.rt:57:5
 loop-again : tie.Need-loop-again Inv-loop μ-loop
 loop-again c = let inv = c .before .before .before .before .before .before .before .loop .inv in turn _ _ _ _ _ _ _ _ _ _ _ _ (inv .ready) _ _ _ inv (c .before .before .before .before .if1 .taken) _ _ _ (c .before .before .before .outcome-to .ensures) (c .before .before .entry-for .ensures) (c .next-outside2 .ensures) .1
 
--- src/listed.rt:93:23
 cast-entry-count : tie.Need-cast-entry-count Inv-loop μ-loop
 cast-entry-count c = let inv = c .before .before .before .loop .inv in let r = few _ _ _ _ _ _ _ _ _ _ _ _ (inv .ready) _ _ _ inv in omega (arith, r .0)
 
--- src/listed.rt:24:1
 returns : tie.Need-returns Inv-loop μ-loop
 unfolding routeEntries
 returns c = let inv = c .before .before .before .loop .inv in (refl, done _ _ _ _ _ _ _ _ _ _ _ _ (inv .ready) _ _ _ inv (c .if1 .left))

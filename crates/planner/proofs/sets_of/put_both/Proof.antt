@@ -8,31 +8,24 @@ use Rattle.planner.proofs.sets_of.put_both.Lts as lts
 use Rattle.planner.proofs.sets_of.put_rows.Reads as put-rows-reads
 use Rattle.planner.proofs.sets_of.to_set.Reads as to-set-reads
 
--- src/sets_of.rt:88:17
 to-set-requires : tie.Need-to-set-requires
 to-set-requires c κs = search needs
 
--- src/sets_of.rt:89:18
 to-set-requires-2 : tie.Need-to-set-requires-2
 to-set-requires-2 c κs = search needs
 
--- src/sets_of.rt:99:5
 put-rows-requires : tie.Need-put-rows-requires
 put-rows-requires c κs = search needs
 
--- src/sets_of.rt:100:19
 add-put-rows : tie.Need-add-put-rows
 add-put-rows c = let h = c .before .before .before .before .before .before .before .before .before .before .pre .1 .1 .1 .1 .0 in omega (arith, h)
 
--- src/sets_of.rt:100:5
 put-rows-requires-2 : tie.Need-put-rows-requires-2
 put-rows-requires-2 c κs = search needs
 
--- src/sets_of.rt:68:1
 same-length : tie.Need-same-length
 same-length c = search needs
 
--- src/sets_of.rt:68:1
 returns : tie.Need-returns
 returns c = let room = c .before .before .before .before .before .before .before .before .before .before .before .before .before .before .pre .1 .1 .1 .1 .1 in let f = c .before .before .before .before .before .before .before .put-rows .ensures in let g = c .before .before .put-rows2 .ensures in (both-to _ (c .before .before .before .before .before .before .before .before .before .before .before .before .before .before .pre .0 .plan) _ _ _ _ _ _ _ room f g (c .before .before .before .before .before .before .before .before .before .before .before .to-set .ensures) (c .before .before .before .before .before .before .before .before .before .before .to-set2 .ensures), put-twice _ _ _ _ _ _ f g)
 

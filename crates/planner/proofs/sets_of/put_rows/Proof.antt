@@ -15,47 +15,36 @@ Inv-loop run₀ at rows i₀ run i = (i ≤ 256) × (at + 256 ≤ length run₀)
 abbrev μ-loop : tie.MeasureT-loop
 μ-loop run₀ at rows i₀ run i = 256 - i
 
--- src/sets_of.rt:61:5
 loop-holds : tie.Need-loop-holds Inv-loop μ-loop
 loop-holds c = (omega arith, c .pre, put-none _ _ _)
 
--- src/sets_of.rt:62:23
 mul-run : tie.Need-mul-run Inv-loop μ-loop
 mul-run c = omega arith
 
--- src/sets_of.rt:62:23
 element-copy-out-run : tie.Need-element-copy-out-run Inv-loop μ-loop
 element-copy-out-run c = omega arith
 
--- src/sets_of.rt:62:13
 add-run : tie.Need-add-run Inv-loop μ-loop
 add-run c = let p = c .before .before .loop .inv in omega (arith, p .1, p .2 .rest .long)
 
--- src/sets_of.rt:62:9
 mul-run-2 : tie.Need-mul-run-2 Inv-loop μ-loop
 mul-run-2 c = let p = c .before .before .loop .inv in omega (arith, p .1, p .2 .rest .long)
 
--- src/sets_of.rt:62:9
 slice-write-run : tie.Need-slice-write-run Inv-loop μ-loop
 slice-write-run c = let p = c .before .before .loop .inv in omega (arith, p .1, p .2 .rest .long)
 
--- src/sets_of.rt:63:13
 add-i : tie.Need-add-i Inv-loop μ-loop
 add-i c = omega arith
 
--- src/sets_of.rt:61:5
 loop-less : tie.Need-loop-less Inv-loop μ-loop
 loop-less c = omega arith
 
--- src/sets_of.rt:61:5
 loop-again : tie.Need-loop-again Inv-loop μ-loop
 loop-again c = let p = c .before .before .loop .inv in (omega arith, p .1, put-next _ _ _ _ _ _ (p .2) (omega arith) refl)
 
--- src/sets_of.rt:56:1
 same-length : tie.Need-same-length Inv-loop μ-loop
 same-length c = c .before .loop .inv .2 .rest .long
 
--- src/sets_of.rt:56:1
 returns : tie.Need-returns Inv-loop μ-loop
 returns c = let p = c .before .loop .inv in let e : c .before .loop .i ≡ 256 = omega arith in rw (← e) (p .2)
 

@@ -6,11 +6,9 @@ use Rattle.planner.proofs.sets_of.to_set.Reads as reads
 use Rattle.planner.proofs.sets_of.to_set.Lts as lts
 use Rattle.sets.proofs.clear.clear_in.Reads as clear-in-reads
 
--- src/sets_of.rt:52:5
 clear-in-requires : tie.Need-clear-in-requires
 clear-in-requires c κs = search needs
 
--- src/sets_of.rt:37:1
 returns : tie.Need-returns
 returns c = to-known _ _ _ _ (c .before .before .pre .0) _ _ (c .before .before .pre .1 .0) _ _ _ (c .before .before .pre .1 .1) (c .clear-in .ensures)
 

@@ -8,27 +8,21 @@ use Rattle.planner.proofs.sheets.planned.Reads as planned-reads
 use Rattle.planner.proofs.sheets.source_error.Reads as source-error-reads
 use Rattle.route_value.proofs.put_routes.Reads as put-routes-reads
 
--- src/sheets.rt:71:9
 source-error-requires : tie.Need-source-error-requires
 source-error-requires c κs = search needs
 
--- src/sheets.rt:73:9
 returns : tie.Need-returns
 returns c = refused-source _ _ _ _ (c .before .source-error .ensures) (c .if1 .taken)
 
--- src/sheets.rt:75:16
 planned-requires : tie.Need-planned-requires
 planned-requires c κs = search needs
 
--- src/sheets.rt:75:5
 put-routes-requires : tie.Need-put-routes-requires
 put-routes-requires c κs = search needs
 
--- src/sheets.rt:67:1
 same-length : tie.Need-same-length
 same-length c = search needs
 
--- src/sheets.rt:67:1
 returns-2 : tie.Need-returns-2
 returns-2 c = put-is _ _ _ _ _ _ _ (c .before .before .before .before .before .before .source-error .ensures) (c .before .before .before .before .before .if1 .left) (c .before .before .before .before .planned .ensures) (c .before .before .put-routes .ensures)
 

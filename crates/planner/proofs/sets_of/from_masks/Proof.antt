@@ -1,0 +1,16 @@
+use Rattle.planner.proofs.Knowing.{from-known}
+use borrow.Author.Needs.{needs}
+use Rattle.planner.proofs.sets_of.from_masks.Statement.{statement}
+use Rattle.planner.proofs.sets_of.from_masks.Tie as tie
+use Rattle.planner.proofs.sets_of.from_masks.Reads as reads
+use Rattle.planner.proofs.sets_of.from_masks.Lts as lts
+use Rattle.sets.proofs.clear.clear_in.Reads as clear-in-reads
+
+clear-in-requires : tie.Need-clear-in-requires
+clear-in-requires c κs = search needs
+
+returns : tie.Need-returns
+returns c = from-known _ _ _ _ (c .before .before .pre .0) _ _ (c .before .before .pre .1 .0) _ _ _ (c .before .before .pre .1 .1) (c .clear-in .ensures)
+
+pub from-masks-spec : {M : Type 1} → statement M
+from-masks-spec = tie.close (tie.spec clear-in-requires returns)
