@@ -9,5 +9,6 @@ pub mod LastStep
 pub mod Planning
 pub mod Unlisted
 pub mod Destination
+pub mod NearRows
 pub mod Pairs
 pub mod Writing
