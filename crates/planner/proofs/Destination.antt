@@ -43,7 +43,7 @@ use Rattle.masks.specs.Span.{boxOf}
 use Rattle.masks.specs.Masks.{gatherAt, Ended, Masked}
 use Rattle.masks.proofs.Spans.{box-inside}
 use Rattle.masks.proofs.Tables.{gathered}
-use Rattle.planner.specs.Known.{isClear, OfPlan, IsAt, FromSet, ToBetween, BothTo, IsBox, routeTold, isGiven, Near, Nearing, Faring, Ready, BySets, ByLosses}
+use Rattle.planner.specs.Known.{isClear, OfPlan, IsAt, FromSet, ToBetween, BothTo, IsBox, NearLosses, routeTold, isGiven, Near, Nearing, Faring, Ready, BySets, ByLosses}
 use Rattle.planner.proofs.Knowing.{shape-ok, dead-byte, to-within}
 use Rattle.planner.proofs.FirstSteps.{nodes-few}
 use Rattle.planner.proofs.Planning.{Source, pair-dead, pair-alive}
@@ -91,9 +91,9 @@ pub has-is : (p : List ℕ) (m : Mode) (rows : List ℕ) (S D : ℕ) (t : Coords
 unfolding inSet
 has-is p m rows S D t g to b e = e ∙ ap (inRows rows 0) (to .at) ∙ g D (to .node)
 
-pub within-box : (p : List ℕ) (s : Shape) (words : List ℕ) (count S D : ℕ) (t : Coords) (bx by bz : ℕ) (masks rows : List ℕ) →
-    OfPlan p s words count → IsAt p D t → IsBox p S D bx by bz → Ended Adaptive false s t masks → Are (clearIn bx by bz masks words count) rows → ToBetween p Adaptive S D rows 0
-within-box p s words count S D t bx by bz masks rows k to b e r v l w = to-within p s words count k D t to Adaptive masks rows bx by bz e r v l (b v l .1 w)
+pub within-box : (p : List ℕ) (s : Shape) (words : List ℕ) (count : ℕ) (near : List ℕ) (n S D : ℕ) (t : Coords) (bx by bz : ℕ) (masks rows : List ℕ) →
+    OfPlan p s words count → NearLosses p S D words count near n → IsAt p D t → IsBox p S D bx by bz → Ended Adaptive false s t masks → Are (clearIn bx by bz masks near n) rows → ToBetween p Adaptive S D rows 0
+within-box p s words count near n S D t bx by bz masks rows k g to b e r v l w = to-within p s words count k D t to Adaptive masks rows bx by bz near n (g .few) e r v l (b v l .1 w) (g .same v l w)
 
 pub gathered-at : (p : List ℕ) (s : Shape) (D : ℕ) (t : Coords) (table masks : List ℕ) → planError large p ≡ 0 → IsAt p D t → (m : Mode) (from : Bool) → Masked m from s table → ((i : ℕ) → i < 288 → getD masks i 0 ≡ gatherAt table t i) → Ended m from s t masks
 gathered-at p s D t table masks h to m from full g = let k = small-at p D t h to in gathered m from s table masks t full (k .0) (k .1) (k .2) g
@@ -165,9 +165,10 @@ module _ (p : List ℕ) (s : Shape) (words : List ℕ) (count : ℕ) (dead ta td
       (λ d. e ∙ sym (ap (told (shapeOf p) S) (pair-alive large p S source-is D target-is d)))
 
   module _ (direct : isClear p Adaptive S D ≡ false) (straight : Bool) (es : straight ≡ inRows fd 0 t) where
-    pub by-losses : ByLosses p s words count ta td S D a t fa fd straight
-    by-losses = record {
+    pub by-losses : (near : List ℕ) (n : ℕ) → NearLosses p S D words count near n → ByLosses p s words count near n ta td S D a t fa fd straight
+    by-losses near n some = record {
       of-plan = g .prepared .of-plan;
+      standing = some;
       masks = g .prepared .adaptive;
       others = g .prepared .deterministic;
       source = g .source;

@@ -78,13 +78,16 @@ module _ (p : List ℕ) (s : Shape) (words : List ℕ) (count : ℕ) (k : OfPlan
       ∙ ap (λ (t : Coords). not (onLeg rule m (shapeOf p) words count (coordsOf (shapeOf p) v) t)) (a .at)
       ∙ sym (clear-is p (k .plan) words count (k .losses) v n l (a .node) m)
 
-  -- Within a product.
+  -- Within a product, by losses that stand for all there.
   pub to-within :
-      (bx by bz : ℕ) → Ended m false s c ends → Are (clearIn bx by bz ends words count) rows → (v : ℕ) → v < nodeCount (shapeOf p) → inProduct bx by bz (coordsOf (shapeOf p) v) ≡ true →
+      (bx by bz : ℕ) (near : List ℕ) (some : ℕ) → some ≤ 256 → Ended m false s c ends → Are (clearIn bx by bz ends near some) rows → (v : ℕ) → v < nodeCount (shapeOf p) →
+      inProduct bx by bz (coordsOf (shapeOf p) v) ≡ true →
+      onLeg rule m (shapeOf p) near some (coordsOf (shapeOf p) v) (coordsOf (shapeOf p) n) ≡ onLeg rule m (shapeOf p) words count (coordsOf (shapeOf p) v) (coordsOf (shapeOf p) n) →
       inSet (shapeOf p) rows 0 v ≡ isClear p m v n
-  to-within bx by bz e r v l i =
-      clear-in m false (shapeOf p) ok c here bx by bz ends words rows count few (rw (k .shape) at e) r v l i
-      ∙ ap (λ (t : Coords). not (onLeg rule m (shapeOf p) words count (coordsOf (shapeOf p) v) t)) (a .at)
+  to-within bx by bz near some most e r v l i same =
+      clear-in m false (shapeOf p) ok c here bx by bz ends near rows some most (rw (k .shape) at e) r v l i
+      ∙ ap (λ (t : Coords). not (onLeg rule m (shapeOf p) near some (coordsOf (shapeOf p) v) t)) (a .at)
+      ∙ ap not same
       ∙ sym (clear-is p (k .plan) words count (k .losses) v n l (a .node) m)
 
 -- ---- rows put into a run

@@ -10,6 +10,7 @@ pub mod LastStep
 pub mod Planning
 pub mod Unlisted
 pub mod Destination
+pub mod NearRows
 pub mod Pairs
 pub mod Writing
 pub mod EachOutcome

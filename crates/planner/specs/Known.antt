@@ -13,7 +13,7 @@ use Rattle.shape.specs.declared.shape.Coords.{Coords}
 use Rattle.machine.specs.declared.leg.Mode.{Mode}
 use Rattle.machine.specs.declared.leg.Mode.the-variants.{Adaptive, Deterministic}
 use Rattle.machine.specs.Number.{nodeCount, coordsOf}
-use Rattle.machine.specs.Hop.{distance}
+use Rattle.machine.specs.Hop.{rule, distance}
 use Rattle.machine.specs.Torus.{leg, torus}
 use Rattle.plan.specs.Layout.{shapeOf, faultsOf}
 use Rattle.plan.specs.Checks.{large, planError}
@@ -23,6 +23,7 @@ use Rattle.choice.specs.declared.outcome.Outcome.{Outcome}
 use Rattle.choice.specs.Outcome.{told}
 use Rattle.choice.specs.Pair.{soundIn, routeIn, chosen}
 use Rattle.rows.specs.Rows.{inSet, inProduct}
+use Rattle.losses.specs.Loss.{onLeg}
 use Rattle.losses.specs.OfPlan.{AreLosses}
 use Rattle.masks.specs.Masks.{Masked}
 use Rattle.planner.specs.KeyNumber.{pickOutcome}
@@ -92,6 +93,18 @@ abbrev pub IsBox : List ℕ → ℕ → ℕ → ℕ → ℕ → ℕ → Type 0
 IsBox p S D bx by bz =
     (v : ℕ) → v < nodeCount (shapeOf p) → (inProduct bx by bz (coordsOf (shapeOf p) v) ≡ true) ↔ (distance (shapeOf p) S v + distance (shapeOf p) v D ≡ distance (shapeOf p) S D)
 
+-- The first n of `near` stand for all losses on the adaptive legs to D from the nodes on the shortest ways from S.
+pub record NearLosses (p : List ℕ) (S D : ℕ) (words : List ℕ) (count : ℕ) (near : List ℕ) (n : ℕ) : Type 0 where
+  pub few : n ≤ 256
+  pub same :
+      (v : ℕ) → v < nodeCount (shapeOf p) → distance (shapeOf p) S v + distance (shapeOf p) v D ≡ distance (shapeOf p) S D →
+      onLeg rule Adaptive (shapeOf p) near n (coordsOf (shapeOf p) v) (coordsOf (shapeOf p) D) ≡ onLeg rule Adaptive (shapeOf p) words count (coordsOf (shapeOf p) v) (coordsOf (shapeOf p) D)
+
+-- They do so for every destination of a row, y + 16 × z, where the run `work` is empty.
+pub record NearRow (p work : List ℕ) (S : ℕ) (words : List ℕ) (count : ℕ) (near : List ℕ) (n row : ℕ) : Type 0 where
+  pub long : length near ≡ 256
+  pub each : length work ≡ 0 → (D : ℕ) → D < nodeCount (shapeOf p) → coordsOf (shapeOf p) D .y + 16 * coordsOf (shapeOf p) D .z ≡ row → NearLosses p S D words count near n
+
 -- By a via with two adaptive legs, directly with a deterministic one, or neither.
 unfoldable pub nearRoute : ℕ → Bool → ℕ → Outcome
 nearRoute via straight len =
@@ -151,8 +164,9 @@ pub record BySets (p : List ℕ) (s : Shape) (work : List ℕ) (S D : ℕ) (a t 
   pub direct : isClear p Adaptive S D ≡ false
   pub one : straight ≡ isClear p Deterministic S D
 
-pub record ByLosses (p : List ℕ) (s : Shape) (words : List ℕ) (count : ℕ) (ta td : List ℕ) (S D : ℕ) (a t : Coords) (fa fd : List ℕ) (straight : Bool) : Type 0 where
+pub record ByLosses (p : List ℕ) (s : Shape) (words : List ℕ) (count : ℕ) (near : List ℕ) (n : ℕ) (ta td : List ℕ) (S D : ℕ) (a t : Coords) (fa fd : List ℕ) (straight : Bool) : Type 0 where
   pub of-plan : OfPlan p s words count
+  pub standing : NearLosses p S D words count near n
   pub masks : Masked Adaptive false s ta
   pub others : Masked Deterministic false s td
   pub source : IsAt p S a

@@ -1,20 +1,26 @@
-// The nodes on the shortest ways between two ends.
+// The nodes on the shortest ways between two ends, and the losses that can lie there.
+use masks::span::box_of;
+use masks::table::gather;
 use sets::clear::clear_in;
+use sets::sift::sift;
 use shape::Coords;
 use shape::Shape;
 ghost use mathlib.Core.Path.{_≡_};
+ghost use Prim.Native.Nat.{_+_, _*_};
 ghost use mathlib.Core.Bool.{false};
 ghost use lib.ListN.{length};
 ghost use Rattle.machine.specs.declared.leg.Mode.the-variants.{Adaptive};
-ghost use Rattle.masks.specs.Masks.{Ended};
-ghost use Rattle.planner.specs.Known.{OfPlan, IsAt, IsBox, ToBetween};
+ghost use Rattle.masks.specs.Masks.{Ended, Masked};
+ghost use Rattle.planner.specs.Known.{OfPlan, IsAt, IsBox, ToBetween, NearLosses, NearRow};
 
-// bx, by, bz: the places between. Those of these nodes with a clear adaptive leg to the destination, whose masks they are.
+// bx, by, bz: the places between. Those of these nodes with a clear adaptive leg to the destination, whose masks they are, by losses that stand for all.
 pub fn near_set(
     plan: &[u8],
     shape: Shape,
     words: &[u16; 256],
     count: usize,
+    near: &[u16; 256],
+    nears: usize,
     source: u16,
     dest: u16,
     t: Coords,
@@ -24,11 +30,88 @@ pub fn near_set(
     masks: &[u16; 288],
 ) -> [u16; 256]
     requires { ⌜ OfPlan (now plan) shape (now words) count ⌝ }
+    requires { ⌜ NearLosses (now plan) source dest (now words) count (now near) nears ⌝ }
     requires { ⌜ IsAt (now plan) dest t ⌝ }
     requires { ⌜ IsBox (now plan) source dest bx by bz ⌝ }
     requires { ⌜ Ended Adaptive false shape t (now masks) ⌝ }
     ensures { λ r. ⌜ ToBetween (now (plan .entry)) Adaptive source dest r 0 ⌝ }
     ensures { λ r. ⌜ length r ≡ 256 ⌝ }
 {
-    clear_in(bx, by, bz, masks, words, count)
+    clear_in(bx, by, bz, masks, near, nears)
+}
+
+pub fn row_at(t: Coords) -> u16
+    ensures { λ r. ⌜ r ≡ t .y + 16 * t .z ⌝ }
+{
+    t.y as u16 + 16 * t.z as u16
+}
+
+// The losses that can lie on the shortest ways to the destinations in the row of t; their number.
+fn sift_row(
+    plan: &[u8],
+    shape: Shape,
+    words: &[u16; 256],
+    count: usize,
+    ta: &[u16; 4608],
+    work: &[u16],
+    source: u16,
+    a: Coords,
+    dest: u16,
+    t: Coords,
+    near: &mut [u16; 256],
+) -> usize
+    requires { ⌜ OfPlan (now plan) shape (now words) count ⌝ }
+    requires { ⌜ Masked Adaptive false shape (now ta) ⌝ }
+    requires { ⌜ IsAt (now plan) source a ⌝ }
+    requires { ⌜ IsAt (now plan) dest t ⌝ }
+    requires { ⌜ length (now near) ≡ 256 ⌝ }
+    ensures { λ r. ⌜ NearRow (now (plan .entry)) (now (work .entry)) source (now (words .entry)) count (now (near .exit)) r (t .y + 16 * t .z) ⌝ }
+{
+    let masks = gather(ta, t);
+    let b = box_of(shape, a, t);
+    sift(b.y, b.z, &masks, words, count, near)
+}
+
+// The same, where those of another row stand in `near`. With sets to all nodes none are needed.
+pub fn renew(
+    plan: &[u8],
+    shape: Shape,
+    words: &[u16; 256],
+    count: usize,
+    ta: &[u16; 4608],
+    work: &[u16],
+    source: u16,
+    a: Coords,
+    dest: u16,
+    t: Coords,
+    near: &mut [u16; 256],
+    nears: usize,
+    row: u16,
+) -> usize
+    requires { ⌜ OfPlan (now plan) shape (now words) count ⌝ }
+    requires { ⌜ Masked Adaptive false shape (now ta) ⌝ }
+    requires { ⌜ IsAt (now plan) source a ⌝ }
+    requires { ⌜ IsAt (now plan) dest t ⌝ }
+    requires { ⌜ NearRow (now plan) (now work) source (now words) count (now near) nears row ⌝ }
+    ensures { λ r. ⌜ NearRow (now (plan .entry)) (now (work .entry)) source (now (words .entry)) count (now (near .exit)) r (t .y + 16 * t .z) ⌝ }
+{
+    if work.len() != 0 {
+        return nears;
+    }
+    if row_at(t) == row {
+        return nears;
+    }
+    sift_row(
+        plan,
+        shape,
+        words,
+        count,
+        ta,
+        work,
+        source,
+        a,
+        dest,
+        t,
+        near,
+    )
 }

@@ -14,6 +14,7 @@ use shape::Shape;
 ghost use mathlib.Core.Path.{_≡_};
 ghost use Prim.Native.Nat.{_<_};
 ghost use mathlib.Core.Bool.{false};
+ghost use lib.ListN.{length};
 ghost use Rattle.machine.specs.declared.leg.Mode.the-variants.{Adaptive, Deterministic};
 ghost use Rattle.plan.specs.Layout.{shapeOf};
 ghost use Rattle.plan.specs.Checks.{large};
@@ -21,14 +22,16 @@ ghost use Rattle.choice.specs.Outcome.{told};
 ghost use Rattle.choice.specs.Pair.{pair};
 ghost use Rattle.rows.specs.Rows.{inRows};
 ghost use Rattle.masks.specs.Masks.{Ended};
-ghost use Rattle.planner.specs.Known.{isClear, OfPlan, IsAt, FromSet, BySets, ByLosses, Faring, Ready, Near, routeTold};
+ghost use Rattle.planner.specs.Known.{isClear, OfPlan, IsAt, FromSet, NearLosses, BySets, ByLosses, Faring, Ready, Near, routeTold};
 
-// By the masks of the destination: the first steps.
+// By the masks of the destination: the first steps. `near`: losses that stand for all there.
 pub fn near_by_masks(
     plan: &[u8],
     shape: Shape,
     words: &[u16; 256],
     count: usize,
+    near: &[u16; 256],
+    nears: usize,
     source: u16,
     dest: u16,
     a: Coords,
@@ -38,6 +41,7 @@ pub fn near_by_masks(
     straight: bool,
 ) -> Outcome
     requires { ⌜ OfPlan (now plan) shape (now words) count ⌝ }
+    requires { ⌜ NearLosses (now plan) source dest (now words) count (now near) nears ⌝ }
     requires { ⌜ IsAt (now plan) source a ⌝ }
     requires { ⌜ IsAt (now plan) dest t ⌝ }
     requires { ⌜ Ended Adaptive false shape t (now masks) ⌝ }
@@ -47,11 +51,13 @@ pub fn near_by_masks(
     ensures { λ r. ⌜ Near (now (plan .entry)) source dest r ⌝ }
 {
     let b = box_of(shape, a, t);
-    let near = near_set(
+    let set = near_set(
         plan,
         shape,
         words,
         count,
+        near,
+        nears,
         source,
         dest,
         t,
@@ -71,7 +77,7 @@ pub fn near_by_masks(
         b.z,
         fa,
         straight,
-        &near,
+        &set,
         0,
     )
 }
@@ -179,6 +185,8 @@ fn by_losses(
     shape: Shape,
     words: &[u16; 256],
     count: usize,
+    near: &[u16; 256],
+    nears: usize,
     ta: &[u16; 4608],
     td: &[u16; 4608],
     source: u16,
@@ -189,7 +197,7 @@ fn by_losses(
     fd: &[u16; 256],
     straight: bool,
 ) -> Outcome
-    requires { ⌜ ByLosses (now plan) shape (now words) count (now ta) (now td) source dest a t (now fa) (now fd) straight ⌝ }
+    requires { ⌜ ByLosses (now plan) shape (now words) count (now near) nears (now ta) (now td) source dest a t (now fa) (now fd) straight ⌝ }
     ensures { λ r. ⌜ r ≡ routeTold (now (plan .entry)) source dest ⌝ }
 {
     let masks = gather(ta, t);
@@ -198,6 +206,8 @@ fn by_losses(
         shape,
         words,
         count,
+        near,
+        nears,
         source,
         dest,
         a,
@@ -240,6 +250,8 @@ fn route_to(
     shape: Shape,
     words: &[u16; 256],
     count: usize,
+    near: &[u16; 256],
+    nears: usize,
     dead: &[u8; 4096],
     ta: &[u16; 4608],
     td: &[u16; 4608],
@@ -253,6 +265,7 @@ fn route_to(
 ) -> Outcome
     requires { ⌜ Ready (now plan) shape (now words) count (now dead) (now ta) (now td) (now work) source a (now fa) (now fd) ⌝ }
     requires { ⌜ IsAt (now plan) dest t ⌝ }
+    requires { ⌜ (length (now work) ≡ 0 → NearLosses (now plan) source dest (now words) count (now near) nears) ⌝ }
     requires { ⌜ isClear (now plan) Adaptive source dest ≡ false ⌝ }
     ensures { λ r. ⌜ r ≡ routeTold (now (plan .entry)) source dest ⌝ }
 {
@@ -263,6 +276,8 @@ fn route_to(
             shape,
             words,
             count,
+            near,
+            nears,
             ta,
             td,
             source,
@@ -277,12 +292,14 @@ fn route_to(
     by_sets(plan, shape, work, source, dest, a, t, fa, fd, straight)
 }
 
-// What planning the pair answers.
+// What planning the pair answers. `near`: losses that stand for all on the shortest ways; all of them do.
 pub fn outcome_to(
     plan: &[u8],
     shape: Shape,
     words: &[u16; 256],
     count: usize,
+    near: &[u16; 256],
+    nears: usize,
     dead: &[u8; 4096],
     ta: &[u16; 4608],
     td: &[u16; 4608],
@@ -296,6 +313,7 @@ pub fn outcome_to(
 ) -> Outcome
     requires { ⌜ Ready (now plan) shape (now words) count (now dead) (now ta) (now td) (now work) source a (now fa) (now fd) ⌝ }
     requires { ⌜ IsAt (now plan) dest t ⌝ }
+    requires { ⌜ (length (now work) ≡ 0 → NearLosses (now plan) source dest (now words) count (now near) nears) ⌝ }
     requires { ⌜ isClear (now plan) Adaptive source dest ≡ false ⌝ }
     ensures { λ r. ⌜ r ≡ told (shapeOf (now (plan .entry))) source (pair large (now (plan .entry)) source dest) ⌝ }
 {
@@ -308,6 +326,8 @@ pub fn outcome_to(
         shape,
         words,
         count,
+        near,
+        nears,
         dead,
         ta,
         td,

@@ -1,4 +1,6 @@
 // What a route sheet from a source lists: the destinations to which the direct adaptive leg is not clear.
+use crate::between::renew;
+use crate::between::row_at;
 use crate::dest::outcome_to;
 use crate::outside::At;
 use crate::outside::next_outside;
@@ -22,7 +24,10 @@ ghost use Rattle.route_value.specs.Writing.{routeEntries};
 ghost use Rattle.planner.specs.Sheet.{entriesFrom};
 ghost use Rattle.planner.specs.Known.{IsAt, Prepared, Ready};
 
-// The sets from the source, and what is known of the plan. Each destination is planned once.
+// No row of nodes: they are 256.
+const NO_ROW: u16 = 256;
+
+// The sets from the source, and what is known of the plan. Each destination is planned once, with the losses that can lie on the shortest ways to its row.
 fn list(
     plan: &[u8],
     shape: Shape,
@@ -46,6 +51,9 @@ fn list(
         via: 0,
     }; MOST_ENTRIES];
     let mut listed: usize = 0;
+    let mut near = [0u16; 256];
+    let mut nears: usize = 0;
+    let mut row = NO_ROW;
     let mut at = next_outside(
         shape,
         fa,
@@ -63,11 +71,29 @@ fn list(
             y: at.y,
             z: at.z,
         };
+        nears = renew(
+            plan,
+            shape,
+            words,
+            count,
+            ta,
+            work,
+            source,
+            a,
+            dest,
+            t,
+            &mut near,
+            nears,
+            row,
+        );
+        row = row_at(t);
         let outcome = outcome_to(
             plan,
             shape,
             words,
             count,
+            &near,
+            nears,
             dead,
             ta,
             td,

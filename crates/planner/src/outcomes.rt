@@ -58,6 +58,8 @@ fn any_outcome(
         shape,
         words,
         count,
+        words,
+        count,
         dead,
         ta,
         td,

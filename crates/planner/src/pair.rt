@@ -70,6 +70,8 @@ fn route(
         shape,
         words,
         count,
+        words,
+        count,
         source,
         dest,
         a,

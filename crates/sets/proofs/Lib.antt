@@ -2,3 +2,4 @@ pub mod Taking
 pub mod Columns
 pub mod Sets
 pub mod Legs
+pub mod Sifting

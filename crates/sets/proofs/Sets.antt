@@ -32,7 +32,7 @@ unfolding someBelow
 some-same zero f g e = refl
 some-same (suc n) f g e = rw (e n, some-same n f g e)
 
-column-below : (kind d : ℕ) → column kind d < 6
+pub column-below : (kind d : ℕ) → column kind d < 6
 unfolding column kindOwn
 column-below kind d = go (eqb (kindDim kind) d) (ltb d (kindDim kind)) (ltb kind 6) (ltb kind 9)
   where
@@ -76,11 +76,11 @@ module _ (mode : Mode) (from : Bool) (s : Shape) (h : shapeError s ≡ 0) (e : C
   unfolding lossIn deadIn lossCells deadCells
   loss-bit c ic w = rw (part-bit c ic (lossKind w) w, part-bit c ic 9 w, part-bit c ic 10 w, part-bit c ic 11 w) (loss-met mode s w (fromTo e c) (fromTo c e))
 
-  some-bit : (c : Coords) → Inside s c → (losses : List ℕ) (n : ℕ) → someBelow n (λ i. lossIn ends (getD losses i 0) c) ≡ onLeg rule mode s losses n (fromTo e c) (fromTo c e)
+  pub some-bit : (c : Coords) → Inside s c → (losses : List ℕ) (n : ℕ) → someBelow n (λ i. lossIn ends (getD losses i 0) c) ≡ onLeg rule mode s losses n (fromTo e c) (fromTo c e)
   unfolding onLeg
   some-bit c ic losses n = some-same n (λ i. lossIn ends (getD losses i 0) c) (λ i. lossMeets rule mode s (getD losses i 0) (fromTo e c) (fromTo c e)) (λ i. loss-bit c ic (getD losses i 0))
 
-from-to : (from : Bool) (a t : Coords) → _≡_ {A = Coords} (record { x = cond from (a .x) (t .x); y = cond from (a .y) (t .y); z = cond from (a .z) (t .z) }) (cond from a t)
+pub from-to : (from : Bool) (a t : Coords) → _≡_ {A = Coords} (record { x = cond from (a .x) (t .x); y = cond from (a .y) (t .y); z = cond from (a .z) (t .z) }) (cond from a t)
 from-to true a t = refl
 from-to false a t = refl
 

@@ -1,2 +1,3 @@
 pub mod Part
 pub mod Clear
+pub mod Sift

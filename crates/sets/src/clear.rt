@@ -1,22 +1,13 @@
 // The nodes of a product with a clear leg from one end, or to it, as rows of bits.
 use crate::part::clipped;
-use crate::part::column;
+use crate::part::mask_in;
 use rows::product::less;
 use rows::product::product;
 ghost use mathlib.Core.Path.{_≡_};
-ghost use Prim.Native.Nat.{_≤_, _<_};
 ghost use mathlib.Core.Bool.{_&&_};
 ghost use Rattle.rows.specs.Product.{nodeAt, Less, Are, product};
-ghost use Rattle.sets.specs.Part.{maskIn, partIn, deadIn, lossIn};
+ghost use Rattle.sets.specs.Part.{partIn, deadIn, lossIn};
 ghost use Rattle.sets.specs.Clear.{clearIn};
-
-fn mask_in(ends: &[u16; 288], kind: u16, d: u16, c: u16) -> u16
-    requires { ⌜ (d < 3) × (c < 16) ⌝ }
-    ensures { λ r. ⌜ r ≡ maskIn (now (ends .entry)) kind d c ⌝ }
-{
-    let i = 96 * d + 16 * column(kind, d) + c;
-    ends[i as usize]
-}
 
 // What is lost of this kind, within the product of the places in bx, by and bz.
 fn less_part(rows: &mut [u16; 256], ends: &[u16; 288], kind: u16, w: u16, bx: u16, by: u16, bz: u16)

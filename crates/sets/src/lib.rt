@@ -3,3 +3,4 @@ mod cells;
 pub mod clear;
 pub mod leg;
 mod part;
+pub mod sift;

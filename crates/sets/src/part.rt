@@ -1,7 +1,7 @@
 // A loss as products of masks: the column of masks in each dimension.
 ghost use mathlib.Core.Path.{_≡_};
 ghost use Prim.Native.Nat.{_<_, min};
-ghost use Rattle.sets.specs.Part.{kindDim, kindOwn, column};
+ghost use Rattle.sets.specs.Part.{kindDim, kindOwn, column, maskIn};
 
 pub fn kind_dim(kind: u16) -> u16
     ensures { λ r. ⌜ r ≡ kindDim kind ⌝ }
@@ -35,6 +35,14 @@ pub fn column(kind: u16, d: u16) -> u16
         return 0;
     }
     3
+}
+
+pub fn mask_in(ends: &[u16; 288], kind: u16, d: u16, c: u16) -> u16
+    requires { ⌜ (d < 3) × (c < 16) ⌝ }
+    ensures { λ r. ⌜ r ≡ maskIn (now (ends .entry)) kind d c ⌝ }
+{
+    let i = 96 * d + 16 * column(kind, d) + c;
+    ends[i as usize]
 }
 
 // How many of the losses are looked at.

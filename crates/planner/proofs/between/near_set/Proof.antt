@@ -12,7 +12,7 @@ clear-in-requires c κs = search needs
 
 -- src/between.rt:11:1
 returns : tie.Need-returns
-returns c = (within-box _ _ _ _ _ _ _ _ _ _ _ _ (c .before .before .pre .0) (c .before .before .pre .1 .0) (c .before .before .pre .1 .1 .0) (c .before .before .pre .1 .1 .1) (c .clear-in .ensures), c .clear-in .ensures .long)
+returns c = (within-box _ _ _ _ _ _ _ _ _ _ _ _ _ _ (c .before .before .pre .0) (c .before .before .pre .1 .0) (c .before .before .pre .1 .1 .0) (c .before .before .pre .1 .1 .1 .0) (c .before .before .pre .1 .1 .1 .1) (c .clear-in .ensures), c .clear-in .ensures .long)
 
 pub near-set-spec : {M : Type 1} → statement M
 near-set-spec = tie.close (tie.spec clear-in-requires returns)

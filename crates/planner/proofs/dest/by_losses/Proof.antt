@@ -16,7 +16,7 @@ gather-requires c κs = tt
 
 -- src/dest.rt:178:9
 near-by-masks-requires : tie.Need-near-by-masks-requires
-near-by-masks-requires c κs = let g = c .before .before .before .pre in (g .of-plan, (g .source, (g .target, (gathered-at _ _ _ _ _ (c .before .gather .result) (g .of-plan .plan) (g .target) Adaptive false (g .masks) (c .before .gather .ensures), (g .adaptive, (g .direct, g .one))))))
+near-by-masks-requires c κs = let g = c .before .before .before .pre in (g .of-plan, (g .standing, (g .source, (g .target, (gathered-at _ _ _ _ _ (c .before .gather .result) (g .of-plan .plan) (g .target) Adaptive false (g .masks) (c .before .gather .ensures), (g .adaptive, (g .direct, g .one)))))))
 
 -- src/dest.rt:191:8
 is-given-requires : tie.Need-is-given-requires

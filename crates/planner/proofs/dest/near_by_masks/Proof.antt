@@ -16,7 +16,7 @@ box-of-requires c κs = search needs
 
 -- src/dest.rt:50:16
 near-set-requires : tie.Need-near-set-requires
-near-set-requires c κs = ((c .before .before .pre .0), ((c .before .before .pre .1 .1 .0), (is-box _ _ _ _ _ _ ((c .before .before .pre .0) .plan) ((c .before .before .pre .0) .shape) (c .before .before .pre .1 .0) (c .before .before .pre .1 .1 .0) _ (c .box-of .ensures), (c .before .before .pre .1 .1 .1 .0))))
+near-set-requires c κs = let g = c .before .before .pre in (g .0, (g .1 .0, (g .1 .1 .1 .0, (is-box _ _ _ _ _ _ (g .0 .plan) (g .0 .shape) (g .1 .1 .0) (g .1 .1 .1 .0) _ (c .box-of .ensures), g .1 .1 .1 .1 .0))))
 
 -- src/dest.rt:68:9
 distance-at-requires : tie.Need-distance-at-requires
@@ -28,7 +28,7 @@ slice-aggregate-near-outcome c = search needs
 
 -- src/dest.rt:63:5
 near-outcome-requires : tie.Need-near-outcome-requires
-near-outcome-requires c κs = nearing _ _ _ _ _ _ _ _ _ _ _ _ ((c .before .before .before .before .before .pre .0) .plan) ((c .before .before .before .before .before .pre .0) .shape) (c .before .before .before .before .before .pre .1 .0) (c .before .before .before .before .before .pre .1 .1 .0) (c .before .distance-at .ensures) (c .before .before .before .box-of .ensures) (c .before .before .before .before .before .pre .1 .1 .1 .1 .0) (c .before .before .near-set .ensures .0) (omega (arith, c .before .before .near-set .ensures .1)) (c .before .before .before .before .before .pre .1 .1 .1 .1 .1 .0) (c .before .before .before .before .before .pre .1 .1 .1 .1 .1 .1)
+near-outcome-requires c κs = let g = c .before .before .before .before .before .pre in nearing _ _ _ _ _ _ _ _ _ _ _ _ (g .0 .plan) (g .0 .shape) (g .1 .1 .0) (g .1 .1 .1 .0) (c .before .distance-at .ensures) (c .before .before .before .box-of .ensures) (g .1 .1 .1 .1 .1 .0) (c .before .before .near-set .ensures .0) (omega (arith, c .before .before .near-set .ensures .1)) (g .1 .1 .1 .1 .1 .1 .0) (g .1 .1 .1 .1 .1 .1 .1)
 
 -- src/dest.rt:27:1
 returns : tie.Need-returns

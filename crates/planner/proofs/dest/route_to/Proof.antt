@@ -13,7 +13,7 @@ has-requires c κs = small-at _ _ _ ((c .before .before .pre .0) .prepared .of-p
 
 -- src/dest.rt:243:9
 by-losses-requires : tie.Need-by-losses-requires
-by-losses-requires c κs = by-losses _ _ _ _ _ _ _ _ _ _ _ _ (c .before .before .before .before .pre .0) _ _ (c .before .before .before .before .pre .1 .0) (c .before .before .before .before .pre .1 .1) _ (c .before .has .ensures)
+by-losses-requires c κs = let g = c .before .before .before .before .pre in by-losses _ _ _ _ _ _ _ _ _ _ _ _ (g .0) _ _ (g .1 .0) (g .1 .1 .1) _ (c .before .has .ensures) _ _ (g .1 .1 .0 (c .if1 .taken))
 
 -- src/dest.rt:243:9
 returns : tie.Need-returns
@@ -21,7 +21,7 @@ returns c = c .by-losses .ensures
 
 -- src/dest.rt:259:5
 by-sets-requires : tie.Need-by-sets-requires
-by-sets-requires c κs = by-sets _ _ _ _ _ _ _ _ _ _ _ _ (c .before .before .before .before .pre .0) _ _ (c .before .before .before .before .pre .1 .0) (c .before .before .before .before .pre .1 .1) _ (c .before .has .ensures) (c .if1 .left)
+by-sets-requires c κs = let g = c .before .before .before .before .pre in by-sets _ _ _ _ _ _ _ _ _ _ _ _ (g .0) _ _ (g .1 .0) (g .1 .1 .1) _ (c .before .has .ensures) (c .if1 .left)
 
 -- src/dest.rt:220:1
 returns-2 : tie.Need-returns-2

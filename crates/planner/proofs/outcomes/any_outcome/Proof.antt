@@ -1,3 +1,4 @@
+use Rattle.planner.proofs.NearRows.{all-near}
 use Rattle.machine.specs.declared.leg.Mode.the-variants.{Adaptive}
 use mathlib.Core.Path.{sym, _∙_}
 use Rattle.planner.proofs.Destination.{small-at, has-is}
@@ -16,7 +17,7 @@ returns : tie.Need-returns
 returns c = direct-given _ _ _ _ _ _ _ _ _ _ _ _ (c .before .before .before .before .before .pre .0) _ _ (c .before .before .before .before .before .pre .1) _ (c .before .before .has .ensures) (c .before .if1 .taken) _ (c .distance-at .ensures)
 
 outcome-to-requires : tie.Need-outcome-to-requires
-outcome-to-requires c κs = (c .before .before .before .before .pre .0, (c .before .before .before .before .pre .1, sym (has-is _ Adaptive _ _ _ _ (c .before .before .before .before .pre .0 .adaptive) (c .before .before .before .before .pre .1) _ (c .before .has .ensures)) ∙ c .if1 .left))
+outcome-to-requires c κs = (c .before .before .before .before .pre .0, (c .before .before .before .before .pre .1, ((λ z. all-near _ _ _ _ (c .before .before .before .before .pre .0 .prepared .of-plan) _ _), sym (has-is _ Adaptive _ _ _ _ (c .before .before .before .before .pre .0 .adaptive) (c .before .before .before .before .pre .1) _ (c .before .has .ensures)) ∙ c .if1 .left)))
 
 returns-2 : tie.Need-returns-2
 returns-2 c = search needs

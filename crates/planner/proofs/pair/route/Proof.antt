@@ -1,3 +1,4 @@
+use Rattle.planner.proofs.NearRows.{all-near}
 use Rattle.planner.proofs.Pairs.{leg-is, direct-told}
 use Rattle.planner.proofs.Destination.{first-given, none-given}
 use Rattle.machine.specs.declared.leg.Mode.the-variants.{Adaptive, Deterministic}
@@ -40,7 +41,7 @@ leg-clear-requires-2 c κs = tt
 
 -- src/pair.rt:68:9
 near-by-masks-requires : tie.Need-near-by-masks-requires
-near-by-masks-requires c κs = ((c .before .before .before .before .before .before .before .before .pre .0), ((c .before .before .before .before .before .before .before .before .pre .1 .0), ((c .before .before .before .before .before .before .before .before .pre .1 .1), (c .before .before .before .ends .ensures, (c .before .before .before .before .from-set .ensures, (sym (leg-is _ _ _ _ (c .before .before .before .before .before .before .before .before .pre .0) _ _ _ _ (c .before .before .before .before .before .before .before .before .pre .1 .0) (c .before .before .before .before .before .before .before .before .pre .1 .1) Adaptive _ (c .before .before .before .before .before .before .leg-clear .ensures)) ∙ c .before .before .before .before .before .if1 .left, leg-is _ _ _ _ (c .before .before .before .before .before .before .before .before .pre .0) _ _ _ _ (c .before .before .before .before .before .before .before .before .pre .1 .0) (c .before .before .before .before .before .before .before .before .pre .1 .1) Deterministic _ (c .before .before .leg-clear2 .ensures)))))))
+near-by-masks-requires c κs = ((c .before .before .before .before .before .before .before .before .pre .0), (all-near _ _ _ _ (c .before .before .before .before .before .before .before .before .pre .0) _ _, ((c .before .before .before .before .before .before .before .before .pre .1 .0), ((c .before .before .before .before .before .before .before .before .pre .1 .1), (c .before .before .before .ends .ensures, (c .before .before .before .before .from-set .ensures, (sym (leg-is _ _ _ _ (c .before .before .before .before .before .before .before .before .pre .0) _ _ _ _ (c .before .before .before .before .before .before .before .before .pre .1 .0) (c .before .before .before .before .before .before .before .before .pre .1 .1) Adaptive _ (c .before .before .before .before .before .before .leg-clear .ensures)) ∙ c .before .before .before .before .before .if1 .left, leg-is _ _ _ _ (c .before .before .before .before .before .before .before .before .pre .0) _ _ _ _ (c .before .before .before .before .before .before .before .before .pre .1 .0) (c .before .before .before .before .before .before .before .before .pre .1 .1) Deterministic _ (c .before .before .leg-clear2 .ensures))))))))
 
 -- src/pair.rt:81:8
 is-given-requires : tie.Need-is-given-requires

@@ -6,7 +6,7 @@ use Rattle.sets.proofs.clear.less_part.Tie as tie
 use Rattle.sets.proofs.clear.less_part.Reads as reads
 use Rattle.sets.proofs.clear.less_part.Lts as lts
 use Rattle.rows.proofs.product.less.Reads as less-reads
-use Rattle.sets.proofs.clear.mask_in.Reads as mask-in-reads
+use Rattle.sets.proofs.part.mask_in.Reads as mask-in-reads
 
 -- src/clear.rt:22:9
 mask-in-requires : tie.Need-mask-in-requires

@@ -1,9 +1,9 @@
 use Rattle.sets.specs.Part.{maskIn}
 use borrow.Author.Needs.{needs}
-use Rattle.sets.proofs.clear.mask_in.Statement.{statement}
-use Rattle.sets.proofs.clear.mask_in.Tie as tie
-use Rattle.sets.proofs.clear.mask_in.Reads as reads
-use Rattle.sets.proofs.clear.mask_in.Lts as lts
+use Rattle.sets.proofs.part.mask_in.Statement.{statement}
+use Rattle.sets.proofs.part.mask_in.Tie as tie
+use Rattle.sets.proofs.part.mask_in.Reads as reads
+use Rattle.sets.proofs.part.mask_in.Lts as lts
 use Rattle.sets.proofs.part.column.Reads as column-reads
 
 -- src/clear.rt:15:13

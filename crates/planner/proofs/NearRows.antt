@@ -1,0 +1,117 @@
+-- The losses that can lie on the shortest ways to the destinations of a row.
+use Prim.Native.Nat.{ℕ, _+_, _*_, _/_, _%_, _≤_, _<_, min}
+use native.Mathlib.Omega.{arith}
+use mathlib.Core.Path.{_≡_, refl, sym, ap, _∙_}
+use mathlib.Core.Bool.{Bool, true, false, cond, _&&_}
+use mathlib.Core.List.{List}
+use lib.ListN.{length, getD, replicate}
+use Rattle.theory.proofs.Bools.{and-true}
+use Rattle.theory.proofs.Cases.{by-le}
+use Rattle.sheet.specs.Bytes.{listFrom}
+use Rattle.sheet.proofs.Records.{from-at}
+use Rattle.shape.specs.declared.shape.Shape.{Shape}
+use Rattle.shape.specs.declared.shape.Coords.{Coords}
+use Rattle.shape.specs.Shape.{shapeError, extentOf, wrappedIn, coordOf}
+use Rattle.machine.specs.declared.leg.Mode.{Mode}
+use Rattle.machine.specs.declared.leg.Mode.the-variants.{Adaptive}
+use Rattle.machine.specs.Number.{nodeCount, coordsOf, Inside}
+use Rattle.machine.specs.Hop.{distance}
+use Rattle.machine.proofs.Numbers.{inside}
+use Rattle.plan.specs.Layout.{shapeOf}
+use Rattle.plan.specs.Checks.{large, planError}
+use Rattle.rows.specs.Bits.{bit}
+use Rattle.rows.specs.Rows.{inProduct}
+use Rattle.masks.specs.declared.span.Box.{Box}
+use Rattle.masks.specs.Span.{boxOf}
+use Rattle.masks.specs.Masks.{maskOf, dimAt, endAt, endsAt, Ended}
+use Rattle.sets.specs.Sift.{Sifted}
+use Rattle.sets.proofs.Sets.{some-bit}
+use Rattle.sets.proofs.Sifting.{sifted-some}
+use Rattle.planner.specs.Known.{OfPlan, IsAt, NearLosses, NearRow}
+use Rattle.planner.proofs.Knowing.{shape-ok}
+use Rattle.planner.proofs.Destination.{is-box, small-at}
+
+-- All losses stand for all.
+pub all-near : (p : List ℕ) (s : Shape) (words : List ℕ) (count : ℕ) → OfPlan p s words count → (S D : ℕ) → NearLosses p S D words count words count
+all-near p s words count k S D = record { few = k .losses .few; same = λ v l w. refl }
+
+-- The masks of two ends in one row are the same in Y and Z.
+row-masks : (m : Mode) (from : Bool) (s : Shape) (t u : Coords) → t .y ≡ u .y → t .z ≡ u .z → (i : ℕ) → 96 ≤ i → i < 288 → endsAt m from s t i ≡ endsAt m from s u i
+unfolding endsAt endAt
+row-masks m from s t u y z i l h =
+    by-le 192 i
+    (λ g. let d : i / 96 ≡ 2 = omega arith in rw (d, z))
+    (λ g. let d : i / 96 ≡ 1 = omega arith in rw (d, y))
+
+in-parts : (bx by bz : ℕ) (c : Coords) → inProduct bx by bz c ≡ true → (bit by (c .y) ≡ true) × (bit bz (c .z) ≡ true)
+unfolding inProduct
+in-parts bx by bz c h = and-true (bit by (c .y)) (bit bz (c .z)) (and-true (bit bx (c .x)) _ h .1)
+
+box-row : (s : Shape) (a t u : Coords) → t .y ≡ u .y → t .z ≡ u .z → (boxOf s a t .y ≡ boxOf s a u .y) × (boxOf s a t .z ≡ boxOf s a u .z)
+unfolding boxOf
+box-row s a t u y z = (rw y, rw z)
+
+module _ (p : List ℕ) (s : Shape) (words : List ℕ) (count : ℕ) (k : OfPlan p s words count) (S : ℕ) (a : Coords) (from : IsAt p S a) where
+  ok : shapeError (shapeOf p) ≡ 0
+  ok = shape-ok p (k .plan)
+
+  -- The losses sifted for the row of t.
+  module _ (D : ℕ) (t : Coords) (to : IsAt p D t) (masks : List ℕ) (full : Ended Adaptive false s t masks) (b : Box) (eb : b ≡ boxOf s a t) (old kept : List ℕ) (m : ℕ) (long : length old ≡ 256)
+      (sifted : Sifted (b .y) (b .z) masks words (min count 256) old kept m) where
+    row-near : (E : ℕ) → E < nodeCount (shapeOf p) → coordsOf (shapeOf p) E .y ≡ t .y → coordsOf (shapeOf p) E .z ≡ t .z → NearLosses p S E words count kept m
+    row-near E l y z = record {
+      few = omega (arith, sifted .few);
+      same = λ v h w.
+          let c = coordsOf (shapeOf p) v in
+          let ic = inside (shapeOf p) ok v h in
+          let parts = in-parts _ _ _ c (is-box p s S E a e (k .plan) (k .shape) from here (boxOf s a e) refl v h .1 w) in
+          let same = box-row s a e t y z in
+          let iy : bit (b .y) (c .y) ≡ true = ap (λ (q : Box). bit (q .y) (c .y)) eb ∙ ap (λ (q : ℕ). bit q (c .y)) (sym (same .0)) ∙ parts .0 in
+          let iz : bit (b .z) (c .z) ≡ true = ap (λ (q : Box). bit (q .z) (c .z)) eb ∙ ap (λ (q : ℕ). bit q (c .z)) (sym (same .1)) ∙ parts .1 in
+          let few : min count 256 ≡ count = omega (arith, k .losses .few) in
+          sym (some-bit Adaptive false (shapeOf p) ok e ie others ended c ic kept m)
+          ∙ sifted-some (b .y) (b .z) masks others agree c iy iz words old kept (min count 256) m sifted long
+          ∙ some-bit Adaptive false (shapeOf p) ok e ie others ended c ic words (min count 256)
+          ∙ rw few;
+    }
+      where
+        e : Coords
+        e = coordsOf (shapeOf p) E
+
+        ie : Inside (shapeOf p) e
+        ie = inside (shapeOf p) ok E l
+
+        here : IsAt p E e
+        here = record { node = l; at = refl }
+
+        others : List ℕ
+        others = listFrom (endsAt Adaptive false (shapeOf p) e) 0 288
+
+        ended : Ended Adaptive false (shapeOf p) e others
+        ended i h = from-at (endsAt Adaptive false (shapeOf p) e) 288 0 i 0 h ∙ ap (endsAt Adaptive false (shapeOf p) e) (omega arith)
+
+        agree : (i : ℕ) → 96 ≤ i → i < 288 → getD others i 0 ≡ getD masks i 0
+        agree i g h = ended i h ∙ row-masks Adaptive false (shapeOf p) e t y z i g h ∙ sym (full i h ∙ ap (λ (q : Shape). endsAt Adaptive false q t i) (k .shape))
+
+    pub sifted-row : (work : List ℕ) → NearRow p work S words count kept m (t .y + 16 * t .z)
+    sifted-row work = record {
+      long = sifted .long ∙ long;
+      each = λ none E l e.
+          let at = small-at p D t (k .plan) to in
+          let there = small-at p E _ (k .plan) (record { node = l; at = refl }) in
+          row-near E l (omega (arith, e, at .1, there .1)) (omega (arith, e, at .1, there .1));
+    }
+
+module _ (p work : List ℕ) (S : ℕ) (words : List ℕ) (count : ℕ) (near : List ℕ) (n row : ℕ) (g : NearRow p work S words count near n row) where
+  -- Not needed.
+  pub filled-row : (length work ≡ 0 → ⊥) → (other : ℕ) → NearRow p work S words count near n other
+  filled-row ne other = record { long = g .long; each = λ z. absurd (ne z) }
+
+  pub same-row : (other : ℕ) → other ≡ row → NearRow p work S words count near n other
+  same-row other e = rw e g
+
+  pub near-row : (D : ℕ) (t : Coords) → IsAt p D t → t .y + 16 * t .z ≡ row → length work ≡ 0 → NearLosses p S D words count near n
+  near-row D t to e z = g .each z D (to .node) (ap (λ (c : Coords). c .y + 16 * c .z) (sym (to .at)) ∙ e)
+
+pub no-row : (p work : List ℕ) (S : ℕ) (words : List ℕ) (count n : ℕ) → planError large p ≡ 0 → NearRow p work S words count (replicate 256 0) n 256
+no-row p work S words count n h = record { long = refl; each = λ z D l e. let there = small-at p D _ h (record { node = l; at = refl }) in absurd (omega (arith, e, there .1, there .2)) }
