@@ -1,8 +1,8 @@
 -- The losses that can lie on the shortest ways to the destinations of a row.
-use Prim.Native.Nat.{ℕ, _+_, _*_, _/_, _%_, _≤_, _<_, min}
+use Prim.Native.Nat.{ℕ, _+_, _*_, _/_, _≤_, _<_, min}
 use native.Mathlib.Omega.{arith}
 use mathlib.Core.Path.{_≡_, refl, sym, ap, _∙_}
-use mathlib.Core.Bool.{Bool, true, false, cond, _&&_}
+use mathlib.Core.Bool.{Bool, true, false}
 use mathlib.Core.List.{List}
 use lib.ListN.{length, getD, replicate}
 use Rattle.theory.proofs.Bools.{and-true}
@@ -11,11 +11,10 @@ use Rattle.sheet.specs.Bytes.{listFrom}
 use Rattle.sheet.proofs.Records.{from-at}
 use Rattle.shape.specs.declared.shape.Shape.{Shape}
 use Rattle.shape.specs.declared.shape.Coords.{Coords}
-use Rattle.shape.specs.Shape.{shapeError, extentOf, wrappedIn, coordOf}
+use Rattle.shape.specs.Shape.{shapeError}
 use Rattle.machine.specs.declared.leg.Mode.{Mode}
 use Rattle.machine.specs.declared.leg.Mode.the-variants.{Adaptive}
 use Rattle.machine.specs.Number.{nodeCount, coordsOf, Inside}
-use Rattle.machine.specs.Hop.{distance}
 use Rattle.machine.proofs.Numbers.{inside}
 use Rattle.plan.specs.Layout.{shapeOf}
 use Rattle.plan.specs.Checks.{large, planError}
@@ -23,7 +22,7 @@ use Rattle.rows.specs.Bits.{bit}
 use Rattle.rows.specs.Rows.{inProduct}
 use Rattle.masks.specs.declared.span.Box.{Box}
 use Rattle.masks.specs.Span.{boxOf}
-use Rattle.masks.specs.Masks.{maskOf, dimAt, endAt, endsAt, Ended}
+use Rattle.masks.specs.Masks.{endAt, endsAt, Ended}
 use Rattle.sets.specs.Sift.{Sifted}
 use Rattle.sets.proofs.Sets.{some-bit}
 use Rattle.sets.proofs.Sifting.{sifted-some}

@@ -3,7 +3,6 @@ use crate::part::clipped;
 use crate::part::mask_in;
 use rows::product::less;
 use rows::product::product;
-ghost use mathlib.Core.Path.{_≡_};
 ghost use mathlib.Core.Bool.{_&&_};
 ghost use Rattle.rows.specs.Product.{nodeAt, Less, Are, product};
 ghost use Rattle.sets.specs.Part.{partIn, deadIn, lossIn};
