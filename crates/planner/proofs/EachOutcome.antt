@@ -28,7 +28,7 @@ use Rattle.choice.specs.Pair.{pair}
 use Rattle.rows.specs.Rows.{inRows}
 use Rattle.planner.specs.declared.outside.At.{At}
 use Rattle.planner.specs.Outside.{placeOf, Stands, Following}
-use Rattle.planner.specs.KeyNumber.{pickOutcome}
+use Rattle.choice_number.specs.KeyNumber.{pickOutcome}
 use Rattle.planner.specs.Known.{IsAt, Ready}
 use Rattle.planner.specs.Sheet.{sourceError}
 use Rattle.planner.specs.Outcomes.{noOutcome, outcomeAt}

@@ -25,10 +25,10 @@ use Rattle.rows.specs.Rows.{inSet}
 use Rattle.search.specs.FirstVia.{hasRows}
 use Rattle.search.specs.Number.{unclear}
 use Rattle.search.specs.BestVia.{within, askable, numberIn, NumberOf, LeastOf}
-use Rattle.planner.specs.KeyNumber.{decoded}
-use Rattle.planner.specs.ViaNumber.{viaNumberBy, viaNumberIn}
+use Rattle.choice_number.specs.KeyNumber.{decoded}
+use Rattle.choice_number.specs.ViaNumber.{viaNumberBy, viaNumberIn}
 use Rattle.planner.specs.Known.{isClear, IsAt, routeTold, Faring}
-use Rattle.planner.proofs.General.{general-planned}
+use Rattle.choice_number.proofs.General.{general-planned}
 use Rattle.planner.proofs.Knowing.{shape-ok}
 
 inside-within : (s : Shape) (c : Coords) → Inside s c → within s c ≡ true

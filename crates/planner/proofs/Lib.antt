@@ -1,7 +1,3 @@
-pub mod Order
-pub mod Decoded
-pub mod ViaNumbers
-pub mod General
 pub mod Standing
 pub mod NextOutside
 pub mod Knowing

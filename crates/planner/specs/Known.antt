@@ -26,7 +26,7 @@ use Rattle.rows.specs.Rows.{inSet, inProduct}
 use Rattle.losses.specs.Loss.{onLeg}
 use Rattle.losses.specs.OfPlan.{AreLosses}
 use Rattle.masks.specs.Masks.{Masked}
-use Rattle.planner.specs.KeyNumber.{pickOutcome}
+use Rattle.choice_number.specs.KeyNumber.{pickOutcome}
 
 -- The leg from u to v in mode m is clear.
 abbrev pub isClear : List ℕ → Mode → ℕ → ℕ → Bool

@@ -11,7 +11,7 @@ use Rattle.packet.specs.declared.route.Route.{Route}
 use Rattle.choice.specs.declared.outcome.Outcome.{Outcome}
 use Rattle.choice.specs.Outcome.{told}
 use Rattle.choice.specs.Pair.{pair}
-use Rattle.planner.specs.KeyNumber.{pickOutcome}
+use Rattle.choice_number.specs.KeyNumber.{pickOutcome}
 use Rattle.planner.specs.Sheet.{sourceError}
 
 -- What an array of outcomes holds of no destination.

@@ -1,6 +1,6 @@
 // The last step of the search: the least number of all vias, where neither direct leg is clear.
-use crate::key_number::decode;
 use choice::Outcome;
+use choice_number::decode;
 use search::best::best_via;
 use shape::Coords;
 use shape::Shape;

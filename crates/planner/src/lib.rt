@@ -4,7 +4,6 @@ mod boards;
 mod dest;
 mod far;
 mod fill;
-mod key_number;
 mod listed;
 mod near;
 pub mod outcomes;

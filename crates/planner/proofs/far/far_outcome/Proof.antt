@@ -4,7 +4,6 @@ use Rattle.planner.proofs.far.far_outcome.Statement.{statement}
 use Rattle.planner.proofs.far.far_outcome.Tie as tie
 use Rattle.planner.proofs.far.far_outcome.Reads as reads
 use Rattle.planner.proofs.far.far_outcome.Lts as lts
-use Rattle.planner.proofs.key_number.decode.Reads as decode-reads
 use Rattle.search.proofs.best.best_via.Reads as best-via-reads
 
 -- src/far.rt:26:12

@@ -15,7 +15,7 @@ use Rattle.choice.specs.Choice.{Choice, viasOf, det, detsOf, lengthFrom, before
 use Rattle.choice.specs.OneVia.{OneVia, viaOf, firstDet, oneViaKey}
 use Rattle.choice.proofs.OneVia.{same-order}
 use Rattle.search.specs.Number.{lengthPlace, detsPlace, viasPlace, nodePlace}
-use Rattle.planner.specs.KeyNumber.{digits, keyNumber}
+use Rattle.choice_number.specs.KeyNumber.{digits, keyNumber}
 
 radix : (x y r q R : ℕ) → r < R → q < R → x < y → x * R + r < y * R + q
 radix x y r q R hr hq h = omega (arith, mul-le-mul-right R (next x y h), add-mul x 1 R)

@@ -33,11 +33,11 @@ use Rattle.choice.proofs.Further.{alone-has, followed-has, has-followed, better
 use Rattle.choice.proofs.AtTorus.{route-first, no-via-first}
 use Rattle.choice.proofs.Search.{adaptive-clear}
 use Rattle.search.specs.Number.{unclear}
-use Rattle.planner.specs.KeyNumber.{keyNumber, decoded}
-use Rattle.planner.specs.ViaNumber.{viaNumberIn}
-use Rattle.planner.proofs.Order.{low-places, before-number}
-use Rattle.planner.proofs.Decoded.{decoded-none, decoded-number}
-use Rattle.planner.proofs.ViaNumbers.{number-both, number-first, number-second}
+use Rattle.choice_number.specs.KeyNumber.{keyNumber, decoded}
+use Rattle.choice_number.specs.ViaNumber.{viaNumberIn}
+use Rattle.choice_number.proofs.Order.{low-places, before-number}
+use Rattle.choice_number.proofs.Decoded.{decoded-none, decoded-number}
+use Rattle.choice_number.proofs.ViaNumbers.{number-both, number-first, number-second}
 
 node-small : (s : Shape) → shapeError s ≡ 0 → (v : ℕ) → v < nodeCount s → v < 4096
 unfolding nodeCount

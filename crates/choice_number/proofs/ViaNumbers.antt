@@ -14,8 +14,8 @@ use Rattle.choice.specs.OneVia.{viaOf, firstDet}
 use Rattle.choice.specs.Further.{better}
 use Rattle.choice.proofs.Further.{better-is}
 use Rattle.search.specs.Number.{unclear, detOf, viaNumber}
-use Rattle.planner.specs.KeyNumber.{digits, keyNumber}
-use Rattle.planner.specs.ViaNumber.{viaNumberBy}
+use Rattle.choice_number.specs.KeyNumber.{digits, keyNumber}
+use Rattle.choice_number.specs.ViaNumber.{viaNumberBy}
 
 -- Two bits say of a leg in which mode it is better taken.
 abbrev Tells : Bool → Bool → Option Leg → Type 0

@@ -1,11 +1,11 @@
 use Rattle.search.specs.Number.{detsPlace, viasPlace, unclear}
-use Rattle.planner.specs.KeyNumber.{decoded}
+use Rattle.choice_number.specs.KeyNumber.{decoded}
 use Prim.Native.Nat.{_/_, _%_}
 use native.Mathlib.Omega.{arith}
 use borrow.Author.Tests.{le-leb, lt-leb, eq-eqb, ne-eqb}
 use borrow.Author.Needs.{needs}
-use Rattle.planner.proofs.key_number.decode.Statement.{statement}
-use Rattle.planner.proofs.key_number.decode.Tie as tie
+use Rattle.choice_number.proofs.read.decode.Statement.{statement}
+use Rattle.choice_number.proofs.read.decode.Tie as tie
 
 returns : tie.Need-returns
 unfolding decoded

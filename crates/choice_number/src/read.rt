@@ -4,7 +4,7 @@ use machine::leg::Mode;
 use numbers::NO_CLEAR_CHOICE;
 use packet::Route;
 ghost use mathlib.Core.Path.{_≡_};
-ghost use Rattle.planner.specs.KeyNumber.{modeOf, decoded};
+ghost use Rattle.choice_number.specs.KeyNumber.{modeOf, decoded};
 
 // Place values of a choice's number, after the order: of its length,
 const LENGTH: u32 = 65536;

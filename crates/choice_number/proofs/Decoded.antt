@@ -16,8 +16,8 @@ use Rattle.choice.specs.OneVia.{OneVia, viaOf, firstDet}
 use Rattle.choice.specs.Answer.{Given, Refused}
 use Rattle.choice.specs.Outcome.{told, toldAs}
 use Rattle.search.specs.Number.{lengthPlace, detsPlace, viasPlace, nodePlace, unclear}
-use Rattle.planner.specs.KeyNumber.{digits, keyNumber, modeOf, decoded}
-use Rattle.planner.proofs.Order.{Low, low-places}
+use Rattle.choice_number.specs.KeyNumber.{digits, keyNumber, modeOf, decoded}
+use Rattle.choice_number.proofs.Order.{Low, low-places}
 
 record Places (k len dets vias node first : ℕ) : Type 0 where
   len-is : k / lengthPlace ≡ len

@@ -1,0 +1,4 @@
+pub mod Order
+pub mod Decoded
+pub mod ViaNumbers
+pub mod General

@@ -1,0 +1,3 @@
+-- The code's own steps.
+pub mod KeyNumber
+pub mod ViaNumber
