@@ -43,8 +43,8 @@ use Rattle.masks.specs.Span.{boxOf}
 use Rattle.masks.specs.Masks.{gatherAt, Ended, Masked}
 use Rattle.masks.proofs.Spans.{box-inside}
 use Rattle.masks.proofs.Tables.{gathered}
-use Rattle.planner.specs.Known.{isClear, OfPlan, IsAt, FromSet, ToBetween, BothTo, IsBox, NearLosses, routeTold, isGiven, Near, Nearing, Faring, Ready, BySets, ByLosses}
-use Rattle.planner.proofs.Knowing.{shape-ok, dead-byte, to-within}
+use Rattle.planner.specs.Known.{isClear, OfPlan, IsAt, FromSet, ToBetween, OnlyBetween, BothTo, IsBox, NearLosses, routeTold, isGiven, Near, Nearing, Faring, Ready, BySets, ByLosses}
+use Rattle.planner.proofs.Knowing.{shape-ok, dead-byte, to-within, within-only}
 use Rattle.planner.proofs.FirstSteps.{nodes-few}
 use Rattle.planner.proofs.Planning.{Source, pair-dead, pair-alive}
 
@@ -94,6 +94,13 @@ has-is p m rows S D t g to b e = e ∙ ap (inRows rows 0) (to .at) ∙ g D (to .
 pub within-box : (p : List ℕ) (s : Shape) (words : List ℕ) (count : ℕ) (near : List ℕ) (n S D : ℕ) (t : Coords) (bx by bz : ℕ) (masks rows : List ℕ) →
     OfPlan p s words count → NearLosses p S D words count near n → IsAt p D t → IsBox p S D bx by bz → Ended Adaptive false s t masks → Are (clearIn bx by bz masks near n) rows → ToBetween p Adaptive S D rows 0
 within-box p s words count near n S D t bx by bz masks rows k g to b e r v l w = to-within p s words count k D t to Adaptive masks rows bx by bz near n (g .few) e r v l (b v l .1 w) (g .same v l w)
+
+pub box-only : (p : List ℕ) (s : Shape) (words : List ℕ) (count : ℕ) (S D : ℕ) (t : Coords) (bx by bz : ℕ) (m : Mode) (masks rows : List ℕ) →
+    OfPlan p s words count → IsAt p D t → IsBox p S D bx by bz → Ended m false s t masks → Are (clearIn bx by bz masks words count) rows → (ToBetween p m S D rows 0) × (OnlyBetween p S D rows 0)
+box-only p s words count S D t bx by bz m masks rows k to b e r = (
+  λ v l w. to-within p s words count k D t to m masks rows bx by bz words count (k .losses .few) e r v l (b v l .1 w) refl,
+  λ v l i. b v l .0 (within-only p s words count k D t to m masks rows bx by bz words count (k .losses .few) e r v l i),
+)
 
 pub gathered-at : (p : List ℕ) (s : Shape) (D : ℕ) (t : Coords) (table masks : List ℕ) → planError large p ≡ 0 → IsAt p D t → (m : Mode) (from : Bool) → Masked m from s table → ((i : ℕ) → i < 288 → getD masks i 0 ≡ gatherAt table t i) → Ended m from s t masks
 gathered-at p s D t table masks h to m from full g = let k = small-at p D t h to in gathered m from s table masks t full (k .0) (k .1) (k .2) g

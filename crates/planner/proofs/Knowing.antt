@@ -9,6 +9,7 @@ use lib.ListN.{length, getD, set, length-set}
 use lib.Seq.{getD-set-same, getD-set-other}
 use lib.Dec.{eqb}
 use borrow.Author.Tests.{eq-eqb, eqb-true, eqb-false}
+use Rattle.theory.proofs.Bools.{and-true}
 use Rattle.theory.proofs.Cases.{test, by-le}
 use Rattle.shape.specs.declared.shape.Shape.{Shape}
 use Rattle.shape.specs.declared.shape.Coords.{Coords}
@@ -35,7 +36,7 @@ use Rattle.losses.proofs.AtPlan.{clear-is}
 use Rattle.masks.specs.Masks.{Ended}
 use Rattle.sets.specs.Clear.{clearIn}
 use Rattle.sets.proofs.Sets.{clear-set, clear-in}
-use Rattle.planner.specs.Known.{isClear, OfPlan, IsAt, FromSet, ToSet, ToBetween, BothTo}
+use Rattle.planner.specs.Known.{isClear, OfPlan, IsAt, FromSet, ToSet, ToBetween, OnlyBetween, BothTo, BothBetween}
 use Rattle.planner.specs.Rows.{Elsewhere, Put}
 
 pub shape-ok : (p : List ℕ) → planError large p ≡ 0 → shapeError (shapeOf p) ≡ 0
@@ -90,6 +91,12 @@ module _ (p : List ℕ) (s : Shape) (words : List ℕ) (count : ℕ) (k : OfPlan
       ∙ ap not same
       ∙ sym (clear-is p (k .plan) words count (k .losses) v n l (a .node) m)
 
+  -- No node outside the product.
+  pub within-only : (bx by bz : ℕ) (near : List ℕ) (some : ℕ) → some ≤ 256 → Ended m false s c ends → Are (clearIn bx by bz ends near some) rows → (v : ℕ) → v < nodeCount (shapeOf p) →
+      inSet (shapeOf p) rows 0 v ≡ true → inProduct bx by bz (coordsOf (shapeOf p) v) ≡ true
+  within-only bx by bz near some most e r v l i =
+      and-true (inProduct bx by bz (coordsOf (shapeOf p) v)) _ (sym (clear-set m false (shapeOf p) ok c here bx by bz ends near rows some most (rw (k .shape) at e) r v l) ∙ i) .0
+
 -- ---- rows put into a run
 pub put-none : (at : ℕ) (rows old : List ℕ) → Put at rows 0 old old
 put-none at rows old = record { rest = record { long = refl; other = λ i h. refl }; put = λ i h. absurd (omega arith) }
@@ -138,4 +145,14 @@ both-to p h D at first second old mid new room f g a d = record {
   room = omega (arith, f .rest .long, g .rest .long);
   adaptive = λ v l. other-set (shapeOf p) (shape-ok p h) (at + 256) 256 at mid new (g .rest) (inl (omega arith)) v l ∙ put-set (shapeOf p) (shape-ok p h) at first old mid f v l ∙ a v l;
   deterministic = λ v l. put-set (shapeOf p) (shape-ok p h) (at + 256) second mid new g v l ∙ d v l;
+}
+
+pub both-between :
+    (p : List ℕ) → planError large p ≡ 0 → (S D at : ℕ) (first second old mid new : List ℕ) → at + 512 ≤ length old → Put at first 256 old mid → Put (at + 256) second 256 mid new →
+    ToBetween p Adaptive S D first 0 → ToBetween p Deterministic S D second 0 → OnlyBetween p S D second 0 → BothBetween p S D new at
+both-between p h S D at first second old mid new room f g a d o = record {
+  room = omega (arith, f .rest .long, g .rest .long);
+  adaptive = λ v l w. other-set (shapeOf p) (shape-ok p h) (at + 256) 256 at mid new (g .rest) (inl (omega arith)) v l ∙ put-set (shapeOf p) (shape-ok p h) at first old mid f v l ∙ a v l w;
+  deterministic = λ v l w. put-set (shapeOf p) (shape-ok p h) (at + 256) second mid new g v l ∙ d v l w;
+  only = λ v l i. o v l (sym (put-set (shapeOf p) (shape-ok p h) (at + 256) second mid new g v l) ∙ i);
 }

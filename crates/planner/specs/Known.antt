@@ -63,11 +63,23 @@ abbrev pub ToBetween : List ℕ → Mode → ℕ → ℕ → List ℕ → ℕ �
 ToBetween p m S D rows at =
     (v : ℕ) → v < nodeCount (shapeOf p) → distance (shapeOf p) S v + distance (shapeOf p) v D ≡ distance (shapeOf p) S D → inSet (shapeOf p) rows at v ≡ isClear p m v D
 
+-- A set that has such nodes alone.
+abbrev pub OnlyBetween : List ℕ → ℕ → ℕ → List ℕ → ℕ → Type 0
+OnlyBetween p S D rows at =
+    (v : ℕ) → v < nodeCount (shapeOf p) → inSet (shapeOf p) rows at v ≡ true → distance (shapeOf p) S v + distance (shapeOf p) v D ≡ distance (shapeOf p) S D
+
 -- Both sets to D, the adaptive one first.
 pub record BothTo (p : List ℕ) (D : ℕ) (rows : List ℕ) (at : ℕ) : Type 0 where
   pub room : at + 512 ≤ length rows
   pub adaptive : ToSet p Adaptive D rows at
   pub deterministic : ToSet p Deterministic D rows (at + 256)
+
+-- Both sets of the nodes on the shortest ways from S, the adaptive one first; no other node is in the deterministic one.
+pub record BothBetween (p : List ℕ) (S D : ℕ) (rows : List ℕ) (at : ℕ) : Type 0 where
+  pub room : at + 512 ≤ length rows
+  pub adaptive : ToBetween p Adaptive S D rows at
+  pub deterministic : ToBetween p Deterministic S D rows (at + 256)
+  pub only : OnlyBetween p S D rows (at + 256)
 
 -- A run with both sets to each node, 512 rows a node; or an empty run.
 pub record Filled (p work : List ℕ) : Type 0 where
@@ -134,6 +146,17 @@ pub record Faring (p : List ℕ) (s : Shape) (S D : ℕ) (a t : Coords) (fa fd t
   pub adaptive : FromSet p Adaptive S fa
   pub deterministic : FromSet p Deterministic S fd
   pub both : BothTo p D to at
+  pub blocked : isClear p Deterministic S D ≡ false
+
+-- All that the search over the vias on the shortest ways rests on.
+pub record Halfway (p : List ℕ) (s : Shape) (S D : ℕ) (a t : Coords) (fa fd to : List ℕ) (at : ℕ) : Type 0 where
+  pub plan : planError large p ≡ 0
+  pub shape : s ≡ shapeOf p
+  pub source : IsAt p S a
+  pub target : IsAt p D t
+  pub adaptive : FromSet p Adaptive S fa
+  pub deterministic : FromSet p Deterministic S fd
+  pub both : BothBetween p S D to at
   pub blocked : isClear p Deterministic S D ≡ false
 
 -- What depends on the plan alone: its shape, losses and dead nodes, the masks of all targets, and the sets to all nodes where the run has them.

@@ -1,4 +1,6 @@
 // The nodes on the shortest ways between two ends, and the losses that can lie there.
+use crate::sets_of::put_rows;
+use machine::leg::Mode;
 use masks::span::box_of;
 use masks::table::gather;
 use sets::clear::clear_in;
@@ -6,12 +8,12 @@ use sets::sift::sift;
 use shape::Coords;
 use shape::Shape;
 ghost use mathlib.Core.Path.{_≡_};
-ghost use Prim.Native.Nat.{_+_, _*_};
+ghost use Prim.Native.Nat.{_+_, _*_, _≤_};
 ghost use mathlib.Core.Bool.{false};
 ghost use lib.ListN.{length};
-ghost use Rattle.machine.specs.declared.leg.Mode.the-variants.{Adaptive};
+ghost use Rattle.machine.specs.declared.leg.Mode.the-variants.{Adaptive, Deterministic};
 ghost use Rattle.masks.specs.Masks.{Ended, Masked};
-ghost use Rattle.planner.specs.Known.{OfPlan, IsAt, IsBox, ToBetween, NearLosses, NearRow};
+ghost use Rattle.planner.specs.Known.{OfPlan, IsAt, IsBox, ToBetween, OnlyBetween, BothBetween, NearLosses, NearRow};
 
 // bx, by, bz: the places between. Those of these nodes with a clear adaptive leg to the destination, whose masks they are, by losses that stand for all.
 pub fn near_set(
@@ -38,6 +40,86 @@ pub fn near_set(
     ensures { λ r. ⌜ length r ≡ 256 ⌝ }
 {
     clear_in(bx, by, bz, masks, near, nears)
+}
+
+// bx, by, bz: the places between. Those of these nodes with a clear leg to the destination, whose masks they are, by all losses.
+fn between_set(
+    plan: &[u8],
+    mode: Mode,
+    shape: Shape,
+    words: &[u16; 256],
+    count: usize,
+    source: u16,
+    dest: u16,
+    t: Coords,
+    bx: u16,
+    by: u16,
+    bz: u16,
+    masks: &[u16; 288],
+) -> [u16; 256]
+    requires { ⌜ OfPlan (now plan) shape (now words) count ⌝ }
+    requires { ⌜ IsAt (now plan) dest t ⌝ }
+    requires { ⌜ IsBox (now plan) source dest bx by bz ⌝ }
+    requires { ⌜ Ended mode false shape t (now masks) ⌝ }
+    ensures { λ r. ⌜ ToBetween (now (plan .entry)) mode source dest r 0 ⌝ }
+    ensures { λ r. ⌜ OnlyBetween (now (plan .entry)) source dest r 0 ⌝ }
+{
+    clear_in(bx, by, bz, masks, words, count)
+}
+
+// Both sets of these nodes, at the front of a run.
+pub fn put_between(
+    plan: &[u8],
+    shape: Shape,
+    words: &[u16; 256],
+    count: usize,
+    source: u16,
+    dest: u16,
+    a: Coords,
+    t: Coords,
+    adaptive: &[u16; 288],
+    deterministic: &[u16; 288],
+    run: &mut [u16],
+)
+    requires { ⌜ OfPlan (now plan) shape (now words) count ⌝ }
+    requires { ⌜ IsAt (now plan) source a ⌝ }
+    requires { ⌜ IsAt (now plan) dest t ⌝ }
+    requires { ⌜ Ended Adaptive false shape t (now adaptive) ⌝ }
+    requires { ⌜ Ended Deterministic false shape t (now deterministic) ⌝ }
+    requires { ⌜ 512 ≤ length (now run) ⌝ }
+    ensures { λ _. ⌜ BothBetween (now (plan .entry)) source dest (now (run .exit)) 0 ⌝ }
+{
+    let b = box_of(shape, a, t);
+    let first = between_set(
+        plan,
+        Mode::Adaptive,
+        shape,
+        words,
+        count,
+        source,
+        dest,
+        t,
+        b.x,
+        b.y,
+        b.z,
+        adaptive,
+    );
+    let second = between_set(
+        plan,
+        Mode::Deterministic,
+        shape,
+        words,
+        count,
+        source,
+        dest,
+        t,
+        b.x,
+        b.y,
+        b.z,
+        deterministic,
+    );
+    put_rows(run, 0, &first);
+    put_rows(run, 256, &second);
 }
 
 pub fn row_at(t: Coords) -> u16

@@ -1,6 +1,8 @@
 // A destination to which the direct adaptive leg is not clear.
 use crate::between::near_set;
+use crate::between::put_between;
 use crate::far::far_outcome;
+use crate::far::middle_outcome;
 use crate::near::is_given;
 use crate::near::near_outcome;
 use crate::sets_of::put_both;
@@ -22,7 +24,7 @@ ghost use Rattle.choice.specs.Outcome.{told};
 ghost use Rattle.choice.specs.Pair.{pair};
 ghost use Rattle.rows.specs.Rows.{inRows};
 ghost use Rattle.masks.specs.Masks.{Ended};
-ghost use Rattle.planner.specs.Known.{isClear, OfPlan, IsAt, FromSet, NearLosses, BySets, ByLosses, Faring, Ready, Near, routeTold};
+ghost use Rattle.planner.specs.Known.{isClear, OfPlan, IsAt, FromSet, NearLosses, BySets, ByLosses, Faring, Halfway, Ready, Near, routeTold};
 
 // By the masks of the destination: the first steps. `near`: losses that stand for all there.
 pub fn near_by_masks(
@@ -100,8 +102,68 @@ fn far_by_run(
     far_outcome(plan, shape, source, dest, a, t, fa, fd, run, 0)
 }
 
+// The same with both sets of the nodes on the shortest ways, where most routes by a deterministic leg are.
+fn middle_by_run(
+    plan: &[u8],
+    shape: Shape,
+    source: u16,
+    dest: u16,
+    a: Coords,
+    t: Coords,
+    fa: &[u16; 256],
+    fd: &[u16; 256],
+    run: &[u16; 512],
+) -> Outcome
+    requires { ⌜ Halfway (now plan) shape source dest a t (now fa) (now fd) (now run) 0 ⌝ }
+    ensures { λ r. ⌜ Near (now (plan .entry)) source dest r ⌝ }
+{
+    middle_outcome(plan, shape, source, dest, a, t, fa, fd, run, 0)
+}
+
+// By the masks of the destination: the step before the last.
+fn middle_by_masks(
+    plan: &[u8],
+    shape: Shape,
+    words: &[u16; 256],
+    count: usize,
+    source: u16,
+    dest: u16,
+    a: Coords,
+    t: Coords,
+    adaptive: &[u16; 288],
+    deterministic: &[u16; 288],
+    fa: &[u16; 256],
+    fd: &[u16; 256],
+) -> Outcome
+    requires { ⌜ OfPlan (now plan) shape (now words) count ⌝ }
+    requires { ⌜ IsAt (now plan) source a ⌝ }
+    requires { ⌜ IsAt (now plan) dest t ⌝ }
+    requires { ⌜ Ended Adaptive false shape t (now adaptive) ⌝ }
+    requires { ⌜ Ended Deterministic false shape t (now deterministic) ⌝ }
+    requires { ⌜ FromSet (now plan) Adaptive source (now fa) ⌝ }
+    requires { ⌜ FromSet (now plan) Deterministic source (now fd) ⌝ }
+    requires { ⌜ isClear (now plan) Deterministic source dest ≡ false ⌝ }
+    ensures { λ r. ⌜ Near (now (plan .entry)) source dest r ⌝ }
+{
+    let mut run = [0u16; 512];
+    put_between(
+        plan,
+        shape,
+        words,
+        count,
+        source,
+        dest,
+        a,
+        t,
+        adaptive,
+        deterministic,
+        &mut run,
+    );
+    middle_by_run(plan, shape, source, dest, a, t, fa, fd, &run)
+}
+
 // By them: the last step.
-pub fn far_by_masks(
+fn last_by_masks(
     plan: &[u8],
     shape: Shape,
     words: &[u16; 256],
@@ -139,6 +201,64 @@ pub fn far_by_masks(
         0,
     );
     far_by_run(plan, shape, source, dest, a, t, fa, fd, &run)
+}
+
+// By them: the last two steps.
+pub fn far_by_masks(
+    plan: &[u8],
+    shape: Shape,
+    words: &[u16; 256],
+    count: usize,
+    source: u16,
+    dest: u16,
+    a: Coords,
+    t: Coords,
+    adaptive: &[u16; 288],
+    deterministic: &[u16; 288],
+    fa: &[u16; 256],
+    fd: &[u16; 256],
+) -> Outcome
+    requires { ⌜ OfPlan (now plan) shape (now words) count ⌝ }
+    requires { ⌜ IsAt (now plan) source a ⌝ }
+    requires { ⌜ IsAt (now plan) dest t ⌝ }
+    requires { ⌜ Ended Adaptive false shape t (now adaptive) ⌝ }
+    requires { ⌜ Ended Deterministic false shape t (now deterministic) ⌝ }
+    requires { ⌜ FromSet (now plan) Adaptive source (now fa) ⌝ }
+    requires { ⌜ FromSet (now plan) Deterministic source (now fd) ⌝ }
+    requires { ⌜ isClear (now plan) Deterministic source dest ≡ false ⌝ }
+    ensures { λ r. ⌜ r ≡ routeTold (now (plan .entry)) source dest ⌝ }
+{
+    let first = middle_by_masks(
+        plan,
+        shape,
+        words,
+        count,
+        source,
+        dest,
+        a,
+        t,
+        adaptive,
+        deterministic,
+        fa,
+        fd,
+    );
+    if is_given(first) {
+        return first;
+    }
+    last_by_masks(
+        plan,
+        shape,
+        words,
+        count,
+        source,
+        dest,
+        a,
+        t,
+        adaptive,
+        deterministic,
+        fa,
+        fd,
+    )
 }
 
 // By the sets to all nodes.
