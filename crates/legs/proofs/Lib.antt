@@ -6,3 +6,4 @@ pub mod Adaptive
 pub mod OneWalk
 pub mod Deterministic
 pub mod Clearing
+pub mod Modes

@@ -1,6 +1,7 @@
 pub mod SomeBelow
 pub mod Same
 pub mod ByKind
+pub mod Modes
 pub mod Parts
 pub mod Listing
 pub mod Sound

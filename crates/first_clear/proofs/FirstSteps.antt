@@ -1,0 +1,161 @@
+-- The first steps of the search give the route, or that the direct deterministic leg is not clear.
+use Prim.Native.Nat.{ℕ, _+_, _/_, _≤_, _<_}
+use native.Mathlib.Omega.{arith}
+use native.Mathlib.Nat.{le-trans, div-mul-le-self, le-div-iff-mul-le}
+use mathlib.Core.Path.{_≡_, refl, sym, ap, _∙_}
+use mathlib.Core.Bool.{Bool, true, false, _&&_, true≢false}
+use mathlib.Core.List.{List, [], _∷_}
+use mathlib.Core.Option.{some}
+use lib.ListN.{length}
+use lib.Dec.{ltb, leb, eqb}
+use borrow.Author.Tests.{eq-eqb, le-leb, lt-ltb, le-ltb}
+use Rattle.theory.specs.Machine.{sumBy}
+use Rattle.theory.proofs.Bools.{and-true}
+use Rattle.theory.proofs.Cases.{test, by-le}
+use Rattle.shape.specs.declared.shape.Shape.{Shape}
+use Rattle.shape.specs.declared.shape.Coords.{Coords}
+use Rattle.shape.specs.Shape.{shapeError}
+use Rattle.shape.specs.declared.shape.Dim.the-variants.{X, Y}
+use Rattle.shape.proofs.Shapes.{sound, count-most}
+use Rattle.machine.specs.declared.leg.Mode.the-variants.{Adaptive, Deterministic}
+use Rattle.machine.specs.Number.{nodeCount, coordsOf}
+use Rattle.machine.specs.Hop.{distance}
+use Rattle.machine.specs.Torus.{leg}
+use Rattle.plan.specs.Layout.{shapeOf}
+use Rattle.plan.specs.Checks.{large, planError}
+use Rattle.packet.specs.declared.route.Route.{Route}
+use Rattle.choice.specs.declared.outcome.Outcome.{Outcome}
+use Rattle.choice.specs.Answer.{Given}
+use Rattle.choice.specs.Outcome.{told, toldAs}
+use Rattle.choice.specs.Pair.{soundIn, routeIn, chosen}
+use Rattle.choice.proofs.Search.{via-first, deterministic-first}
+use Rattle.rows.specs.Bits.{bit}
+use Rattle.rows.specs.Rows.{inSet, inProduct}
+use Rattle.search.specs.FirstVia.{hasRows, inAll, isVia, FirstOf}
+use Rattle.first_clear.specs.Known.{isClear, FromSet, ToBetween, routeTold, isGiven, nearRoute, Near, OnWay, LowestVia, IsBox, LowPart, Apart}
+use Rattle.first_clear.proofs.Knowing.{shape-ok}
+
+pub nodes-few : (s : Shape) → shapeError s ≡ 0 → nodeCount s ≤ 4096
+unfolding nodeCount
+nodes-few s h = count-most s h
+
+div-rises : (a b k : ℕ) → 0 < k → a ≤ b → a / k ≤ b / k
+div-rises a b k h l = le-div-iff-mul-le h .1 (le-trans (div-mul-le-self a k) l)
+
+told-via : (s : Shape) (S D v len : ℕ) → distance s S v + distance s v D ≡ len → told s S (Given (leg v Adaptive ∷ leg D Adaptive ∷ [])) ≡ Outcome.Given (Route.Via v Adaptive Adaptive) len
+unfolding told toldAs sumBy
+told-via s S D v len e = ap (Outcome.Given (Route.Via v Adaptive Adaptive)) (omega arith)
+
+told-straight : (s : Shape) (S D len : ℕ) → distance s S D ≡ len → told s S (Given (leg D Deterministic ∷ [])) ≡ Outcome.Given (Route.Direct Deterministic) len
+unfolding told toldAs sumBy
+told-straight s S D len e = ap (Outcome.Given (Route.Direct Deterministic)) (omega arith)
+
+-- ---- by the lowest via
+module _ (p : List ℕ) (S D len : ℕ) (straight : Bool) (g : Apart p S D len straight) (via : ℕ) (low : LowestVia p S D via) where
+  ok : shapeError (shapeOf p) ≡ 0
+  ok = shape-ok p (g .plan)
+
+  by-via : via < 4096 → Outcome.Given (Route.Via via Adaptive Adaptive) len ≡ routeTold p S D
+  by-via m =
+      let f = low .found m in
+      let b = f .1 in
+      let route = via-first (shapeOf p) ok (soundIn p) S D (g .source) (g .target) (g .direct) via (f .0) (b .out) (b .back) (b .sum)
+      (λ u lu o k q. low .before u (omega (arith, f .0)) lu (record { out = o; back = k; sum = q })) in
+      sym (told-via (shapeOf p) S D via len (b .sum ∙ sym (g .distance))) ∙ sym (ap (λ r. told (shapeOf p) S (chosen r)) route)
+
+  directly : 4096 ≤ via → straight ≡ true → Outcome.Given (Route.Direct Deterministic) len ≡ routeTold p S D
+  directly m t =
+      let few = nodes-few (shapeOf p) ok in
+      let route = deterministic-first (shapeOf p) ok (soundIn p) S D (g .source) (g .target) (g .direct) (sym (g .one) ∙ t)
+      (λ v l o k q. low .before v l (omega arith) (record { out = o; back = k; sum = q })) in
+      sym (told-straight (shapeOf p) S D len (sym (g .distance))) ∙ sym (ap (λ r. told (shapeOf p) S (chosen r)) route)
+
+  near-is : Near p S D (nearRoute via straight len)
+  unfolding nearRoute
+  near-is =
+      by-le 4096 via
+      (λ m. test straight
+      (λ t. rw (le-ltb via 4096 m, t) (record { given = λ _. directly m t; none = λ e. absurd (true≢false e) }))
+      (λ t. rw (le-ltb via 4096 m, t) (record { given = λ e. absurd (true≢false (sym e)); none = λ _. sym (g .one) ∙ t })))
+      (λ m. rw (lt-ltb via 4096 m) (record { given = λ _. by-via m; none = λ e. absurd (true≢false e) }))
+
+  pub near-by : (r : Outcome) → r ≡ nearRoute via straight len → Near p S D r
+  near-by r e = rw e near-is
+
+-- A via below 4096 is a route.
+pub via-given : (via len : ℕ) (straight : Bool) (r : Outcome) → via < 4096 → r ≡ nearRoute via straight len → isGiven r ≡ true
+unfolding nearRoute
+via-given via len straight r m e = rw (e, lt-ltb via 4096 m)
+
+-- ---- the first node of a product that passes the test
+module _ (p : List ℕ) (s : Shape) (S D bx by bz : ℕ) (fa to : List ℕ) (at : ℕ) (es : s ≡ shapeOf p) (h : planError large p ≡ 0) (room : at + 256 ≤ length to)
+    (via : ℕ) (first : FirstOf (nodeCount s) (isVia s bx by bz fa to at) via) where
+  fine : shapeError (shapeOf p) ≡ 0
+  fine = shape-ok p h
+
+  -- A node passes exactly if it is in the product and in both sets.
+  record Passes (v : ℕ) : Type 0 where
+    box : inProduct bx by bz (coordsOf (shapeOf p) v) ≡ true
+    out : inSet (shapeOf p) fa 0 v ≡ true
+    back : inSet (shapeOf p) to at v ≡ true
+
+  passes-is : (v : ℕ) → isVia s bx by bz fa to at v ≡ true → Passes v
+  unfolding isVia inAll
+  passes-is v e =
+      let e1 = rw es at e in
+      let all = and-true (eqb (shapeError (shapeOf p)) 0 && hasRows (length to) at 256) _ e1 .1 in
+      let one = and-true (inProduct bx by bz (coordsOf (shapeOf p) v)) _ all in
+      let two = and-true (inSet (shapeOf p) fa 0 v) _ (one .1) in
+      record { box = one .0; out = two .0; back = two .1 }
+
+  is-passes : (v : ℕ) → Passes v → isVia s bx by bz fa to at v ≡ true
+  unfolding isVia inAll hasRows
+  is-passes v b = rw (es, eq-eqb (shapeError (shapeOf p)) 0 fine, le-leb (at + 256) (length to) room, b .box, b .out, b .back)
+
+  count-is : nodeCount s ≡ nodeCount (shapeOf p)
+  count-is = ap nodeCount es
+
+  -- The nodes that pass are on the shortest ways with two clear adaptive legs, and below the first one all such nodes pass.
+  lowest-of : ((v : ℕ) → v < nodeCount (shapeOf p) → Passes v → OnWay p S D v) → ((v : ℕ) → v < nodeCount (shapeOf p) → v < via → OnWay p S D v → Passes v) → LowestVia p S D via
+  lowest-of sound whole = record {
+    found = λ m. let f = first .found m in let l : via < nodeCount (shapeOf p) = omega (arith, f .0, count-is) in (l, sound via l (passes-is via (f .1)));
+    before = λ v l m w. true≢false (sym (is-passes v (whole v l m w)) ∙ first .before v (omega (arith, count-is)) m);
+  }
+
+  -- The product is the box.
+  pub box-lowest : IsBox p S D bx by bz → FromSet p Adaptive S fa → ToBetween p Adaptive S D to at → LowestVia p S D via
+  box-lowest box out back = lowest-of
+      (λ v l b. let sum = box v l .0 (b .box) in record { out = sym (out v l) ∙ b .out; back = sym (back v l sum) ∙ b .back; sum = sum })
+      (λ v l m w. record { box = box v l .1 (w .sum); out = out v l ∙ w .out; back = back v l (w .sum) ∙ w .back })
+
+  -- The product is a lower part of it, and there the set is that of the clear legs.
+  module _ (all : ℕ) (low : LowPart all bz) (found : via < 4096) where
+    more : (c : Coords) → inProduct bx by bz c ≡ true → inProduct bx by all c ≡ true
+    unfolding inProduct
+    more c e =
+        let x = and-true (bit bx (c .x)) _ e in
+        let y = and-true (bit by (c .y)) _ (x .1) in
+        rw (x .0, y .0, low .keeps (c .z) (y .1))
+
+    place : bit bz (coordsOf (shapeOf p) via .z) ≡ true
+    unfolding inProduct
+    place = let b = passes-is via (first .found found .1) .box in and-true (bit by (coordsOf (shapeOf p) via .y)) _ (and-true (bit bx (coordsOf (shapeOf p) via .x)) _ b .1) .1
+
+    rises : (v : ℕ) → v < via → coordsOf (shapeOf p) v .z ≤ coordsOf (shapeOf p) via .z
+    unfolding coordsOf
+    rises v m = div-rises (v / shapeOf p .x) (via / shapeOf p .x) (shapeOf p .y) (sound (shapeOf p) fine Y .low) (div-rises v via (shapeOf p .x) (sound (shapeOf p) fine X .low) (omega arith))
+
+    fewer : (v : ℕ) → v < via → inProduct bx by all (coordsOf (shapeOf p) v) ≡ true → inProduct bx by bz (coordsOf (shapeOf p) v) ≡ true
+    unfolding inProduct
+    fewer v m e =
+        let c = coordsOf (shapeOf p) v in
+        let x = and-true (bit bx (c .x)) _ e in
+        let y = and-true (bit by (c .y)) _ (x .1) in
+        rw (x .0, y .0, low .lower (coordsOf (shapeOf p) via .z) (c .z) place (rises v m) (y .1))
+
+    pub part-lowest :
+        IsBox p S D bx by all → FromSet p Adaptive S fa → ((v : ℕ) → v < nodeCount (shapeOf p) → inProduct bx by bz (coordsOf (shapeOf p) v) ≡ true → inSet (shapeOf p) to at v ≡ isClear p Adaptive v D) →
+        LowestVia p S D via
+    part-lowest box out back = lowest-of
+        (λ v l b. record { out = sym (out v l) ∙ b .out; back = sym (back v l (b .box)) ∙ b .back; sum = box v l .0 (more (coordsOf (shapeOf p) v) (b .box)) })
+        (λ v l m w. let here = fewer v m (box v l .1 (w .sum)) in record { box = here; out = out v l ∙ w .out; back = back v l here ∙ w .back })

@@ -1,0 +1,4 @@
+pub mod Knowing
+pub mod FirstSteps
+pub mod LastStep
+pub mod Destination

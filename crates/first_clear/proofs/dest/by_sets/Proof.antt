@@ -1,0 +1,44 @@
+use native.Mathlib.Omega.{arith}
+use Rattle.first_clear.proofs.Destination.{first-given, none-given, sets-nearing, sets-faring}
+use borrow.Author.Needs.{needs}
+use Rattle.first_clear.proofs.dest.by_sets.Statement.{statement}
+use Rattle.first_clear.proofs.dest.by_sets.Tie as tie
+use Rattle.first_clear.proofs.dest.by_sets.Reads as reads
+use Rattle.first_clear.proofs.dest.by_sets.Lts as lts
+
+mul-at : tie.Need-mul-at
+mul-at c = omega arith
+
+box-of-requires : tie.Need-box-of-requires
+box-of-requires c κs = tt
+
+distance-at-requires : tie.Need-distance-at-requires
+distance-at-requires c κs = tt
+
+near-outcome-requires : tie.Need-near-outcome-requires
+near-outcome-requires c κs = tt
+
+is-given-requires : tie.Need-is-given-requires
+is-given-requires c κs = tt
+
+returns : tie.Need-returns
+returns c = λ p S g. first-given p S _ _ _ (c .before .before .near-outcome .ensures p S _ (sets-nearing p _ _ S _ _ _ _ _ _ g _ _ (c .before .before .before .distance-at .ensures) (c .before .before .before .before .box-of .ensures))) (c .before .is-given .ensures) (c .if1 .taken)
+
+best-outcome-requires : tie.Need-best-outcome-requires
+best-outcome-requires c κs = tt
+
+returns-2 : tie.Need-returns-2
+returns-2 c = λ p S g. c .best-outcome .ensures .0 p S _ (sets-faring p _ _ S _ _ _ _ _ _ g (none-given p S _ _ _ (c .before .before .before .near-outcome .ensures p S _ (sets-nearing p _ _ S _ _ _ _ _ _ g _ _ (c .before .before .before .before .distance-at .ensures) (c .before .before .before .before .before .box-of .ensures))) (c .before .before .is-given .ensures) (c .before .if1 .left)))
+
+pub by-sets-spec : {M : Type 1} → statement M
+by-sets-spec =
+    tie.close
+    (tie.spec
+    mul-at
+    box-of-requires
+    distance-at-requires
+    near-outcome-requires
+    is-given-requires
+    returns
+    best-outcome-requires
+    returns-2)

@@ -1,0 +1,234 @@
+-- The code's own steps: what is known of an accepted plan p while a route from S to D is sought.
+use Prim.Native.Nat.{ℕ, _+_, _*_, _≤_, _<_}
+use mathlib.Core.Path.{_≡_}
+use mathlib.Core.Logic.{_↔_}
+use mathlib.Core.Bool.{Bool, true, false}
+use mathlib.Core.List.{List}
+use lib.ListN.{length}
+use lib.Dec.{ltb}
+use Rattle.numbers.specs.Numbers.{noClearChoice}
+use Rattle.theory.specs.Clear.{clear}
+use Rattle.shape.specs.declared.shape.Shape.{Shape}
+use Rattle.shape.specs.declared.shape.Coords.{Coords}
+use Rattle.machine.specs.declared.leg.Mode.{Mode}
+use Rattle.machine.specs.declared.leg.Mode.the-variants.{Adaptive, Deterministic}
+use Rattle.machine.specs.Number.{nodeCount, coordsOf}
+use Rattle.machine.specs.Hop.{rule, distance}
+use Rattle.machine.specs.Torus.{leg, torus}
+use Rattle.plan.specs.Layout.{shapeOf}
+use Rattle.plan.specs.Checks.{large, planError}
+use Rattle.packet.specs.declared.route.Route.{Route}
+use Rattle.choice.specs.declared.outcome.Outcome.{Outcome}
+use Rattle.choice.specs.Outcome.{told}
+use Rattle.choice.specs.Pair.{soundIn, routeIn, chosen}
+use Rattle.rows.specs.Bits.{bit}
+use Rattle.rows.specs.Rows.{inSet, inProduct}
+use Rattle.losses.specs.Loss.{onLeg}
+use Rattle.losses.specs.OfPlan.{AreLosses}
+use Rattle.masks.specs.Masks.{Ended, Masked}
+use Rattle.choice_number.specs.KeyNumber.{pickOutcome}
+
+-- The leg from u to v in mode m is clear.
+abbrev pub isClear : List ℕ → Mode → ℕ → ℕ → Bool
+isClear p m u v = clear (torus (shapeOf p)) (soundIn p) (leg v m) u
+
+-- The plan is accepted, s is its shape, and these are its losses.
+pub record OfPlan (p : List ℕ) (s : Shape) (words : List ℕ) (count : ℕ) : Type 0 where
+  pub plan : planError large p ≡ 0
+  pub shape : s ≡ shapeOf p
+  pub losses : AreLosses p words count
+
+-- n is a node, at these coordinates.
+pub record IsAt (p : List ℕ) (n : ℕ) (c : Coords) : Type 0 where
+  pub node : n < nodeCount (shapeOf p)
+  pub at : c ≡ coordsOf (shapeOf p) n
+
+-- The set of the nodes with a clear leg from S.
+abbrev pub FromSet : List ℕ → Mode → ℕ → List ℕ → Type 0
+FromSet p m S rows = (v : ℕ) → v < nodeCount (shapeOf p) → inSet (shapeOf p) rows 0 v ≡ isClear p m S v
+
+-- The set of the nodes with a clear leg to D, whose rows begin at place `at` of a run.
+abbrev pub ToSet : List ℕ → Mode → ℕ → List ℕ → ℕ → Type 0
+ToSet p m D rows at = (v : ℕ) → v < nodeCount (shapeOf p) → inSet (shapeOf p) rows at v ≡ isClear p m v D
+
+-- The same of the nodes on the shortest ways from S alone.
+abbrev pub ToBetween : List ℕ → Mode → ℕ → ℕ → List ℕ → ℕ → Type 0
+ToBetween p m S D rows at =
+    (v : ℕ) → v < nodeCount (shapeOf p) → distance (shapeOf p) S v + distance (shapeOf p) v D ≡ distance (shapeOf p) S D → inSet (shapeOf p) rows at v ≡ isClear p m v D
+
+-- A set that has such nodes alone.
+abbrev pub OnlyBetween : List ℕ → ℕ → ℕ → List ℕ → ℕ → Type 0
+OnlyBetween p S D rows at =
+    (v : ℕ) → v < nodeCount (shapeOf p) → inSet (shapeOf p) rows at v ≡ true → distance (shapeOf p) S v + distance (shapeOf p) v D ≡ distance (shapeOf p) S D
+
+-- Both sets to D, the adaptive one first.
+pub record BothTo (p : List ℕ) (D : ℕ) (rows : List ℕ) (at : ℕ) : Type 0 where
+  pub room : at + 512 ≤ length rows
+  pub adaptive : ToSet p Adaptive D rows at
+  pub deterministic : ToSet p Deterministic D rows (at + 256)
+
+-- Both sets of the nodes on the shortest ways from S, the adaptive one first; no other node is in the deterministic one.
+pub record BothBetween (p : List ℕ) (S D : ℕ) (rows : List ℕ) (at : ℕ) : Type 0 where
+  pub room : at + 512 ≤ length rows
+  pub adaptive : ToBetween p Adaptive S D rows at
+  pub deterministic : ToBetween p Deterministic S D rows (at + 256)
+  pub only : OnlyBetween p S D rows (at + 256)
+
+-- What both sets to n, at c, are made of.
+pub record ToEnd (p : List ℕ) (s : Shape) (words : List ℕ) (count n : ℕ) (c : Coords) (ea ed : List ℕ) : Type 0 where
+  pub of-plan : OfPlan p s words count
+  pub node : IsAt p n c
+  pub adaptive : Ended Adaptive false s c ea
+  pub deterministic : Ended Deterministic false s c ed
+
+abbrev pub routeTold : List ℕ → ℕ → ℕ → Outcome
+routeTold p S D = told (shapeOf p) S (chosen (routeIn p S D))
+
+abbrev pub isGiven : Outcome → Bool
+isGiven (Outcome.Given r len) = true
+isGiven (Outcome.Refused e) = false
+
+-- What the first steps of the search give: the route, or that the direct legs are not clear.
+pub record Near (p : List ℕ) (S D : ℕ) (r : Outcome) : Type 0 where
+  pub given : isGiven r ≡ true → r ≡ routeTold p S D
+  pub none : isGiven r ≡ false → isClear p Deterministic S D ≡ false
+
+-- v lies on a shortest way from S to D, and both legs by it are clear and adaptive.
+pub record OnWay (p : List ℕ) (S D v : ℕ) : Type 0 where
+  pub out : isClear p Adaptive S v ≡ true
+  pub back : isClear p Adaptive v D ≡ true
+  pub sum : distance (shapeOf p) S v + distance (shapeOf p) v D ≡ distance (shapeOf p) S D
+
+-- The lowest such node; 4096 where there is none.
+pub record LowestVia (p : List ℕ) (S D via : ℕ) : Type 0 where
+  pub found : via < 4096 → (via < nodeCount (shapeOf p)) × OnWay p S D via
+  pub before : (v : ℕ) → v < nodeCount (shapeOf p) → v < via → OnWay p S D v → ⊥
+
+-- The product of these masks has just the nodes on the shortest ways from S to D.
+abbrev pub IsBox : List ℕ → ℕ → ℕ → ℕ → ℕ → ℕ → Type 0
+IsBox p S D bx by bz =
+    (v : ℕ) → v < nodeCount (shapeOf p) → (inProduct bx by bz (coordsOf (shapeOf p) v) ≡ true) ↔ (distance (shapeOf p) S v + distance (shapeOf p) v D ≡ distance (shapeOf p) S D)
+
+-- r has the places of the mask below some place, and no others.
+pub record LowPart (mask r : ℕ) : Type 0 where
+  pub keeps : (i : ℕ) → bit r i ≡ true → bit mask i ≡ true
+  pub lower : (i j : ℕ) → bit r i ≡ true → j ≤ i → bit mask j ≡ true → bit r j ≡ true
+
+-- The first n of `near` stand for all losses on the legs to D from the nodes on the shortest ways from S.
+pub record NearLosses (p : List ℕ) (S D : ℕ) (words : List ℕ) (count : ℕ) (near : List ℕ) (n : ℕ) : Type 0 where
+  pub few : n ≤ 256
+  pub same :
+      (m : Mode) (v : ℕ) → v < nodeCount (shapeOf p) → distance (shapeOf p) S v + distance (shapeOf p) v D ≡ distance (shapeOf p) S D →
+      onLeg rule m (shapeOf p) near n (coordsOf (shapeOf p) v) (coordsOf (shapeOf p) D) ≡ onLeg rule m (shapeOf p) words count (coordsOf (shapeOf p) v) (coordsOf (shapeOf p) D)
+
+-- By a via with two adaptive legs, directly with a deterministic one, or neither.
+unfoldable pub nearRoute : ℕ → Bool → ℕ → Outcome
+nearRoute via straight len =
+    pickOutcome (ltb via 4096) (Outcome.Given (Route.Via via Adaptive Adaptive) len)
+    (pickOutcome straight (Outcome.Given (Route.Direct Deterministic) len) (Outcome.Refused noClearChoice))
+
+-- ---- what each step rests on
+-- A pair whose direct adaptive leg is not clear.
+pub record Apart (p : List ℕ) (S D len : ℕ) (straight : Bool) : Type 0 where
+  pub plan : planError large p ≡ 0
+  pub source : S < nodeCount (shapeOf p)
+  pub target : D < nodeCount (shapeOf p)
+  pub distance : len ≡ distance (shapeOf p) S D
+  pub direct : isClear p Adaptive S D ≡ false
+  pub one : straight ≡ isClear p Deterministic S D
+
+-- The first steps, by the set to D.
+pub record Nearing (p : List ℕ) (s : Shape) (S D len bx by bz : ℕ) (fa : List ℕ) (straight : Bool) (to : List ℕ) (at : ℕ) : Type 0 where
+  pub apart : Apart p S D len straight
+  pub shape : s ≡ shapeOf p
+  pub box : IsBox p S D bx by bz
+  pub out : FromSet p Adaptive S fa
+  pub back : ToBetween p Adaptive S D to at
+  pub room : at + 256 ≤ length to
+
+-- The lowest plane, by the masks of D.
+pub record InBox (p : List ℕ) (s : Shape) (S D bx by bz : ℕ) (ends near : List ℕ) (n : ℕ) (fa : List ℕ) : Type 0 where
+  pub words : List ℕ
+  pub count : ℕ
+  pub of-plan : OfPlan p s words count
+  pub standing : NearLosses p S D words count near n
+  pub at : Coords
+  pub target : IsAt p D at
+  pub box : IsBox p S D bx by bz
+  pub ended : Ended Adaptive false s at ends
+  pub out : FromSet p Adaptive S fa
+
+-- The first steps, by the masks of D.
+pub record NearMasks (p : List ℕ) (s : Shape) (S D : ℕ) (a t : Coords) (near : List ℕ) (n : ℕ) (ends fa : List ℕ) (straight : Bool) (run : List ℕ) : Type 0 where
+  pub words : List ℕ
+  pub count : ℕ
+  pub of-plan : OfPlan p s words count
+  pub standing : NearLosses p S D words count near n
+  pub source : IsAt p S a
+  pub target : IsAt p D t
+  pub ended : Ended Adaptive false s t ends
+  pub out : FromSet p Adaptive S fa
+  pub direct : isClear p Adaptive S D ≡ false
+  pub one : straight ≡ isClear p Deterministic S D
+  pub room : 512 ≤ length run
+
+-- What they leave: the set of the nodes on the shortest ways at the front of the run, where they give no route.
+pub record NearDone (p : List ℕ) (S D : ℕ) (r : Outcome) (run : List ℕ) : Type 0 where
+  pub near : Near p S D r
+  pub set : isGiven r ≡ false → (512 ≤ length run) × ToBetween p Adaptive S D run 0
+
+-- The search over all vias, by both sets to D.
+pub record Faring (p : List ℕ) (s : Shape) (S D : ℕ) (a t : Coords) (fa fd to : List ℕ) (at : ℕ) : Type 0 where
+  pub plan : planError large p ≡ 0
+  pub shape : s ≡ shapeOf p
+  pub source : IsAt p S a
+  pub target : IsAt p D t
+  pub adaptive : FromSet p Adaptive S fa
+  pub deterministic : FromSet p Deterministic S fd
+  pub both : BothTo p D to at
+  pub blocked : isClear p Deterministic S D ≡ false
+
+-- The search over the vias on the shortest ways.
+pub record Halfway (p : List ℕ) (s : Shape) (S D : ℕ) (a t : Coords) (fa fd to : List ℕ) (at : ℕ) : Type 0 where
+  pub plan : planError large p ≡ 0
+  pub shape : s ≡ shapeOf p
+  pub source : IsAt p S a
+  pub target : IsAt p D t
+  pub adaptive : FromSet p Adaptive S fa
+  pub deterministic : FromSet p Deterministic S fd
+  pub both : BothBetween p S D to at
+  pub blocked : isClear p Deterministic S D ≡ false
+
+-- Both, by the masks of D and the set that the first steps left.
+pub record FarMasks (p : List ℕ) (s : Shape) (words : List ℕ) (count S D : ℕ) (a t : Coords) (near : List ℕ) (n : ℕ) (ea ed fa fd run : List ℕ) : Type 0 where
+  pub ends : ToEnd p s words count D t ea ed
+  pub standing : NearLosses p S D words count near n
+  pub source : IsAt p S a
+  pub out : FromSet p Adaptive S fa
+  pub straight : FromSet p Deterministic S fd
+  pub set : (512 ≤ length run) × ToBetween p Adaptive S D run 0
+  pub blocked : isClear p Deterministic S D ≡ false
+
+-- One destination, by the sets to all nodes, or by the losses and the masks of all targets.
+pub record BySets (p : List ℕ) (s : Shape) (work : List ℕ) (S D : ℕ) (a t : Coords) (fa fd : List ℕ) (straight : Bool) : Type 0 where
+  pub plan : planError large p ≡ 0
+  pub shape : s ≡ shapeOf p
+  pub source : IsAt p S a
+  pub target : IsAt p D t
+  pub adaptive : FromSet p Adaptive S fa
+  pub deterministic : FromSet p Deterministic S fd
+  pub both : BothTo p D work (512 * D)
+  pub direct : isClear p Adaptive S D ≡ false
+  pub one : straight ≡ isClear p Deterministic S D
+
+pub record ByLosses (p : List ℕ) (s : Shape) (words : List ℕ) (count : ℕ) (near : List ℕ) (n : ℕ) (ta td : List ℕ) (S D : ℕ) (a t : Coords) (fa fd : List ℕ) (straight : Bool) : Type 0 where
+  pub of-plan : OfPlan p s words count
+  pub standing : NearLosses p S D words count near n
+  pub masks : Masked Adaptive false s ta
+  pub others : Masked Deterministic false s td
+  pub source : IsAt p S a
+  pub target : IsAt p D t
+  pub adaptive : FromSet p Adaptive S fa
+  pub deterministic : FromSet p Deterministic S fd
+  pub direct : isClear p Adaptive S D ≡ false
+  pub one : straight ≡ isClear p Deterministic S D

@@ -1,0 +1,3 @@
+-- The code's own steps.
+pub mod Rows
+pub mod Known

@@ -1,0 +1,6 @@
+// The first clear choice to one destination, where the direct adaptive leg is not clear.
+pub mod best;
+pub mod dest;
+pub mod near;
+pub mod part;
+pub mod sets_of;
