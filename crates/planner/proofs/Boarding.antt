@@ -28,11 +28,13 @@ use Rattle.masks.specs.Masks.{gatherAt, Ended, Masked}
 use Rattle.planner.specs.declared.boards.Step.{Step}
 use Rattle.planner.specs.Sheet.{sourceError, entriesFrom, plannedSheet}
 use Rattle.planner.specs.Run.{runError}
-use Rattle.planner.specs.Known.{OfPlan, IsAt, Filled, Prepared}
+use Rattle.first_clear.specs.Known.{OfPlan, IsAt}
+use Rattle.planner.specs.Known.{Filled, Prepared}
 use Rattle.planner.specs.Steps.{Boarded}
-use Rattle.planner.proofs.Knowing.{shape-ok, dead-byte}
-use Rattle.planner.proofs.FirstSteps.{nodes-few}
-use Rattle.planner.proofs.Destination.{gathered-at}
+use Rattle.first_clear.proofs.Knowing.{shape-ok}
+use Rattle.planner.proofs.Destination.{dead-byte}
+use Rattle.first_clear.proofs.FirstSteps.{nodes-few}
+use Rattle.first_clear.proofs.Destination.{gathered-at}
 use Rattle.planner.proofs.Filling.{at-coords}
 use Rattle.planner.proofs.Planning.{Source, source-of, no-error}
 use Rattle.planner.proofs.Writing.{put-is}

@@ -16,11 +16,11 @@ use Rattle.plan.specs.Layout.{shapeOf}
 use Rattle.plan.specs.Checks.{large, planError}
 use Rattle.dead.proofs.Table.{is-node}
 use Rattle.masks.specs.Masks.{gatherAt, Ended, Masked}
-use Rattle.planner.specs.Known.{OfPlan, IsAt, BothTo, Filled}
-use Rattle.planner.specs.Rows.{Elsewhere}
-use Rattle.planner.proofs.Knowing.{shape-ok, other-set}
-use Rattle.planner.proofs.FirstSteps.{nodes-few}
-use Rattle.planner.proofs.Destination.{gathered-at}
+use Rattle.first_clear.specs.Known.{OfPlan, IsAt, BothTo, ToEnd}
+use Rattle.planner.specs.Known.{Filled}
+use Rattle.first_clear.specs.Rows.{Elsewhere}
+use Rattle.first_clear.proofs.Knowing.{shape-ok, other-set}
+use Rattle.first_clear.proofs.Destination.{gathered-at}
 
 -- The sets to the nodes before n stand in the run.
 pub record Filling (p : List ℕ) (n : ℕ) (old work : List ℕ) : Type 0 where
@@ -50,23 +50,20 @@ module _ (p : List ℕ) (h : planError large p ≡ 0) where
         (λ k. kept D at (512 * D) mid new r (omega arith) (g .each D k));
   }
 
--- What putting both sets to the node n rests on.
+-- What both sets to the node n are made of.
 pub to-fill :
-    (p : List ℕ) (s : Shape) (words : List ℕ) (count : ℕ) (ta td : List ℕ) (all : ℕ) (old work : List ℕ) (n : ℕ) (c : Coords) (adaptive deterministic : List ℕ) →
-    OfPlan p s words count → Masked Adaptive false s ta → Masked Deterministic false s td → all ≡ nodeCount (shapeOf p) → 512 * all ≤ length old → Filling p n old work → n < all → c ≡ coordsAnswer s n →
+    (p : List ℕ) (s : Shape) (words : List ℕ) (count : ℕ) (ta td : List ℕ) (n : ℕ) (c : Coords) (adaptive deterministic : List ℕ) →
+    OfPlan p s words count → Masked Adaptive false s ta → Masked Deterministic false s td → n < nodeCount (shapeOf p) → c ≡ coordsAnswer s n →
     ((i : ℕ) → i < 288 → getD adaptive i 0 ≡ gatherAt ta c i) → ((i : ℕ) → i < 288 → getD deterministic i 0 ≡ gatherAt td c i) →
-    OfPlan p s words count × (IsAt p n c × (Ended Adaptive false s c adaptive × (Ended Deterministic false s c deterministic × ((512 * n ≤ 2097152) × (512 * n + 512 ≤ length work)))))
-to-fill p s words count ta td all old work n c adaptive deterministic k ma md ea room g l ec ga gd =
-    let at = at-coords p (k .plan) s n c (k .shape) (omega arith) ec in (
-      k,
-      (
-        at,
-        (
-          gathered-at p s n c ta adaptive (k .plan) at Adaptive false ma ga,
-          (gathered-at p s n c td deterministic (k .plan) at Deterministic false md gd, (omega (arith, nodes-few (shapeOf p) (shape-ok p (k .plan))), omega (arith, g .long))),
-        ),
-      ),
-    )
+    ToEnd p s words count n c adaptive deterministic
+to-fill p s words count ta td n c adaptive deterministic k ma md l ec ga gd =
+    let at = at-coords p (k .plan) s n c (k .shape) l ec in
+    record {
+      of-plan = k;
+      node = at;
+      adaptive = gathered-at p s n c ta adaptive (k .plan) at Adaptive false ma ga;
+      deterministic = gathered-at p s n c td deterministic (k .plan) at Deterministic false md gd;
+    }
 
 pub all-filled : (p : List ℕ) (n : ℕ) (old work : List ℕ) → nodeCount (shapeOf p) ≤ n → Filling p n old work → Filled p work
 all-filled p n old work m g = record { each = λ D l. g .each D (omega arith) }

@@ -1,8 +1,5 @@
 pub mod Standing
 pub mod NextOutside
-pub mod Knowing
-pub mod FirstSteps
-pub mod LastStep
 pub mod Planning
 pub mod Unlisted
 pub mod Destination

@@ -4,6 +4,7 @@ use native.Mathlib.Omega.{arith}
 use mathlib.Core.Path.{_≡_, refl, sym, ap, _∙_}
 use mathlib.Core.Bool.{Bool, true, false, cond, not, _&&_, _||_}
 use mathlib.Core.List.{List}
+use lib.ListN.{length}
 use lib.Dec.{eqb}
 use borrow.Author.Tests.{eq-eqb, ne-eqb, eqb-true}
 use Rattle.numbers.specs.Numbers.{nodeOutside, deadEnd}
@@ -15,7 +16,7 @@ use Rattle.packet.specs.declared.route.Route.{Route}
 use Rattle.machine.specs.Hop.{rule}
 use Rattle.machine.specs.ByCoords.{distanceAt}
 use Rattle.machine.specs.declared.leg.Mode.{Mode}
-use Rattle.machine.specs.declared.leg.Mode.the-variants.{Adaptive}
+use Rattle.machine.specs.declared.leg.Mode.the-variants.{Adaptive, Deterministic}
 use Rattle.machine.specs.Node.{isNode, coordsAnswer}
 use Rattle.machine.proofs.Nodes.{node-of}
 use Rattle.plan.specs.Layout.{shapeOf, faultsOf}
@@ -30,9 +31,10 @@ use Rattle.choice.proofs.AtTorus.{direct-first}
 use Rattle.losses.specs.Loss.{onLeg}
 use Rattle.losses.specs.OfPlan.{AreLosses}
 use Rattle.losses.proofs.AtPlan.{clear-is}
-use Rattle.planner.specs.Known.{isClear, OfPlan, IsAt, routeTold}
-use Rattle.planner.proofs.Knowing.{shape-ok}
-use Rattle.planner.proofs.Destination.{length-is}
+use Rattle.masks.specs.Masks.{Ended}
+use Rattle.first_clear.specs.Known.{isClear, OfPlan, IsAt, FromSet, routeTold, isGiven, NearMasks, NearDone, FarMasks}
+use Rattle.first_clear.proofs.Knowing.{shape-ok}
+use Rattle.first_clear.proofs.Destination.{length-is, none-given, all-near}
 
 -- ---- the checks of a pair
 checks : (a b c d : Bool) → cond (a && b) (cond (c || d) deadEnd 0) nodeOutside ≡ (declined (not a || not b) nodeOutside then declined (c || d) deadEnd then 0)
@@ -123,3 +125,32 @@ module _ (p : List ℕ) (s : Shape) (words : List ℕ) (count : ℕ) (k : OfPlan
       let route = direct-first (shapeOf p) (shape-ok p (k .plan)) (soundIn p) S D (from .node) (to .node) c in
       let d = length-is p s S D a t len (k .shape) from to q in
       rw route (ap (Outcome.Given (Route.Direct Adaptive)) (omega arith))
+
+  -- What the first steps rest on, and then the last ones.
+  pub near-known : (masks fa : List ℕ) (direct straight : Bool) (run : List ℕ) → Ended Adaptive false s t masks → FromSet p Adaptive S fa → direct ≡ not (onLeg rule Adaptive s words (min count 256) a t) → direct ≡ false →
+      straight ≡ not (onLeg rule Deterministic s words (min count 256) a t) → 512 ≤ length run → NearMasks p s S D a t words count masks fa straight run
+  near-known masks fa direct straight run ended out ed left es room = record {
+    words = words;
+    count = count;
+    of-plan = k;
+    standing = all-near p s words count k S D;
+    source = from;
+    target = to;
+    ended = ended;
+    out = out;
+    direct = sym (leg-is Adaptive direct ed) ∙ left;
+    one = leg-is Deterministic straight es;
+    room = room;
+  }
+
+  pub far-known : (masks others fa fd : List ℕ) (r : Outcome) (b : Bool) (run : List ℕ) → Ended Adaptive false s t masks → Ended Deterministic false s t others → FromSet p Adaptive S fa → FromSet p Deterministic S fd →
+      NearDone p S D r run → b ≡ isGiven r → b ≡ false → FarMasks p s words count S D a t words count masks others fa fd run
+  far-known masks others fa fd r b run ea ed out straight done e left = record {
+    ends = record { of-plan = k; node = to; adaptive = ea; deterministic = ed };
+    standing = all-near p s words count k S D;
+    source = from;
+    out = out;
+    straight = straight;
+    set = done .set (sym e ∙ left);
+    blocked = none-given p S D r b (done .near) e left;
+  }

@@ -24,7 +24,7 @@ use Rattle.choice.proofs.AtTorus.{direct-first}
 use Rattle.choice.proofs.Demand.{demand}
 use Rattle.losses.proofs.DeadTarget.{dead-target}
 use Rattle.planner.specs.Sheet.{lists}
-use Rattle.planner.specs.Known.{isClear}
+use Rattle.first_clear.specs.Known.{isClear}
 use Rattle.planner.proofs.Planning.{Source, pair-dead, pair-alive, unlisted}
 
 lists-direct : (D : ℕ) → lists (Given (leg D Adaptive ∷ [])) ≡ false

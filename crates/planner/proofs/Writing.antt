@@ -49,10 +49,11 @@ use Rattle.planner.specs.declared.outside.At.{At}
 use Rattle.planner.specs.Outside.{placeOf, Stands, NextOutside}
 use Rattle.losses.specs.OfPlan.{AreLosses}
 use Rattle.masks.specs.Masks.{Masked}
-use Rattle.planner.specs.Known.{isClear, IsAt, Prepared, Ready}
+use Rattle.first_clear.specs.Known.{isClear, IsAt}
+use Rattle.planner.specs.Known.{Prepared, Ready}
 use Rattle.planner.specs.Sheet.{sourceError, lists, entriesFrom, plannedSheet}
-use Rattle.planner.proofs.Knowing.{shape-ok}
-use Rattle.planner.proofs.FirstSteps.{nodes-few}
+use Rattle.first_clear.proofs.Knowing.{shape-ok}
+use Rattle.first_clear.proofs.FirstSteps.{nodes-few}
 use Rattle.planner.proofs.Standing.{starts, stands-end, stands-below, stands-node, stands-at}
 use Rattle.planner.proofs.Unlisted.{unclear-listed, clear-unlisted}
 use Rattle.planner.proofs.Planning.{Source, source-of, self-unlisted, sheet-few}

@@ -4,6 +4,5 @@ pub mod Outcomes
 pub mod Demand
 -- The code's own steps.
 pub mod Outside
-pub mod Rows
 pub mod Known
 pub mod Steps

@@ -1,5 +1,5 @@
 // A workspace with both sets to every node, 512 rows a node.
-use crate::sets_of::put_both;
+use first_clear::sets_of::put_both;
 use machine::node::coords;
 use masks::table::gather;
 use shape::Shape;
@@ -11,7 +11,8 @@ ghost use Rattle.machine.specs.declared.leg.Mode.the-variants.{Adaptive, Determ
 ghost use Rattle.machine.specs.Number.{nodeCount};
 ghost use Rattle.plan.specs.Layout.{shapeOf};
 ghost use Rattle.masks.specs.Masks.{Masked};
-ghost use Rattle.planner.specs.Known.{OfPlan, Filled};
+ghost use Rattle.first_clear.specs.Known.{OfPlan};
+ghost use Rattle.planner.specs.Known.{Filled};
 
 // Of an accepted plan with `all` nodes, by the masks of all targets.
 pub fn fill(
@@ -35,18 +36,8 @@ pub fn fill(
         let c = coords(shape, node);
         let adaptive = gather(ta, c);
         let deterministic = gather(td, c);
-        put_both(
-            plan,
-            shape,
-            words,
-            count,
-            node,
-            c,
-            &adaptive,
-            &deterministic,
-            work,
-            512 * node as usize,
-        );
+        let at = 512 * node as usize;
+        put_both(words, count, &adaptive, &deterministic, work, at);
         node = node + 1;
     }
 }

@@ -1,10 +1,10 @@
 // What a route sheet from a source lists: the destinations to which the direct adaptive leg is not clear.
-use crate::between::renew;
-use crate::between::row_at;
 use crate::dest::outcome_to;
 use crate::outside::At;
 use crate::outside::next_outside;
-use crate::sets_of::from_masks;
+use crate::sifted::renew;
+use crate::sifted::row_at;
+use first_clear::sets_of::from_masks;
 use machine::leg::Mode;
 use route_value::Routes;
 use routes::Entry;
@@ -22,7 +22,8 @@ ghost use Rattle.dead.specs.Dead.{deadNode};
 ghost use Rattle.masks.specs.Masks.{Ended};
 ghost use Rattle.route_value.specs.Writing.{routeEntries};
 ghost use Rattle.planner.specs.Sheet.{entriesFrom};
-ghost use Rattle.planner.specs.Known.{IsAt, Prepared, Ready};
+ghost use Rattle.first_clear.specs.Known.{IsAt};
+ghost use Rattle.planner.specs.Known.{Prepared, Ready};
 
 // No row of nodes: they are 256.
 const NO_ROW: u16 = 256;
@@ -71,21 +72,7 @@ fn list(
             y: at.y,
             z: at.z,
         };
-        nears = renew(
-            plan,
-            shape,
-            words,
-            count,
-            ta,
-            work,
-            source,
-            a,
-            dest,
-            t,
-            &mut near,
-            nears,
-            row,
-        );
+        nears = renew(shape, words, count, ta, work, a, t, &mut near, nears, row);
         row = row_at(t);
         let outcome = outcome_to(
             plan,
@@ -148,26 +135,8 @@ pub fn routes_from(
     requires { ⌜ deadNode (faultsOf (now plan)) source ≡ false ⌝ }
     ensures { λ r. ⌜ (r .source ≡ source) × (routeEntries r ≡ entriesFrom large (now (plan .entry)) source 0 (nodeCount (shapeOf (now (plan .entry))))) ⌝ }
 {
-    let fa = from_masks(
-        plan,
-        Mode::Adaptive,
-        shape,
-        words,
-        count,
-        source,
-        a,
-        adaptive,
-    );
-    let fd = from_masks(
-        plan,
-        Mode::Deterministic,
-        shape,
-        words,
-        count,
-        source,
-        a,
-        deterministic,
-    );
+    let fa = from_masks(words, count, adaptive);
+    let fd = from_masks(words, count, deterministic);
     list(
         plan,
         shape,

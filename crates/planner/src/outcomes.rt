@@ -3,10 +3,10 @@ use crate::dest::has;
 use crate::dest::outcome_to;
 use crate::outside::At;
 use crate::outside::following;
-use crate::sets_of::from_set;
 use crate::sheets::source_error;
 use choice::Outcome;
 use dead::dead_nodes;
+use first_clear::sets_of::from_set;
 use losses::losses;
 use machine::hop::distance_at;
 use machine::leg::Mode;
@@ -26,7 +26,8 @@ ghost use Rattle.dead.specs.Dead.{deadNode};
 ghost use Rattle.choice.specs.Outcome.{told};
 ghost use Rattle.choice.specs.Pair.{pair};
 ghost use Rattle.planner.specs.Sheet.{sourceError};
-ghost use Rattle.planner.specs.Known.{IsAt, Prepared, Ready};
+ghost use Rattle.first_clear.specs.Known.{IsAt};
+ghost use Rattle.planner.specs.Known.{Prepared, Ready};
 ghost use Rattle.planner.specs.Outcomes.{noOutcome, outcomeAt};
 
 // One destination, also where the direct adaptive leg is clear.
@@ -145,8 +146,8 @@ fn outcomes_by(
     requires { ⌜ deadNode (faultsOf (now plan)) source ≡ false ⌝ }
     ensures { λ r. ⌜ ((d : ℕ) → getD r d noOutcome ≡ outcomeAt large (now (plan .entry)) source d) ⌝ }
 {
-    let fa = from_set(plan, Mode::Adaptive, shape, words, count, source, a);
-    let fd = from_set(plan, Mode::Deterministic, shape, words, count, source, a);
+    let fa = from_set(Mode::Adaptive, shape, words, count, a);
+    let fd = from_set(Mode::Deterministic, shape, words, count, a);
     all_outcomes(
         plan,
         shape,

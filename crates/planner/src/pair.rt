@@ -1,10 +1,10 @@
 // Planning a pair: checks 1 to 8, 9, 10, then the first clear choice, or 11.
-use crate::dest::far_by_masks;
-use crate::dest::near_by_masks;
-use crate::near::is_given;
-use crate::sets_of::from_set;
 use choice::Outcome;
 use dead::is_dead_node;
+use first_clear::dest::far_by_masks;
+use first_clear::dest::near_by_masks;
+use first_clear::near::is_given;
+use first_clear::sets_of::from_set;
 use logic::both;
 use logic::either;
 use logic::pick;
@@ -27,7 +27,7 @@ ghost use Rattle.choice.specs.Pair.{pairError, pair};
 ghost use Rattle.choice.specs.Outcome.{told};
 ghost use Rattle.plan.specs.Layout.{shapeOf};
 ghost use Rattle.plan.specs.Checks.{large};
-ghost use Rattle.planner.specs.Known.{OfPlan, IsAt, routeTold};
+ghost use Rattle.first_clear.specs.Known.{OfPlan, IsAt, routeTold};
 
 fn pair_error(plan: &[u8], source: u16, dest: u16) -> u8
     ensures { λ r. ⌜ r ≡ pairError large (now (plan .entry)) source dest ⌝ }
@@ -62,42 +62,29 @@ fn route(
     if leg_clear(Mode::Adaptive, shape, words, count, a, t) {
         return Outcome::Given(Route::Direct(Mode::Adaptive), distance_at(shape, a, t));
     }
-    let fa = from_set(plan, Mode::Adaptive, shape, words, count, source, a);
+    let mut run = [0u16; 512];
+    let fa = from_set(Mode::Adaptive, shape, words, count, a);
     let masks = ends(Mode::Adaptive, false, shape, t);
     let straight = leg_clear(Mode::Deterministic, shape, words, count, a, t);
-    let first = near_by_masks(
-        plan,
-        shape,
-        words,
-        count,
-        words,
-        count,
-        source,
-        dest,
-        a,
-        t,
-        &masks,
-        &fa,
-        straight,
-    );
+    let first = near_by_masks(shape, words, count, a, t, &masks, &fa, straight, &mut run);
     if is_given(first) {
         return first;
     }
-    let fd = from_set(plan, Mode::Deterministic, shape, words, count, source, a);
+    let fd = from_set(Mode::Deterministic, shape, words, count, a);
     let others = ends(Mode::Deterministic, false, shape, t);
     far_by_masks(
-        plan,
         shape,
         words,
         count,
-        source,
-        dest,
+        words,
+        count,
         a,
         t,
         &masks,
         &others,
         &fa,
         &fd,
+        &mut run,
     )
 }
 

@@ -72,7 +72,7 @@ module _ (mode : Mode) (from : Bool) (s : Shape) (h : shapeError s ≡ 0) (e : C
     mask-bit kind 2 (w / 256 % 16) (c .z) (omega arith) (omega arith) (ic .z),
   )
 
-  loss-bit : (c : Coords) → Inside s c → (w : ℕ) → lossIn ends w c ≡ lossMeets rule mode s w (fromTo e c) (fromTo c e)
+  pub loss-bit : (c : Coords) → Inside s c → (w : ℕ) → lossIn ends w c ≡ lossMeets rule mode s w (fromTo e c) (fromTo c e)
   unfolding lossIn deadIn lossCells deadCells
   loss-bit c ic w = rw (part-bit c ic (lossKind w) w, part-bit c ic 9 w, part-bit c ic 10 w, part-bit c ic 11 w) (loss-met mode s w (fromTo e c) (fromTo c e))
 

@@ -1,4 +1,5 @@
-use Prim.Native.Nat.{_-_, _≤_}
+use Prim.Native.Nat.{_+_, _-_, _*_, _≤_}
+use lib.ListN.{length}
 use mathlib.Core.Path.{refl}
 use native.Mathlib.Omega.{arith}
 use borrow.Author.Needs.{needs}
@@ -7,9 +8,6 @@ use Rattle.planner.proofs.fill.fill.Statement.{statement}
 use Rattle.planner.proofs.fill.fill.Tie as tie
 use Rattle.planner.proofs.fill.fill.Reads as reads
 use Rattle.planner.proofs.fill.fill.Lts as lts
-use Rattle.machine.proofs.node.coords.Reads as coords-reads
-use Rattle.masks.proofs.table.gather.Reads as gather-reads
-use Rattle.planner.proofs.sets_of.put_both.Reads as put-both-reads
 
 abbrev Inv-loop : tie.InvT-loop
 Inv-loop plan shape words count ta td all work₀ node₀ work node = (node ≤ all) × Filling plan node work₀ work
@@ -29,14 +27,14 @@ gather-requires c κs = search needs
 gather-requires-2 : tie.Need-gather-requires-2 Inv-loop μ-loop
 gather-requires-2 c κs = search needs
 
-cast-put-both : tie.Need-cast-put-both Inv-loop μ-loop
-cast-put-both c = search needs
+cast-at : tie.Need-cast-at Inv-loop μ-loop
+cast-at c = search needs
 
-mul-put-both : tie.Need-mul-put-both Inv-loop μ-loop
-mul-put-both c = omega arith
+mul-at : tie.Need-mul-at Inv-loop μ-loop
+mul-at c = omega arith
 
 put-both-requires : tie.Need-put-both-requires Inv-loop μ-loop
-put-both-requires c κs = to-fill _ _ _ _ _ _ _ _ _ _ _ (c .before .before .before .before .gather .result) (c .before .before .before .gather2 .result) (c .before .before .before .before .before .before .before .before .before .before .pre .0) (c .before .before .before .before .before .before .before .before .before .before .pre .1 .0) (c .before .before .before .before .before .before .before .before .before .before .pre .1 .1 .0) (c .before .before .before .before .before .before .before .before .before .before .pre .1 .1 .1 .0) (c .before .before .before .before .before .before .before .before .before .before .pre .1 .1 .1 .1) (c .before .before .before .before .before .before .before .loop .inv .1) (omega arith) (c .before .before .before .before .before .coords .ensures) (c .before .before .before .before .gather .ensures) (c .before .before .before .gather2 .ensures)
+put-both-requires c κs = tt
 
 add-node : tie.Need-add-node Inv-loop μ-loop
 add-node c = omega arith
@@ -45,7 +43,7 @@ loop-less : tie.Need-loop-less Inv-loop μ-loop
 loop-less c = omega arith
 
 loop-again : tie.Need-loop-again Inv-loop μ-loop
-loop-again c = let e = c .before .before .put-both .ensures in (omega arith, one-filled _ (c .before .before .before .before .before .before .before .before .before .before .before .before .before .pre .0 .plan) _ _ _ _ _ refl (c .before .before .before .before .before .before .before .before .before .before .loop .inv .1) (e .0) (e .1))
+loop-again c = let pre = c .before .before .before .before .before .before .before .before .before .before .before .before .before .pre in let inv = c .before .before .before .before .before .before .before .before .before .before .loop .inv .1 in let room : 512 * c .before .before .before .before .before .before .before .before .before .before .loop .node + 512 ≤ length (c .before .before .before .before .before .before .before .before .before .before .loop .work) = omega (arith, pre .1 .1 .1 .1, inv .long) in let ends = to-fill _ _ _ _ _ _ _ _ (c .before .before .before .before .before .before .before .gather .result) (c .before .before .before .before .before .before .gather2 .result) (pre .0) (pre .1 .0) (pre .1 .1 .0) (omega (arith, pre .1 .1 .1 .0)) (c .before .before .before .before .before .before .before .before .coords .ensures) (c .before .before .before .before .before .before .before .gather .ensures) (c .before .before .before .before .before .before .gather2 .ensures) in let e = c .before .before .put-both .ensures in (omega arith, one-filled _ (pre .0 .plan) _ _ _ _ _ refl inv (e .0 _ _ _ _ ends room) (e .1 room))
 
 same-length : tie.Need-same-length Inv-loop μ-loop
 same-length c = c .before .loop .inv .1 .long
@@ -63,8 +61,8 @@ fill-spec =
     coords-requires
     gather-requires
     gather-requires-2
-    cast-put-both
-    mul-put-both
+    cast-at
+    mul-at
     put-both-requires
     add-node
     loop-less

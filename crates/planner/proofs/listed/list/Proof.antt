@@ -1,6 +1,7 @@
 use Rattle.planner.proofs.Writing.{Going, ok, begun, is-at, unclear, roomy, places, after, turn, few, done}
 use Rattle.planner.proofs.Standing.{starts}
 use Rattle.planner.specs.Known.{NearRow}
+use Rattle.planner.proofs.Destination.{sifting-at}
 use Rattle.planner.proofs.NearRows.{no-row, same-row, near-row}
 use Prim.Native.Nat.{_-_}
 use mathlib.Core.Path.{refl}
@@ -10,8 +11,8 @@ use Rattle.planner.proofs.listed.list.Statement.{statement}
 use Rattle.planner.proofs.listed.list.Tie as tie
 use Rattle.planner.proofs.listed.list.Reads as reads
 use Rattle.planner.proofs.listed.list.Lts as lts
-use Rattle.planner.proofs.between.renew.Reads as renew-reads
-use Rattle.planner.proofs.between.row_at.Reads as row-at-reads
+use Rattle.planner.proofs.sifted.renew.Reads as renew-reads
+use Rattle.planner.proofs.sifted.row_at.Reads as row-at-reads
 use Rattle.planner.proofs.dest.outcome_to.Reads as outcome-to-reads
 use Rattle.planner.proofs.outside.next_outside.Reads as next-outside-reads
 use Rattle.routes.proofs.kinds.entry_for.Reads as entry-for-reads
@@ -30,14 +31,14 @@ loop-holds c = let ready = c .before .before .before .pre in (begun _ _ _ _ _ _ 
 
 -- src/listed.rt:74:22
 renew-requires : tie.Need-renew-requires Inv-loop μ-loop
-renew-requires c κs = let inv = c .before .before .before .before .loop .inv in let r = inv .0 .ready in (r .prepared .of-plan, (r .prepared .adaptive, (r .source, (is-at _ _ _ _ _ _ _ _ _ _ _ _ r _ _ _ (inv .0) (c .before .if1 .taken) _ refl, inv .1))))
+renew-requires c κs = tt
 
 -- src/listed.rt:89:15
 row-at-requires : tie.Need-row-at-requires Inv-loop μ-loop
 row-at-requires c κs = tt
 
 outcome-to-requires : tie.Need-outcome-to-requires Inv-loop μ-loop
-outcome-to-requires c κs = let inv = c .before .before .before .before .before .before .before .loop .inv .0 in let to = is-at _ _ _ _ _ _ _ _ _ _ _ _ (inv .ready) _ _ _ inv (c .before .before .before .before .if1 .taken) _ refl in (inv .ready, (to, (near-row _ _ _ _ _ _ _ _ (c .before .before .renew .ensures) _ _ to refl, unclear _ _ _ _ _ _ _ _ _ _ _ _ (inv .ready) _ _ _ inv (c .before .before .before .before .if1 .taken))))
+outcome-to-requires c κs = let both = c .before .before .before .before .before .before .before .loop .inv in let inv = both .0 in let to = is-at _ _ _ _ _ _ _ _ _ _ _ _ (inv .ready) _ _ _ inv (c .before .before .before .before .if1 .taken) _ refl in let row = c .before .before .renew .ensures _ _ _ (sifting-at _ _ _ _ _ _ _ _ _ _ _ _ (inv .ready) _ _ to) (both .1) in (inv .ready, (to, (near-row _ _ _ _ _ _ _ _ row _ _ to refl, unclear _ _ _ _ _ _ _ _ _ _ _ _ (inv .ready) _ _ _ inv (c .before .before .before .before .if1 .taken))))
 
 entry-for-requires : tie.Need-entry-for-requires Inv-loop μ-loop
 entry-for-requires c κs = tt
@@ -66,7 +67,7 @@ loop-less : tie.Need-loop-less Inv-loop μ-loop
 loop-less c = let r = (let inv = c .before .before .before .before .before .before .before .before .before .before .before .loop .inv .0 in places _ _ _ _ _ _ _ _ _ _ _ _ (inv .ready) _ _ _ inv (c .before .before .before .before .before .before .before .before .if1 .taken)) in omega (arith, r .1, c .next-outside2 .ensures .onward)
 
 loop-again : tie.Need-loop-again Inv-loop μ-loop
-loop-again c = let inv = c .before .before .before .before .before .before .before .before .before .before .before .loop .inv .0 in (turn _ _ _ _ _ _ _ _ _ _ _ _ (inv .ready) _ _ _ inv (c .before .before .before .before .before .before .before .before .if1 .taken) _ _ _ (c .before .before .before .outcome-to .ensures) (c .before .before .entry-for .ensures) (c .next-outside2 .ensures) .1, same-row _ _ _ _ _ _ _ _ (c .before .before .before .before .before .before .renew .ensures) _ (c .before .before .before .before .before .row-at .ensures))
+loop-again c = let both = c .before .before .before .before .before .before .before .before .before .before .before .loop .inv in let inv = both .0 in let taken = c .before .before .before .before .before .before .before .before .if1 .taken in let to = is-at _ _ _ _ _ _ _ _ _ _ _ _ (inv .ready) _ _ _ inv taken _ refl in let row = c .before .before .before .before .before .before .renew .ensures _ _ _ (sifting-at _ _ _ _ _ _ _ _ _ _ _ _ (inv .ready) _ _ to) (both .1) in (turn _ _ _ _ _ _ _ _ _ _ _ _ (inv .ready) _ _ _ inv taken _ _ _ (c .before .before .before .outcome-to .ensures) (c .before .before .entry-for .ensures) (c .next-outside2 .ensures) .1, same-row _ _ _ _ _ _ _ _ row _ (c .before .before .before .before .before .row-at .ensures))
 
 cast-entry-count : tie.Need-cast-entry-count Inv-loop μ-loop
 cast-entry-count c = let inv = c .before .before .before .loop .inv .0 in let r = few _ _ _ _ _ _ _ _ _ _ _ _ (inv .ready) _ _ _ inv in omega (arith, r .0)

@@ -1,7 +1,6 @@
-use Rattle.planner.proofs.NearRows.{all-near}
 use Rattle.machine.specs.declared.leg.Mode.the-variants.{Adaptive}
 use mathlib.Core.Path.{sym, _∙_}
-use Rattle.planner.proofs.Destination.{small-at, has-is}
+use Rattle.first_clear.proofs.Destination.{small-at, has-is, all-near}
 use Rattle.planner.proofs.EachOutcome.{direct-given}
 use borrow.Author.Needs.{needs}
 use Rattle.planner.proofs.outcomes.any_outcome.Statement.{statement}

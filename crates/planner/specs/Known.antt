@@ -1,0 +1,51 @@
+-- The code's own steps: what is known of an accepted plan p while the routes from S are planned.
+use Prim.Native.Nat.{ℕ, _+_, _*_, _<_}
+use mathlib.Core.Path.{_≡_}
+use mathlib.Core.Logic.{_⊎_}
+use mathlib.Core.Bool.{false}
+use mathlib.Core.List.{List}
+use lib.ListN.{length, getD}
+use Rattle.shape.specs.declared.shape.Shape.{Shape}
+use Rattle.shape.specs.declared.shape.Coords.{Coords}
+use Rattle.machine.specs.declared.leg.Mode.the-variants.{Adaptive, Deterministic}
+use Rattle.machine.specs.Number.{nodeCount, coordsOf}
+use Rattle.plan.specs.Layout.{shapeOf, faultsOf}
+use Rattle.plan.specs.Checks.{large}
+use Rattle.dead.specs.Dead.{deadNode, bitOf, nodeAnswer}
+use Rattle.masks.specs.Masks.{Masked}
+use Rattle.first_clear.specs.Known.{OfPlan, IsAt, FromSet, BothTo, NearLosses}
+
+-- A run with both sets to each node, 512 rows a node; or an empty run.
+pub record Filled (p work : List ℕ) : Type 0 where
+  pub each : (D : ℕ) → D < nodeCount (shapeOf p) → BothTo p D work (512 * D)
+
+abbrev pub Work : List ℕ → List ℕ → Type 0
+Work p work = (length work ≡ 0) ⊎ Filled p work
+
+-- What the losses for the row of D, at t, are sifted by: those of the plan, and the masks of all targets.
+pub record Sifting (p : List ℕ) (s : Shape) (words : List ℕ) (count : ℕ) (ta : List ℕ) (S D : ℕ) (a t : Coords) : Type 0 where
+  pub of-plan : OfPlan p s words count
+  pub masks : Masked Adaptive false s ta
+  pub source : IsAt p S a
+  pub target : IsAt p D t
+
+-- The first n of `near` stand for all losses, for every destination of a row, y + 16 × z, where the run `work` is empty.
+pub record NearRow (p work : List ℕ) (S : ℕ) (words : List ℕ) (count : ℕ) (near : List ℕ) (n row : ℕ) : Type 0 where
+  pub long : length near ≡ 256
+  pub each : length work ≡ 0 → (D : ℕ) → D < nodeCount (shapeOf p) → coordsOf (shapeOf p) D .y + 16 * coordsOf (shapeOf p) D .z ≡ row → NearLosses p S D words count near n
+
+-- What depends on the plan alone: its shape, losses and dead nodes, the masks of all targets, and the sets to all nodes where the run has them.
+pub record Prepared (p : List ℕ) (s : Shape) (words : List ℕ) (count : ℕ) (dead ta td work : List ℕ) : Type 0 where
+  pub of-plan : OfPlan p s words count
+  pub nodes : (n : ℕ) → getD dead n 0 ≡ bitOf (nodeAnswer large p n)
+  pub adaptive : Masked Adaptive false s ta
+  pub deterministic : Masked Deterministic false s td
+  pub sets : Work p work
+
+-- And on the source S, which is sound: the nodes with a clear leg from it.
+pub record Ready (p : List ℕ) (s : Shape) (words : List ℕ) (count : ℕ) (dead ta td work : List ℕ) (S : ℕ) (a : Coords) (fa fd : List ℕ) : Type 0 where
+  pub prepared : Prepared p s words count dead ta td work
+  pub source : IsAt p S a
+  pub alive : deadNode (faultsOf p) S ≡ false
+  pub adaptive : FromSet p Adaptive S fa
+  pub deterministic : FromSet p Deterministic S fd
