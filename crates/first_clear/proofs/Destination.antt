@@ -3,10 +3,9 @@ use Prim.Native.Nat.{ℕ, _+_, _*_, _≤_, _<_}
 use native.Mathlib.Omega.{arith}
 use mathlib.Core.Path.{_≡_, refl, sym, ap, _∙_}
 use mathlib.Core.Logic.{_↔_}
-use mathlib.Core.Bool.{Bool, true, false, _&&_, true≢false}
+use mathlib.Core.Bool.{Bool, true, false, _&&_}
 use mathlib.Core.List.{List}
 use lib.ListN.{length, getD}
-use Rattle.theory.proofs.Bools.{and-true}
 use Rattle.shape.specs.declared.shape.Shape.{Shape}
 use Rattle.shape.specs.declared.shape.Coords.{Coords}
 use Rattle.shape.specs.declared.shape.Dim.{Dim}
@@ -26,7 +25,6 @@ use Rattle.choice.specs.declared.outcome.Outcome.{Outcome}
 use Rattle.legs.specs.Between.{between}
 use Rattle.legs.proofs.Dims.{all-of, of-all}
 use Rattle.legs.proofs.Box.{box}
-use Rattle.rows.specs.Bits.{bit}
 use Rattle.rows.specs.Rows.{inRows, inSet, inProduct}
 use Rattle.rows.specs.Product.{Are}
 use Rattle.sets.specs.Clear.{clearIn}
@@ -37,9 +35,9 @@ use Rattle.masks.proofs.Spans.{box-inside}
 use Rattle.masks.proofs.Tables.{gathered}
 use Rattle.search.specs.FirstVia.{isVia, FirstOf}
 use Rattle.first_clear.specs.Rows.{Put}
-use Rattle.first_clear.specs.Known.{isClear, OfPlan, IsAt, FromSet, ToBetween, OnlyBetween, BothTo, IsBox, LowPart, LowestVia, NearLosses, nearRoute, routeTold, isGiven, Near, Apart, Nearing, InBox, NearMasks, NearDone, Faring, Halfway, FarMasks, BySets, ByLosses}
+use Rattle.first_clear.specs.Known.{isClear, OfPlan, IsAt, FromSet, ToBetween, OnlyBetween, BothTo, IsBox, NearLosses, nearRoute, routeTold, isGiven, Near, Apart, Nearing, NearMasks, NearDone, Faring, Halfway, FarMasks, BySets, ByLosses}
 use Rattle.first_clear.proofs.Knowing.{shape-ok, to-within, within-only, put-set, both-between}
-use Rattle.first_clear.proofs.FirstSteps.{near-by, via-given, box-lowest, part-lowest}
+use Rattle.first_clear.proofs.FirstSteps.{near-by, box-lowest}
 
 -- The answer of the first steps, or else that of the last.
 pub first-given : (p : List ℕ) (S D : ℕ) (r : Outcome) (b : Bool) → Near p S D r → b ≡ isGiven r → b ≡ true → r ≡ routeTold p S D
@@ -111,38 +109,14 @@ pub near-of :
 near-of p s S D len bx by bz fa straight to at g via first =
     near-by p S D len straight (g .apart) via (box-lowest p s S D bx by bz fa to at (g .shape) (g .apart .plan) (g .room) via first (g .box) (g .out) (g .back))
 
-pub part-of :
-    (p : List ℕ) (s : Shape) (S D bx by bz low : ℕ) (ends near : List ℕ) (n : ℕ) (fa set : List ℕ) → InBox p s S D bx by bz ends near n fa → LowPart bz low →
-    Are (clearIn bx by low ends near n) set → (via : ℕ) → FirstOf (nodeCount s) (isVia s bx by low fa set 0) via → via < 4096 → LowestVia p S D via
-unfolding inProduct
-part-of p s S D bx by bz low ends near n fa set g part are via first found =
-    part-lowest p s S D bx by low fa set 0 (g .of-plan .shape) (g .of-plan .plan) (omega (arith, are .long)) via first bz part found (g .box) (g .out)
-    (λ v l i.
-    let c = coordsOf (shapeOf p) v in
-    let x = and-true (bit bx (c .x)) _ i in
-    let y = and-true (bit by (c .y)) _ (x .1) in
-    let sum = g .box v l .0 (rw (x .0, y .0, part .keeps (c .z) (y .1))) in
-    to-within p s (g .words) (g .count) (g .of-plan) D (g .at) (g .target) Adaptive ends set bx by low near n (g .standing .few) (g .ended) are v l i (g .standing .same Adaptive v l sum))
-
 module _ (p : List ℕ) (s : Shape) (S D : ℕ) (a t : Coords) (near : List ℕ) (n : ℕ) (ends fa : List ℕ) (straight : Bool) (run : List ℕ) (g : NearMasks p s S D a t near n ends fa straight run) (b : Box) (eb : b ≡ boxOf s a t) where
   box-of : IsBox p S D (b .x) (b .y) (b .z)
   box-of = is-box p s S D a t (g .of-plan .plan) (g .of-plan .shape) (g .source) (g .target) b eb
-
-  pub in-box : InBox p s S D (b .x) (b .y) (b .z) ends near n fa
-  in-box = record { words = g .words; count = g .count; of-plan = g .of-plan; standing = g .standing; at = t; target = g .target; box = box-of; ended = g .ended; out = g .out }
 
   module _ (len : ℕ) (el : len ≡ distanceAt s a t) where
     apart-here : Apart p S D len straight
     apart-here = apart-by p s S D a t len straight (g .of-plan .plan) (g .of-plan .shape) (g .source) (g .target) el (g .direct) (g .one)
 
-    -- By the lowest plane.
-    pub part-done : (via : ℕ) → via < 4096 → LowestVia p S D via → (r : Outcome) → r ≡ nearRoute via straight len → NearDone p S D r run
-    part-done via m low r e = record {
-      near = near-by p S D len straight apart-here via low r e;
-      set = λ left. absurd (true≢false (sym (via-given via len straight r m e) ∙ left));
-    }
-
-    -- By the whole box.
     module _ (set new : List ℕ) (are : Are (clearIn (b .x) (b .y) (b .z) ends near n) set) (put : Put 0 set 256 run new) where
       between-new : ToBetween p Adaptive S D new 0
       between-new v l w =

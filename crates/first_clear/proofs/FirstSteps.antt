@@ -1,7 +1,6 @@
 -- The first steps of the search give the route, or that the direct deterministic leg is not clear.
-use Prim.Native.Nat.{ℕ, _+_, _/_, _≤_, _<_}
+use Prim.Native.Nat.{ℕ, _+_, _≤_, _<_}
 use native.Mathlib.Omega.{arith}
-use native.Mathlib.Nat.{le-trans, div-mul-le-self, le-div-iff-mul-le}
 use mathlib.Core.Path.{_≡_, refl, sym, ap, _∙_}
 use mathlib.Core.Bool.{Bool, true, false, _&&_, true≢false}
 use mathlib.Core.List.{List, [], _∷_}
@@ -13,10 +12,8 @@ use Rattle.theory.specs.Machine.{sumBy}
 use Rattle.theory.proofs.Bools.{and-true}
 use Rattle.theory.proofs.Cases.{test, by-le}
 use Rattle.shape.specs.declared.shape.Shape.{Shape}
-use Rattle.shape.specs.declared.shape.Coords.{Coords}
 use Rattle.shape.specs.Shape.{shapeError}
-use Rattle.shape.specs.declared.shape.Dim.the-variants.{X, Y}
-use Rattle.shape.proofs.Shapes.{sound, count-most}
+use Rattle.shape.proofs.Shapes.{count-most}
 use Rattle.machine.specs.declared.leg.Mode.the-variants.{Adaptive, Deterministic}
 use Rattle.machine.specs.Number.{nodeCount, coordsOf}
 use Rattle.machine.specs.Hop.{distance}
@@ -29,18 +26,14 @@ use Rattle.choice.specs.Answer.{Given}
 use Rattle.choice.specs.Outcome.{told, toldAs}
 use Rattle.choice.specs.Pair.{soundIn, routeIn, chosen}
 use Rattle.choice.proofs.Search.{via-first, deterministic-first}
-use Rattle.rows.specs.Bits.{bit}
 use Rattle.rows.specs.Rows.{inSet, inProduct}
 use Rattle.search.specs.FirstVia.{hasRows, inAll, isVia, FirstOf}
-use Rattle.first_clear.specs.Known.{isClear, FromSet, ToBetween, routeTold, isGiven, nearRoute, Near, OnWay, LowestVia, IsBox, LowPart, Apart}
+use Rattle.first_clear.specs.Known.{isClear, FromSet, ToBetween, routeTold, isGiven, nearRoute, Near, OnWay, LowestVia, IsBox, Apart}
 use Rattle.first_clear.proofs.Knowing.{shape-ok}
 
 pub nodes-few : (s : Shape) → shapeError s ≡ 0 → nodeCount s ≤ 4096
 unfolding nodeCount
 nodes-few s h = count-most s h
-
-div-rises : (a b k : ℕ) → 0 < k → a ≤ b → a / k ≤ b / k
-div-rises a b k h l = le-div-iff-mul-le h .1 (le-trans (div-mul-le-self a k) l)
 
 told-via : (s : Shape) (S D v len : ℕ) → distance s S v + distance s v D ≡ len → told s S (Given (leg v Adaptive ∷ leg D Adaptive ∷ [])) ≡ Outcome.Given (Route.Via v Adaptive Adaptive) len
 unfolding told toldAs sumBy
@@ -82,11 +75,6 @@ module _ (p : List ℕ) (S D len : ℕ) (straight : Bool) (g : Apart p S D len s
   pub near-by : (r : Outcome) → r ≡ nearRoute via straight len → Near p S D r
   near-by r e = rw e near-is
 
--- A via below 4096 is a route.
-pub via-given : (via len : ℕ) (straight : Bool) (r : Outcome) → via < 4096 → r ≡ nearRoute via straight len → isGiven r ≡ true
-unfolding nearRoute
-via-given via len straight r m e = rw (e, lt-ltb via 4096 m)
-
 -- ---- the first node of a product that passes the test
 module _ (p : List ℕ) (s : Shape) (S D bx by bz : ℕ) (fa to : List ℕ) (at : ℕ) (es : s ≡ shapeOf p) (h : planError large p ≡ 0) (room : at + 256 ≤ length to)
     (via : ℕ) (first : FirstOf (nodeCount s) (isVia s bx by bz fa to at) via) where
@@ -127,35 +115,3 @@ module _ (p : List ℕ) (s : Shape) (S D bx by bz : ℕ) (fa to : List ℕ) (at 
   box-lowest box out back = lowest-of
       (λ v l b. let sum = box v l .0 (b .box) in record { out = sym (out v l) ∙ b .out; back = sym (back v l sum) ∙ b .back; sum = sum })
       (λ v l m w. record { box = box v l .1 (w .sum); out = out v l ∙ w .out; back = back v l (w .sum) ∙ w .back })
-
-  -- The product is a lower part of it, and there the set is that of the clear legs.
-  module _ (all : ℕ) (low : LowPart all bz) (found : via < 4096) where
-    more : (c : Coords) → inProduct bx by bz c ≡ true → inProduct bx by all c ≡ true
-    unfolding inProduct
-    more c e =
-        let x = and-true (bit bx (c .x)) _ e in
-        let y = and-true (bit by (c .y)) _ (x .1) in
-        rw (x .0, y .0, low .keeps (c .z) (y .1))
-
-    place : bit bz (coordsOf (shapeOf p) via .z) ≡ true
-    unfolding inProduct
-    place = let b = passes-is via (first .found found .1) .box in and-true (bit by (coordsOf (shapeOf p) via .y)) _ (and-true (bit bx (coordsOf (shapeOf p) via .x)) _ b .1) .1
-
-    rises : (v : ℕ) → v < via → coordsOf (shapeOf p) v .z ≤ coordsOf (shapeOf p) via .z
-    unfolding coordsOf
-    rises v m = div-rises (v / shapeOf p .x) (via / shapeOf p .x) (shapeOf p .y) (sound (shapeOf p) fine Y .low) (div-rises v via (shapeOf p .x) (sound (shapeOf p) fine X .low) (omega arith))
-
-    fewer : (v : ℕ) → v < via → inProduct bx by all (coordsOf (shapeOf p) v) ≡ true → inProduct bx by bz (coordsOf (shapeOf p) v) ≡ true
-    unfolding inProduct
-    fewer v m e =
-        let c = coordsOf (shapeOf p) v in
-        let x = and-true (bit bx (c .x)) _ e in
-        let y = and-true (bit by (c .y)) _ (x .1) in
-        rw (x .0, y .0, low .lower (coordsOf (shapeOf p) via .z) (c .z) place (rises v m) (y .1))
-
-    pub part-lowest :
-        IsBox p S D bx by all → FromSet p Adaptive S fa → ((v : ℕ) → v < nodeCount (shapeOf p) → inProduct bx by bz (coordsOf (shapeOf p) v) ≡ true → inSet (shapeOf p) to at v ≡ isClear p Adaptive v D) →
-        LowestVia p S D via
-    part-lowest box out back = lowest-of
-        (λ v l b. record { out = sym (out v l) ∙ b .out; back = sym (back v l (b .box)) ∙ b .back; sum = box v l .0 (more (coordsOf (shapeOf p) v) (b .box)) })
-        (λ v l m w. let here = fewer v m (box v l .1 (w .sum)) in record { box = here; out = out v l ∙ w .out; back = back v l here ∙ w .back })

@@ -26,7 +26,7 @@ use Rattle.plan.proofs.Plans.{accepted}
 use Rattle.rows.specs.Bits.{bit, rowOf}
 use Rattle.rows.specs.Rows.{inRows, inSet, inProduct}
 use Rattle.rows.specs.Product.{Are}
-use Rattle.rows.proofs.Bits.{row-bit, bit-past}
+use Rattle.rows.proofs.Bits.{row-bit}
 use Rattle.losses.specs.Loss.{onLeg}
 use Rattle.losses.specs.OfPlan.{AreLosses}
 use Rattle.losses.proofs.AtPlan.{clear-is}
@@ -34,8 +34,7 @@ use Rattle.masks.specs.Masks.{Ended}
 use Rattle.sets.specs.Clear.{clearIn}
 use Rattle.sets.proofs.Sets.{clear-set, clear-in}
 use Rattle.search.specs.FirstVia.{hasRows}
-use Rattle.search.specs.Planes.{Clipped}
-use Rattle.first_clear.specs.Known.{isClear, OfPlan, IsAt, FromSet, ToSet, ToBetween, OnlyBetween, BothTo, BothBetween, LowPart}
+use Rattle.first_clear.specs.Known.{isClear, OfPlan, IsAt, FromSet, ToSet, ToBetween, OnlyBetween, BothTo, BothBetween}
 use Rattle.first_clear.specs.Rows.{Elsewhere, Put}
 
 pub shape-ok : (p : List ℕ) → planError large p ≡ 0 → shapeError (shapeOf p) ≡ 0
@@ -156,16 +155,3 @@ both-between p h S D second old new room g a d o = record {
 pub rows-missing : (len at n : ℕ) (b : Bool) → b ≡ hasRows len at n → b ≡ false → at + n ≤ len → ⊥
 unfolding hasRows
 rows-missing len at n b e f l = true≢false (sym (le-leb (at + n) len l) ∙ sym e ∙ f)
-
--- ---- a lower part of a mask
-pub low-whole : (mask : ℕ) → LowPart mask mask
-low-whole mask = record { keeps = λ i e. e; lower = λ i j e l k. k }
-
-pub low-clipped : (len mask r : ℕ) → Clipped len mask r → LowPart mask r
-low-clipped len mask r g = record {
-  keeps = λ i e. sym (g .keeps i (within i e)) ∙ e;
-  lower = λ i j e l k. let below = within i e in g .keeps j (omega arith) ∙ k;
-}
-  where
-    within : (i : ℕ) → bit r i ≡ true → i < len
-    within i e = by-le len i (λ l. absurd (true≢false (sym e ∙ bit-past len r i (g .below) l))) (λ l. l)

@@ -21,7 +21,6 @@ use Rattle.packet.specs.declared.route.Route.{Route}
 use Rattle.choice.specs.declared.outcome.Outcome.{Outcome}
 use Rattle.choice.specs.Outcome.{told}
 use Rattle.choice.specs.Pair.{soundIn, routeIn, chosen}
-use Rattle.rows.specs.Bits.{bit}
 use Rattle.rows.specs.Rows.{inSet, inProduct}
 use Rattle.losses.specs.Loss.{onLeg}
 use Rattle.losses.specs.OfPlan.{AreLosses}
@@ -109,11 +108,6 @@ abbrev pub IsBox : List ℕ → ℕ → ℕ → ℕ → ℕ → ℕ → Type 0
 IsBox p S D bx by bz =
     (v : ℕ) → v < nodeCount (shapeOf p) → (inProduct bx by bz (coordsOf (shapeOf p) v) ≡ true) ↔ (distance (shapeOf p) S v + distance (shapeOf p) v D ≡ distance (shapeOf p) S D)
 
--- r has the places of the mask below some place, and no others.
-pub record LowPart (mask r : ℕ) : Type 0 where
-  pub keeps : (i : ℕ) → bit r i ≡ true → bit mask i ≡ true
-  pub lower : (i j : ℕ) → bit r i ≡ true → j ≤ i → bit mask j ≡ true → bit r j ≡ true
-
 -- The first n of `near` stand for all losses on the legs to D from the nodes on the shortest ways from S.
 pub record NearLosses (p : List ℕ) (S D : ℕ) (words : List ℕ) (count : ℕ) (near : List ℕ) (n : ℕ) : Type 0 where
   pub few : n ≤ 256
@@ -145,18 +139,6 @@ pub record Nearing (p : List ℕ) (s : Shape) (S D len bx by bz : ℕ) (fa : Lis
   pub out : FromSet p Adaptive S fa
   pub back : ToBetween p Adaptive S D to at
   pub room : at + 256 ≤ length to
-
--- The lowest plane, by the masks of D.
-pub record InBox (p : List ℕ) (s : Shape) (S D bx by bz : ℕ) (ends near : List ℕ) (n : ℕ) (fa : List ℕ) : Type 0 where
-  pub words : List ℕ
-  pub count : ℕ
-  pub of-plan : OfPlan p s words count
-  pub standing : NearLosses p S D words count near n
-  pub at : Coords
-  pub target : IsAt p D at
-  pub box : IsBox p S D bx by bz
-  pub ended : Ended Adaptive false s at ends
-  pub out : FromSet p Adaptive S fa
 
 -- The first steps, by the masks of D.
 pub record NearMasks (p : List ℕ) (s : Shape) (S D : ℕ) (a t : Coords) (near : List ℕ) (n : ℕ) (ends fa : List ℕ) (straight : Bool) (run : List ℕ) : Type 0 where

@@ -2,8 +2,6 @@
 use crate::best::best_outcome;
 use crate::near::is_given;
 use crate::near::near_outcome;
-use crate::near::near_route;
-use crate::part::part_via;
 use crate::sets_of::put_both;
 use crate::sets_of::put_rows;
 use choice::Outcome;
@@ -36,10 +34,6 @@ pub fn near_by_masks(
 {
     let b = box_of(shape, a, t);
     let length = distance_at(shape, a, t);
-    let via = part_via(shape, b.x, b.y, b.z, masks, near, nears, fa);
-    if via < 4096 {
-        return near_route(via, straight, length);
-    }
     let set = clear_in(b.x, b.y, b.z, masks, near, nears);
     put_rows(run, 0, &set);
     near_outcome(shape, length, b.x, b.y, b.z, fa, straight, run, 0)

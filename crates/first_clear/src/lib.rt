@@ -2,5 +2,4 @@
 pub mod best;
 pub mod dest;
 pub mod near;
-pub mod part;
 pub mod sets_of;

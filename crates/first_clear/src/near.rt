@@ -12,7 +12,7 @@ ghost use Prim.Native.Nat.{ℕ};
 ghost use Rattle.first_clear.specs.Known.{isGiven, nearRoute, Near, Nearing};
 
 // `via`: 4096 where there is none. `straight`: the direct deterministic leg is clear.
-pub fn near_route(via: u16, straight: bool, length: u16) -> Outcome
+fn near_route(via: u16, straight: bool, length: u16) -> Outcome
     ensures { λ r. ⌜ r ≡ nearRoute via straight length ⌝ }
 {
     if via < 4096 {

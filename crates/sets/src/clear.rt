@@ -13,6 +13,9 @@ fn less_part(rows: &mut [u16; 256], ends: &[u16; 288], kind: u16, w: u16, bx: u1
     ensures { λ _. ⌜ Less (λ r x. partIn (now (ends .entry)) kind w (nodeAt r x) && product bx by bz r x) (now (rows .entry)) (now (rows .exit)) ⌝ }
 {
     let x = mask_in(ends, kind, 0, w % 16) & bx;
+    if x == 0 {
+        return;
+    }
     let y = mask_in(ends, kind, 1, w / 16 % 16) & by;
     let z = mask_in(ends, kind, 2, w / 256 % 16) & bz;
     less(rows, x, y, z);
