@@ -26,7 +26,7 @@ use Rattle.route_value.specs.Writing.{routeEntries, sheetOf, countError}
 use Rattle.losses.specs.OfPlan.{AreLosses}
 use Rattle.masks.specs.Masks.{gatherAt, Ended, Masked}
 use Rattle.planner.specs.declared.boards.Step.{Step}
-use Rattle.planner.specs.Sheet.{sourceError, entriesFrom, plannedSheet}
+use Rattle.planned_sheet.specs.Sheet.{sourceError, entriesFrom, plannedSheet}
 use Rattle.planner.specs.Run.{runError}
 use Rattle.planner.specs.Known.{OfPlan, IsAt, Filled, Prepared}
 use Rattle.planner.specs.Steps.{Boarded}
@@ -34,8 +34,8 @@ use Rattle.planner.proofs.Knowing.{shape-ok, dead-byte}
 use Rattle.planner.proofs.FirstSteps.{nodes-few}
 use Rattle.planner.proofs.Destination.{gathered-at}
 use Rattle.planner.proofs.Filling.{at-coords}
-use Rattle.planner.proofs.Planning.{Source, source-of, no-error}
-use Rattle.planner.proofs.Writing.{put-is}
+use Rattle.planned_sheet.proofs.Planning.{Source, source-of, no-error}
+use Rattle.planned_sheet.proofs.Written.{put-is}
 use Rattle.planner.proofs.Checking.{accepted-run}
 
 -- What is made of a plan once a run.

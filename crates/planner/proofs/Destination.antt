@@ -46,7 +46,7 @@ use Rattle.masks.proofs.Tables.{gathered}
 use Rattle.planner.specs.Known.{isClear, OfPlan, IsAt, FromSet, ToBetween, OnlyBetween, BothTo, IsBox, NearLosses, routeTold, isGiven, Near, Nearing, Faring, Ready, BySets, ByLosses}
 use Rattle.planner.proofs.Knowing.{shape-ok, dead-byte, to-within, within-only}
 use Rattle.planner.proofs.FirstSteps.{nodes-few}
-use Rattle.planner.proofs.Planning.{Source, pair-dead, pair-alive}
+use Rattle.planned_sheet.proofs.Planning.{Source, pair-dead, pair-alive}
 
 -- The answer of the first steps, or else that of the last.
 pub first-given : (p : List ℕ) (S D : ℕ) (r : Outcome) (b : Bool) → Near p S D r → b ≡ isGiven r → b ≡ true → r ≡ routeTold p S D

@@ -2,6 +2,7 @@
 mod between;
 mod boards;
 mod dest;
+mod errors;
 mod far;
 mod fill;
 mod listed;
