@@ -7,6 +7,7 @@ use lib.ListN.{length, drop}
 use lib.Dec.{ltb, eqb}
 use Rattle.numbers.specs.Numbers.{nodeOutside, deadEnd, outputShort}
 use Rattle.theory.specs.Checks.{declined, _then_}
+use Rattle.sheet.specs.declared.output.Written as Output
 use Rattle.plan.specs.Checks.{large}
 use Rattle.planned_sheet.specs.Sheet.{sourceError, plannedSheet}
 use Rattle.planner.specs.declared.boards.Step.{Step}
@@ -25,6 +26,11 @@ firstError e known dead =
 -- The answer with `all` boards: 12 where nothing was written and a sheet is left.
 unfoldable pub ended : Run → ℕ → Answer
 ended run all = cond (eqb (run .size) 0 && ltb (run .next) all) (Refused outputShort) (Written run)
+
+-- What writing a board's sheet answers, in a run.
+unfoldable pub stepOf : Output.Written → Step
+stepOf (Output.Written.Bytes n) = record { size = n; full = false }
+stepOf (Output.Written.Refused n) = record { size = 0; full = eqb n outputShort }
 
 -- A board's turn in a run, which turns the lent bytes o into t.
 pub record Boarded (p : List ℕ) (S : ℕ) (o : List ℕ) (r : Step) (t : List ℕ) : Type 0 where
