@@ -4,7 +4,7 @@ use native.Mathlib.Omega.{arith}
 use native.Mathlib.Numerals.{add-one}
 use mathlib.Core.Path.{_≡_, refl, sym, ap, _∙_}
 use mathlib.Core.Bool.{true, false, cond, true≢false}
-use mathlib.Core.List.{List, [], _∷_, _++_}
+use mathlib.Core.List.{List, [], _∷_, _++_, append-assoc, append-nil}
 use lib.ListN.{length, getD, set, length-set, replicate}
 use lib.Seq.{getD-set-same, getD-set-other}
 use Rattle.theory.proofs.Cases.{by-order}
@@ -36,14 +36,6 @@ from-last f (suc n) i =
     let e : suc n + 1 ≡ suc (n + 1) = omega arith in
     let k : suc i + n ≡ i + suc n = omega arith in
     rw e (ap (λ l. f i ∷ l) (from-last f n (suc i) ∙ ap (λ j. listFrom f (suc i) n ++ (f j ∷ [])) k))
-
-append-assoc : (a : List Entry) (e : Entry) (b : List Entry) → (a ++ (e ∷ [])) ++ b ≡ a ++ (e ∷ b)
-append-assoc [] e b = refl
-append-assoc (x ∷ a) e b = ap (λ l. x ∷ l) (append-assoc a e b)
-
-append-nil : (a : List Entry) → a ++ [] ≡ a
-append-nil [] = refl
-append-nil (x ∷ a) = ap (λ l. x ∷ l) (append-nil a)
 
 abbrev pub first : List Entry → ℕ → List Entry
 first es n = listFrom (λ i. getD es i noEntry) 0 n
@@ -99,7 +91,7 @@ module _ (p : List ℕ) (S : ℕ) where
           within = omega arith;
           few = omega (arith, g .few);
           past = later (listed + 1) (λ a. omega (arith, g .past a)) (λ a. absurd (true≢false (sym h ∙ ap (λ n. lists (pair large p S n)) (sym a) ∙ self-unlisted large p S s)));
-          sum = ap (λ a. a ++ entriesFrom large p S (d + 1) (nodeCount (shapeOf p) - (d + 1))) last ∙ append-assoc (first entries listed) e _ ∙ ap (λ a. first entries listed ++ a) (sym (rest ∙ rw h)) ∙ g .sum;
+          sum = ap (λ a. a ++ entriesFrom large p S (d + 1) (nodeCount (shapeOf p) - (d + 1))) last ∙ append-assoc (first entries listed) (e ∷ []) _ ∙ ap (λ a. first entries listed ++ a) (sym (rest ∙ rw h)) ∙ g .sum;
         }
 
     next-unlisted : lists x ≡ false → Listing p S entries listed (d + 1)

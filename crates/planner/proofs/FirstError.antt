@@ -27,15 +27,15 @@ first-error zero false dead x y r ex ey er = er ∙ ey
 first-error (suc e) known dead x y r ex ey er = er ∙ rw (ne-eqb (suc e) 0 (λ z. omega arith))
 
 module _ (p : List ℕ) (s : Shape) (es : s ≡ shapeOf p) (e : ℕ) (ee : e ≡ planError large p) (known dead : Bool) (r : ℕ) (er : r ≡ firstError e known dead) where
-  -- Of an accepted plan.
-  alive : (n : ℕ) → nodeAnswer large p n ≡ (eqb e 0 && deadNode (faultsOf p) n)
+  -- A node is answered to be dead of an accepted plan alone.
+  dead-if : (n : ℕ) → nodeAnswer large p n ≡ (eqb e 0 && deadNode (faultsOf p) n)
   unfolding isPlan
-  alive n = rw ee
+  dead-if n = rw ee
 
   pub pair-error :
       (S D : ℕ) (a b c d : Bool) → a ≡ isNode s S → b ≡ isNode s D → known ≡ (a && b) → c ≡ nodeAnswer large p S → d ≡ nodeAnswer large p D → dead ≡ (c || d) → r ≡ pairError large p S D
   unfolding pairError firstError
-  pair-error S D a b c d ea eb ek ec ed eD = er ∙ rw (ek, eD, ec ∙ alive S, ed ∙ alive D, ea, eb, es, sym ee) (by-error e (isNode (shapeOf p) S) (isNode (shapeOf p) D) (deadNode (faultsOf p) S) (deadNode (faultsOf p) D))
+  pair-error S D a b c d ea eb ek ec ed eD = er ∙ rw (ek, eD, ec ∙ dead-if S, ed ∙ dead-if D, ea, eb, es, sym ee) (by-error e (isNode (shapeOf p) S) (isNode (shapeOf p) D) (deadNode (faultsOf p) S) (deadNode (faultsOf p) D))
     where
       by-error :
           (e : ℕ) (a b c d : Bool) → (e then declined (not (a && b)) nodeOutside then declined ((eqb e 0 && c) || (eqb e 0 && d)) deadEnd then 0)
@@ -46,7 +46,7 @@ module _ (p : List ℕ) (s : Shape) (es : s ≡ shapeOf p) (e : ℕ) (ee : e ≡
 
   pub source-error : (S : ℕ) → known ≡ isNode s S → dead ≡ nodeAnswer large p S → r ≡ sourceError large p S
   unfolding sourceError firstError
-  source-error S ek ed = er ∙ rw (ek, ed ∙ alive S, es, sym ee) (by-error e (isNode (shapeOf p) S) (deadNode (faultsOf p) S))
+  source-error S ek ed = er ∙ rw (ek, ed ∙ dead-if S, es, sym ee) (by-error e (isNode (shapeOf p) S) (deadNode (faultsOf p) S))
     where
       by-error : (e : ℕ) (a b : Bool) → (e then declined (not a) nodeOutside then declined (eqb e 0 && b) deadEnd then 0) ≡ (e then declined (not a) nodeOutside then declined b deadEnd then 0)
       by-error zero a b = refl

@@ -27,7 +27,7 @@ firstError e known dead =
 unfoldable pub ended : Run → ℕ → Answer
 ended run all = cond (eqb (run .size) 0 && ltb (run .next) all) (Refused outputShort) (Written run)
 
--- What writing a board's sheet answers, in a run.
+-- A step of a run, by what writing the board's sheet answered.
 unfoldable pub stepOf : Output.Written → Step
 stepOf (Output.Written.Bytes n) = record { size = n; full = false }
 stepOf (Output.Written.Refused n) = record { size = 0; full = eqb n outputShort }
