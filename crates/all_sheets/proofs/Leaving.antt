@@ -7,7 +7,7 @@ use lib.ListN.{length, length-append}
 use borrow.Author.Tests.{eq-eqb, ne-eqb}
 use Rattle.plan.specs.Checks.{large, planError}
 use Rattle.plan.specs.Reading.{isPlan}
-use Rattle.planner.specs.Sheet.{sourceError, plannedSheet}
+use Rattle.planned_sheet.specs.Sheet.{sourceError, plannedSheet}
 use Rattle.all_sheets.specs.All.{sheetsFrom, left}
 use Rattle.planner.specs.Run.{runSheets, runNext, joined, boards, runBytes}
 use Rattle.planner.proofs.ByBoard.{by-board}

@@ -8,8 +8,8 @@ use Rattle.plan.specs.Checks.{large}
 use Rattle.routes.specs.Layout.{formatBy}
 use Rattle.routes.proofs.Sheets.{accepted}
 use Rattle.route_value.proofs.Readings.{few}
-use Rattle.planner.specs.Sheet.{sourceError, plannedSheet}
-use Rattle.planner.proofs.Planning.{source-of, sheet-accepted}
+use Rattle.planned_sheet.specs.Sheet.{sourceError, plannedSheet}
+use Rattle.planned_sheet.proofs.Planning.{source-of, sheet-accepted}
 
 module _ (p : List ℕ) (S : ℕ) (ok : sourceError large p S ≡ 0) where
   pub sheet-long : 7 ≤ length (plannedSheet large p S)

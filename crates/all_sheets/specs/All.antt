@@ -7,7 +7,7 @@ use Rattle.machine.specs.Number.{nodeCount}
 use Rattle.plan.specs.Layout.{shapeOf}
 use Rattle.plan.specs.Checks.{large}
 use Rattle.plan.specs.Reading.{isPlan}
-use Rattle.planner.specs.Sheet.{sourceError, plannedSheet}
+use Rattle.planned_sheet.specs.Sheet.{sourceError, plannedSheet}
 
 -- The planned sheets of the sound ones of the n boards from S on, in rising order. A dead board has none.
 unfoldable pub sheetsFrom : List ℕ → ℕ → ℕ → List (List ℕ)

@@ -27,8 +27,8 @@ use Rattle.choice.specs.Answer.{Answer, Given, Refused}
 use Rattle.choice.specs.Pair.{pair}
 use Rattle.routes.specs.Kinds.{hasModes, kindFrom, kindOf}
 use Rattle.routes.proofs.Saying.{admitted-legs}
-use Rattle.planner.specs.Sheet.{sourceError}
-use Rattle.planner.proofs.Planning.{Source, source-of, answer-is}
+use Rattle.planned_sheet.specs.Sheet.{sourceError}
+use Rattle.planned_sheet.proofs.Planning.{Source, source-of, answer-is}
 use Rattle.listing_text.specs.Decimal.{decimal}
 use Rattle.listing_text.specs.Text.{sourceIn, planIn, listingError, line, headLine, kindText, viasText, viaText, lengthText, destLine, destLines, refusedWord, refusal, listingOf}
 use Rattle.listing_text.proofs.Decimals.{at-most-1, at-most-2, at-most-3, at-most-4}

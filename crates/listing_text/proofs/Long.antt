@@ -8,7 +8,7 @@ use Rattle.theory.proofs.Checks.{declines}
 use Rattle.sheet.proofs.Inputs.{DecidedBy}
 use Rattle.plan.specs.Checks.{large, planError}
 use Rattle.plan_input.proofs.Long.{long-declined, error-decided}
-use Rattle.planner.specs.Sheet.{sourceError}
+use Rattle.planned_sheet.specs.Sheet.{sourceError}
 use Rattle.listing_text.specs.Text.{planIn, listingError, refusal, listingOf}
 use Rattle.listing_text.proofs.Sources.{has-source}
 

@@ -21,9 +21,9 @@ use Rattle.plan.specs.Checks.{large}
 use Rattle.choice.specs.Pair.{pair}
 use Rattle.choice.specs.declared.outcome.Outcome.{Outcome}
 use Rattle.choice.specs.Outcome.{told}
-use Rattle.planner.specs.Sheet.{sourceError}
+use Rattle.planned_sheet.specs.Sheet.{sourceError}
 use Rattle.planner.specs.Outcomes.{noOutcome, outcomeAt}
-use Rattle.planner.proofs.Planning.{Source, source-of}
+use Rattle.planned_sheet.proofs.Planning.{Source, source-of}
 use Rattle.listing_text.specs.Text.{sourceIn, planIn, listingError}
 
 -- The checks of the input.

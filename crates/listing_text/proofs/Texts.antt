@@ -11,7 +11,7 @@ use Rattle.plan.specs.Checks.{large}
 use Rattle.choice.specs.Pair.{pair}
 use Rattle.choice.specs.declared.outcome.Outcome.{Outcome}
 use Rattle.planner.specs.Outcomes.{noOutcome, outcomeAt}
-use Rattle.planner.proofs.Planning.{source-of, answer-is}
+use Rattle.planned_sheet.proofs.Planning.{source-of, answer-is}
 use Rattle.listing_text.specs.declared.writing.Head.{Head}
 use Rattle.listing_text.specs.Text.{sourceIn, planIn, listingError, headLine, refusal, listingOf}
 use Rattle.listing_text.specs.Steps.{Put, headOf, outcomeLines, outcomesText}

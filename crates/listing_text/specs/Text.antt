@@ -14,7 +14,7 @@ use Rattle.choice.specs.Choice.{viasOf, lengthOf}
 use Rattle.choice.specs.Answer.{Answer, Given, Refused}
 use Rattle.choice.specs.Pair.{pair}
 use Rattle.routes.specs.Kinds.{kindOf}
-use Rattle.planner.specs.Sheet.{sourceError}
+use Rattle.planned_sheet.specs.Sheet.{sourceError}
 use Rattle.listing_text.specs.Decimal.{decimal}
 
 -- A two-byte source, then a plan sheet.

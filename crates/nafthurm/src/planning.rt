@@ -16,7 +16,7 @@ ghost use Rattle.plan.specs.Layout.{shapeOf};
 ghost use Rattle.plan.specs.Checks.{large};
 ghost use Rattle.choice.specs.Pair.{pair};
 ghost use Rattle.choice.specs.Outcome.{told};
-ghost use Rattle.planner.specs.Sheet.{sourceError, plannedSheet};
+ghost use Rattle.planned_sheet.specs.Sheet.{sourceError, plannedSheet};
 ghost use Rattle.planner.specs.Run.{runAnswer, runOutput, passes};
 ghost use Rattle.nafthurm.specs.Forms.{writtenFor, plannedFor, runFor};
 

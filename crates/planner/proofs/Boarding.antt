@@ -6,7 +6,6 @@ use mathlib.Core.Logic.{inr}
 use mathlib.Core.Bool.{true, false}
 use mathlib.Core.List.{List, _++_}
 use lib.ListN.{length, getD, drop}
-use lib.Dec.{eqb}
 use Rattle.theory.proofs.Cases.{test}
 use Rattle.sheet.specs.declared.output.Written.{Written}
 use Rattle.sheet.specs.declared.output.Written.the-variants.{Bytes, Refused}
@@ -26,18 +25,18 @@ use Rattle.route_value.specs.Writing.{routeEntries, sheetOf, countError}
 use Rattle.losses.specs.OfPlan.{AreLosses}
 use Rattle.masks.specs.Masks.{gatherAt, Ended, Masked}
 use Rattle.planner.specs.declared.boards.Step.{Step}
-use Rattle.planner.specs.Sheet.{sourceError, entriesFrom, plannedSheet}
+use Rattle.planned_sheet.specs.Sheet.{sourceError, entriesFrom, plannedSheet}
 use Rattle.planner.specs.Run.{runError}
 use Rattle.first_clear.specs.Known.{OfPlan, IsAt}
 use Rattle.planner.specs.Known.{Filled, Prepared}
-use Rattle.planner.specs.Steps.{Boarded}
+use Rattle.planner.specs.Steps.{stepOf, Boarded}
 use Rattle.first_clear.proofs.Knowing.{shape-ok}
 use Rattle.planner.proofs.Destination.{dead-byte}
 use Rattle.first_clear.proofs.FirstSteps.{nodes-few}
 use Rattle.first_clear.proofs.Destination.{gathered-at}
 use Rattle.planner.proofs.Filling.{at-coords}
-use Rattle.planner.proofs.Planning.{Source, source-of, no-error}
-use Rattle.planner.proofs.Writing.{put-is}
+use Rattle.planned_sheet.proofs.Planning.{Source, source-of, no-error}
+use Rattle.planned_sheet.proofs.Written.{put-is}
 use Rattle.planner.proofs.Checking.{accepted-run}
 
 -- What is made of a plan once a run.
@@ -49,10 +48,6 @@ module _ (p : List ℕ) (from : ℕ) (s : Shape) (words : List ℕ) (count : ℕ
       (dead ta td work : List ℕ) → ((n : ℕ) → getD dead n 0 ≡ bitOf (nodeAnswer large p n)) → Masked Adaptive false s ta → Masked Deterministic false s td → Filled p work →
       Prepared p s words count dead ta td work
   run-prepared dead ta td work nodes ma md f = record { of-plan = run-plan; nodes = nodes; adaptive = ma; deterministic = md; sets = inr f }
-
-abbrev stepOf : Written → Step
-stepOf (Bytes n) = record { size = n; full = false }
-stepOf (Refused n) = record { size = 0; full = eqb n 12 }
 
 -- The sheet s of a sound source, which turns the lent bytes o into t.
 module _ (p : List ℕ) (S : ℕ) (sound : sourceError large p S ≡ 0) (o t : List ℕ) (w : Written) (made : (w ≡ written (roomError (sourceError large p S) (plannedSheet large p S) o) (plannedSheet large p S)) × (t ≡ outAfter (roomError (sourceError large p S) (plannedSheet large p S) o) (plannedSheet large p S) o)) where
@@ -72,17 +67,12 @@ module _ (p : List ℕ) (S : ℕ) (sound : sourceError large p S ≡ 0) (o t : L
   fitting h l = rw (room e s o h l) at made
 
   boarded : Boarded p S o (stepOf w) t
+  unfolding stepOf
   boarded = record {
     dead = λ n. absurd (n sound);
     fits = λ h l. let k = fitting h l in (ap (λ x. stepOf x .size) (k .0), ap (λ x. stepOf x .full) (k .0), k .1);
     full = λ h l. let k = refusal 12 (λ z. omega arith) (no-room e s o h l) in (ap (λ x. stepOf x .full) (k .0), k .1);
   }
-
-  boarded-bytes : (n : ℕ) → w ≡ Bytes n → Boarded p S o (record { size = n; full = false }) t
-  boarded-bytes n q = rw q at boarded
-
-  boarded-refused : (n : ℕ) → w ≡ Refused n → Boarded p S o (record { size = 0; full = eqb n 12 }) t
-  boarded-refused n q = rw q at boarded
 
 module _ (p : List ℕ) (s : Shape) (words : List ℕ) (count : ℕ) (dead ta td work : List ℕ) (k : Prepared p s words count dead ta td work) (S : ℕ) (l : S < nodeCount (shapeOf p)) where
   pub board-small : S < 4096
@@ -114,13 +104,9 @@ module _ (p : List ℕ) (s : Shape) (words : List ℕ) (count : ℕ) (dead ta td
         let at = at-coords p h s S a (k .of-plan .shape) l e in
         (k, (at, (gathered-at p s S a sa adaptive h at Adaptive true (m .0) ga, (gathered-at p s S a sd deterministic h at Deterministic true (m .1) gd, source .alive))))
 
-    module _ (r : Routes) (made : (r .source ≡ S) × (routeEntries r ≡ entriesFrom large p S 0 (nodeCount (shapeOf p)))) (o t : List ℕ) (w : Written)
-        (put : (w ≡ written (roomError (countError r) (sheetOf r) o) (sheetOf r)) × (t ≡ outAfter (roomError (countError r) (sheetOf r) o) (sheetOf r) o)) where
-      sound : sourceError large p S ≡ 0
-      sound = no-error large p S source
-
-      pub board-bytes : (n : ℕ) → w ≡ Bytes n → Boarded p S o (record { size = n; full = false }) t
-      board-bytes n q = boarded-bytes p S sound o t w (put-is p S 0 r o w t (sym sound) refl made put) n q
-
-      pub board-refused : (n : ℕ) → w ≡ Refused n → Boarded p S o (record { size = 0; full = eqb n 12 }) t
-      board-refused n q = boarded-refused p S sound o t w (put-is p S 0 r o w t (sym sound) refl made put) n q
+    pub board-written :
+        (r : Routes) → (r .source ≡ S) × (routeEntries r ≡ entriesFrom large p S 0 (nodeCount (shapeOf p))) → (o t : List ℕ) (w : Written) →
+        (w ≡ written (roomError (countError r) (sheetOf r) o) (sheetOf r)) × (t ≡ outAfter (roomError (countError r) (sheetOf r) o) (sheetOf r) o) → (step : Step) → step ≡ stepOf w → Boarded p S o step t
+    board-written r made o t w put step e =
+        let sound = no-error large p S source in
+        rw e (boarded p S sound o t w (put-is p S 0 r o w t (sym sound) refl made put))

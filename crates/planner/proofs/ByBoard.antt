@@ -7,7 +7,7 @@ use lib.Dec.{eqb}
 use borrow.Author.Tests.{eqb-true, eqb-false, lt-ltb, le-ltb}
 use Rattle.theory.proofs.Cases.{test, by-le}
 use Rattle.plan.specs.Checks.{large}
-use Rattle.planner.specs.Sheet.{sourceError, plannedSheet}
+use Rattle.planned_sheet.specs.Sheet.{sourceError, plannedSheet}
 use Rattle.planner.specs.Run.{runSheets, runNext}
 
 module _ (p : List ℕ) (S n room : ℕ) where

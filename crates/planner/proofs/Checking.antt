@@ -1,14 +1,13 @@
 -- The checks of a run, and its answer.
-use Prim.Native.Nat.{ℕ, zero, suc, _*_, _≤_, _<_}
+use Prim.Native.Nat.{ℕ, _*_, _≤_, _<_}
 use native.Mathlib.Omega.{arith}
 use mathlib.Core.Path.{_≡_, refl, sym, ap, _∙_}
-use mathlib.Core.Bool.{Bool, true, false, not, cond, true≢false}
+use mathlib.Core.Bool.{not, true≢false}
 use mathlib.Core.List.{List}
 use lib.ListN.{length}
-use lib.Dec.{eqb}
 use borrow.Author.Tests.{eq-eqb, ne-eqb, lt-ltb, le-ltb, not-false}
 use Rattle.numbers.specs.Numbers.{nodeOutside}
-use Rattle.theory.specs.Checks.{declined, _then_}
+use Rattle.theory.specs.Checks.{declined}
 use Rattle.theory.proofs.Checks.{then-zero, declined-zero}
 use Rattle.shape.specs.declared.shape.Shape.{Shape}
 use Rattle.shape.specs.Shape.{shapeError}
@@ -23,17 +22,6 @@ use Rattle.planner.specs.declared.run.Answer.{Answer}
 use Rattle.planner.specs.declared.run.Answer.the-variants.{Refused, FewWords}
 use Rattle.planner.specs.Run.{boards, runOf, runAfter, runError, runAnswer, passes, runOutput, RunWritten}
 use Rattle.planner.specs.Steps.{ended}
-
-checked : (a : Bool) → cond a 0 nodeOutside ≡ (declined (not a) nodeOutside then 0)
-checked true = refl
-checked false = refl
-
-pub run-error :
-    (p : List ℕ) (m : Shape) (from e : ℕ) (a : Bool) → m ≡ shapeOf p → e ≡ planError large p → a ≡ isNode m from →
-    cond (not (eqb e 0)) e (cond a 0 nodeOutside) ≡ runError p from
-unfolding runError
-run-error p m from zero a em ee ea = rw (sym ee, sym em, sym ea) (checked a)
-run-error p m from (suc e) a em ee ea = rw (sym ee, ne-eqb (suc e) 0 (λ z. omega arith))
 
 pub accepted-run : (p : List ℕ) (from : ℕ) → runError p from ≡ 0 → planError large p ≡ 0
 unfolding runError

@@ -27,7 +27,7 @@ use Rattle.first_clear.proofs.Knowing.{shape-ok}
 use Rattle.first_clear.proofs.FirstSteps.{nodes-few}
 use Rattle.first_clear.proofs.Destination.{has-is}
 use Rattle.planner.specs.Known.{Ready, Sifting}
-use Rattle.planner.proofs.Planning.{Source, pair-dead, pair-alive}
+use Rattle.planned_sheet.proofs.Planning.{Source, pair-dead, pair-alive}
 
 -- The byte of a node.
 pub dead-byte : (p dead : List ℕ) → planError large p ≡ 0 → ((n : ℕ) → getD dead n 0 ≡ bitOf (nodeAnswer large p n)) → (n : ℕ) → getD dead n 0 ≡ bitOf (deadNode (faultsOf p) n)

@@ -31,13 +31,13 @@ use Rattle.planner.specs.Outside.{placeOf, Stands, Following}
 use Rattle.choice_number.specs.KeyNumber.{pickOutcome}
 use Rattle.first_clear.specs.Known.{IsAt}
 use Rattle.planner.specs.Known.{Ready}
-use Rattle.planner.specs.Sheet.{sourceError}
+use Rattle.planned_sheet.specs.Sheet.{sourceError}
 use Rattle.planner.specs.Outcomes.{noOutcome, outcomeAt}
 use Rattle.first_clear.proofs.Knowing.{shape-ok}
 use Rattle.first_clear.proofs.FirstSteps.{nodes-few}
-use Rattle.planner.proofs.Planning.{no-error}
+use Rattle.planned_sheet.proofs.Planning.{no-error}
 use Rattle.planner.proofs.Standing.{starts, stands-end, node-small}
-use Rattle.planner.proofs.Unlisted.{pair-direct}
+use Rattle.planned_sheet.proofs.Unlisted.{pair-direct}
 use Rattle.first_clear.proofs.Destination.{length-is, has-is}
 use Rattle.planner.proofs.Destination.{source-is, target-is}
 use Rattle.planner.proofs.Writing.{node-known}

@@ -1,13 +1,12 @@
 pub mod Standing
 pub mod NextOutside
-pub mod Planning
-pub mod Unlisted
 pub mod Destination
 pub mod NearRows
 pub mod Pairs
 pub mod Writing
 pub mod EachOutcome
 pub mod Filling
+pub mod FirstError
 pub mod Checking
 pub mod Boarding
 pub mod ByBoard

@@ -8,7 +8,7 @@ use mathlib.Core.List.{List, [], _∷_, _++_, append-assoc, append-nil}
 use lib.ListN.{length, take, drop, length-append, length-take, length-drop, take-append-drop, drop-of-length-le}
 use lib.Seq.{length-take-le, take-all, take-append-seam, drop-append-seam, drop-drop}
 use Rattle.plan.specs.Checks.{large}
-use Rattle.planner.specs.Sheet.{plannedSheet}
+use Rattle.planned_sheet.specs.Sheet.{plannedSheet}
 use Rattle.planner.specs.declared.boards.Step.{Step}
 use Rattle.planner.specs.declared.run.Run.{Run}
 use Rattle.planner.specs.Run.{runSheets, runNext, joined, boards, runBytes, runOf, runAfter}

@@ -12,7 +12,7 @@ use Rattle.choice.specs.declared.outcome.Outcome.{Outcome}
 use Rattle.choice.specs.Outcome.{told}
 use Rattle.choice.specs.Pair.{pair}
 use Rattle.choice_number.specs.KeyNumber.{pickOutcome}
-use Rattle.planner.specs.Sheet.{sourceError}
+use Rattle.planned_sheet.specs.Sheet.{sourceError}
 
 -- What an array of outcomes holds of no destination.
 abbrev pub noOutcome : Outcome

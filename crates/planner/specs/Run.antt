@@ -11,7 +11,7 @@ use Rattle.machine.specs.Number.{nodeCount}
 use Rattle.machine.specs.Node.{isNode}
 use Rattle.plan.specs.Layout.{shapeOf}
 use Rattle.plan.specs.Checks.{large, planError}
-use Rattle.planner.specs.Sheet.{sourceError, plannedSheet}
+use Rattle.planned_sheet.specs.Sheet.{sourceError, plannedSheet}
 use Rattle.planner.specs.declared.run.Run.{Run}
 use Rattle.planner.specs.declared.run.Answer.{Answer}
 use Rattle.planner.specs.declared.run.Answer.the-variants.{Written, Refused, FewWords}

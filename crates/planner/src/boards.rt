@@ -24,12 +24,27 @@ ghost use Rattle.plan.specs.Checks.{large};
 ghost use Rattle.masks.specs.Masks.{Masked};
 ghost use Rattle.planner.specs.Run.{runError, runOf, runAfter};
 ghost use Rattle.planner.specs.Known.{Prepared};
-ghost use Rattle.planner.specs.Steps.{Boarded};
+ghost use Rattle.planner.specs.Steps.{stepOf, Boarded};
 
 // The bytes of a board's sheet, none where it is dead; and whether the sheet does not fit.
 pub struct Step {
     pub size: usize,
     pub full: bool,
+}
+
+fn step_of(answer: Written) -> Step
+    ensures { λ r. ⌜ r ≡ stepOf answer ⌝ }
+{
+    match answer {
+        Written::Bytes(size) => Step {
+            size: size,
+            full: false,
+        },
+        Written::Refused(number) => Step {
+            size: 0,
+            full: number == OUTPUT_SHORT,
+        },
+    }
 }
 
 // sa, sd: the masks of all sources; ta, td: those of all targets.
@@ -76,16 +91,7 @@ fn write_board(
         &adaptive,
         &deterministic,
     );
-    match put_routes(routes, out) {
-        Written::Bytes(size) => Step {
-            size: size,
-            full: false,
-        },
-        Written::Refused(number) => Step {
-            size: 0,
-            full: number == OUTPUT_SHORT,
-        },
-    }
+    step_of(put_routes(routes, out))
 }
 
 // The run from a board on, with the sets to all nodes.

@@ -1,6 +1,7 @@
 // Planning: a pair, the sheet of a source, all outcomes of a source, and a run of the sheets of all sources.
 mod boards;
 mod dest;
+mod errors;
 mod fill;
 mod listed;
 pub mod outcomes;

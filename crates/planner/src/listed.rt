@@ -21,7 +21,7 @@ ghost use Rattle.plan.specs.Checks.{large};
 ghost use Rattle.dead.specs.Dead.{deadNode};
 ghost use Rattle.masks.specs.Masks.{Ended};
 ghost use Rattle.route_value.specs.Writing.{routeEntries};
-ghost use Rattle.planner.specs.Sheet.{entriesFrom};
+ghost use Rattle.planned_sheet.specs.Sheet.{entriesFrom};
 ghost use Rattle.first_clear.specs.Known.{IsAt};
 ghost use Rattle.planner.specs.Known.{Prepared, Ready};
 

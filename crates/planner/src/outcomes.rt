@@ -25,7 +25,7 @@ ghost use Rattle.plan.specs.Checks.{large};
 ghost use Rattle.dead.specs.Dead.{deadNode};
 ghost use Rattle.choice.specs.Outcome.{told};
 ghost use Rattle.choice.specs.Pair.{pair};
-ghost use Rattle.planner.specs.Sheet.{sourceError};
+ghost use Rattle.planned_sheet.specs.Sheet.{sourceError};
 ghost use Rattle.first_clear.specs.Known.{IsAt};
 ghost use Rattle.planner.specs.Known.{Prepared, Ready};
 ghost use Rattle.planner.specs.Outcomes.{noOutcome, outcomeAt};

@@ -1,4 +1,5 @@
 // Planning a pair: checks 1 to 8, 9, 10, then the first clear choice, or 11.
+use crate::errors::first_error;
 use choice::Outcome;
 use dead::is_dead_node;
 use first_clear::dest::far_by_masks;
@@ -7,15 +8,12 @@ use first_clear::near::is_given;
 use first_clear::sets_of::from_set;
 use logic::both;
 use logic::either;
-use logic::pick;
 use losses::losses;
 use machine::hop::distance_at;
 use machine::leg::Mode;
 use machine::node::coords;
 use machine::node::is_node;
 use masks::table::ends;
-use numbers::DEAD_END;
-use numbers::NODE_OUTSIDE;
 use packet::Route;
 use plan::check;
 use plan::layout::shape_in;
@@ -36,11 +34,7 @@ fn pair_error(plan: &[u8], source: u16, dest: u16) -> u8
     let shape = shape_in(plan);
     let known = both(is_node(shape, source), is_node(shape, dest));
     let dead = either(is_dead_node(plan, source), is_dead_node(plan, dest));
-    pick(
-        error != 0,
-        error,
-        pick(known, pick(dead, DEAD_END, 0), NODE_OUTSIDE),
-    )
+    first_error(error, known, dead)
 }
 
 // Between sound nodes. The direct leg is tried by itself first; what only a later step needs is made there.

@@ -1,10 +1,9 @@
 // A run of sheets: as many whole ones a call as the lent bytes take.
 use crate::boards::write_boards;
+use crate::errors::first_error;
 use logic::both;
-use logic::pick;
 use machine::node::count;
 use machine::node::is_node;
-use numbers::NODE_OUTSIDE;
 use numbers::OUTPUT_SHORT;
 use plan::check;
 use plan::layout::shape_in;
@@ -34,7 +33,7 @@ fn run_error(plan: &[u8], from: u16) -> u8
 {
     let error = check(plan);
     let known = is_node(shape_in(plan), from);
-    pick(error != 0, error, pick(known, 0, NODE_OUTSIDE))
+    first_error(error, known, false)
 }
 
 fn words_for(all: u16) -> usize

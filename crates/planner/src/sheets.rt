@@ -1,16 +1,14 @@
 // Writing a route sheet by planning from a source: checks 1 to 8, 9, 10 (source only), 12.
+use crate::errors::first_error;
 use crate::listed::routes_from;
 use dead::dead_nodes;
 use dead::is_dead_node;
-use logic::pick;
 use losses::losses;
 use machine::leg::Mode;
 use machine::node::coords;
 use machine::node::is_node;
 use masks::table::ends;
 use masks::table::table;
-use numbers::DEAD_END;
-use numbers::NODE_OUTSIDE;
 use plan::check;
 use plan::layout::shape_in;
 use route_value::Routes;
@@ -22,7 +20,7 @@ ghost use Rattle.plan.specs.Layout.{shapeOf};
 ghost use Rattle.plan.specs.Checks.{large};
 ghost use Rattle.machine.specs.Number.{nodeCount};
 ghost use Rattle.route_value.specs.Writing.{routeEntries};
-ghost use Rattle.planner.specs.Sheet.{sourceError, entriesFrom, plannedSheet};
+ghost use Rattle.planned_sheet.specs.Sheet.{sourceError, entriesFrom, plannedSheet};
 
 // Checks 1 to 8, then 9 and 10 of the source; 0 where none declines.
 pub fn source_error(plan: &[u8], source: u16) -> u8
@@ -30,12 +28,7 @@ pub fn source_error(plan: &[u8], source: u16) -> u8
 {
     let error = check(plan);
     let known = is_node(shape_in(plan), source);
-    let dead = is_dead_node(plan, source);
-    pick(
-        error != 0,
-        error,
-        pick(known, pick(dead, DEAD_END, 0), NODE_OUTSIDE),
-    )
+    first_error(error, known, is_dead_node(plan, source))
 }
 
 // What a sheet from a sound source says, by the losses: in fixed memory, with no set to any node kept.

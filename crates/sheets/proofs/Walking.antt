@@ -10,8 +10,8 @@ use Rattle.sheet.specs.Head.{lengthField}
 use Rattle.plan.specs.Checks.{large}
 use Rattle.routes.specs.Layout.{formatBy}
 use Rattle.routes.proofs.Sheets.{accepted}
-use Rattle.planner.specs.Sheet.{sourceError, plannedSheet}
-use Rattle.planner.proofs.Planning.{source-of, sheet-accepted}
+use Rattle.planned_sheet.specs.Sheet.{sourceError, plannedSheet}
+use Rattle.planned_sheet.proofs.Planning.{source-of, sheet-accepted}
 use Rattle.planner.specs.Run.{runSheets, joined}
 use Rattle.planner.proofs.ByBoard.{by-board}
 use Rattle.sheets.specs.declared.tally.Tally.{Tally}

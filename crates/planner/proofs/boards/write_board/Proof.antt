@@ -1,13 +1,7 @@
+use Rattle.planner.proofs.Boarding.{board-small, dead-board, board-at, board-written}
 use borrow.Author.Needs.{needs}
-use Rattle.planner.proofs.Boarding.{board-small, dead-board, board-at, board-bytes, board-refused}
 use Rattle.planner.proofs.boards.write_board.Statement.{statement}
 use Rattle.planner.proofs.boards.write_board.Tie as tie
-use Rattle.planner.proofs.boards.write_board.Reads as reads
-use Rattle.planner.proofs.boards.write_board.Lts as lts
-use Rattle.machine.proofs.node.coords.Reads as coords-reads
-use Rattle.masks.proofs.table.gather.Reads as gather-reads
-use Rattle.planner.proofs.listed.routes_from.Reads as routes-from-reads
-use Rattle.route_value.proofs.put_routes.Reads as put-routes-reads
 
 element-copy-out-if1 : tie.Need-element-copy-out-if1
 element-copy-out-if1 c = board-small _ _ _ _ _ _ _ _ (c .before .before .before .pre .0) _ (c .before .before .before .pre .1 .1)
@@ -30,23 +24,14 @@ routes-from-requires c κs = board-at _ _ _ _ _ _ _ _ (c .before .before .before
 put-routes-requires : tie.Need-put-routes-requires
 put-routes-requires c κs = search needs
 
-enum-known-size : tie.Need-enum-known-size
-enum-known-size c = search needs
-
-enum-known-number : tie.Need-enum-known-number
-enum-known-number c = search needs
+step-of-requires : tie.Need-step-of-requires
+step-of-requires c κs = search needs
 
 same-length : tie.Need-same-length
 same-length c = search needs
 
 returns-2 : tie.Need-returns-2
-returns-2 c = board-bytes _ _ _ _ _ _ _ _ (c .before .before .before .before .before .before .before .before .before .before .before .before .before .before .before .before .before .before .pre .0) _ (c .before .before .before .before .before .before .before .before .before .before .before .before .before .before .before .before .before .before .pre .1 .1) (c .before .before .before .before .before .before .before .before .before .before .before .before .before .if1 .left) _ (c .before .before .before .before .before .before .before .routes-from .ensures) _ _ _ (c .before .before .before .before .before .put-routes .ensures) _ (c .before .size .given .1)
-
-same-length-2 : tie.Need-same-length-2
-same-length-2 c = search needs
-
-returns-3 : tie.Need-returns-3
-returns-3 c = board-refused _ _ _ _ _ _ _ _ (c .before .before .before .before .before .before .before .before .before .before .before .before .before .before .before .before .before .before .pre .0) _ (c .before .before .before .before .before .before .before .before .before .before .before .before .before .before .before .before .before .before .pre .1 .1) (c .before .before .before .before .before .before .before .before .before .before .before .before .before .if1 .left) _ (c .before .before .before .before .before .before .before .routes-from .ensures) _ _ _ (c .before .before .before .before .before .put-routes .ensures) _ (c .before .number .given .1)
+returns-2 c = board-written _ _ _ _ _ _ _ _ (c .before .before .before .before .before .before .before .before .before .before .before .before .before .before .before .before .pre .0) _ (c .before .before .before .before .before .before .before .before .before .before .before .before .before .before .before .before .pre .1 .1) (c .before .before .before .before .before .before .before .before .before .before .before .if1 .left) _ (c .before .before .before .before .before .routes-from .ensures) _ _ _ (c .before .before .before .put-routes .ensures) _ (c .step-of .ensures)
 
 pub write-board-spec : {M : Type 1} → statement M
 write-board-spec =
@@ -59,9 +44,6 @@ write-board-spec =
     gather-requires-2
     routes-from-requires
     put-routes-requires
-    enum-known-size
-    enum-known-number
+    step-of-requires
     same-length
-    returns-2
-    same-length-2
-    returns-3)
+    returns-2)

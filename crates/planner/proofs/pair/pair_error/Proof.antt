@@ -1,4 +1,4 @@
-use Rattle.planner.proofs.Pairs.{pair-error}
+use Rattle.planner.proofs.FirstError.{pair-error}
 use borrow.Author.Needs.{needs}
 use Rattle.planner.proofs.pair.pair_error.Statement.{statement}
 use Rattle.planner.proofs.pair.pair_error.Tie as tie
@@ -27,17 +27,11 @@ is-dead-node-requires-2 c κs = search needs
 either-requires : tie.Need-either-requires
 either-requires c κs = search needs
 
-pick-requires : tie.Need-pick-requires
-pick-requires c κs = search needs
-
-pick-requires-2 : tie.Need-pick-requires-2
-pick-requires-2 c κs = search needs
-
-pick-requires-3 : tie.Need-pick-requires-3
-pick-requires-3 c κs = search needs
+first-error-requires : tie.Need-first-error-requires
+first-error-requires c κs = search needs
 
 returns : tie.Need-returns
-returns c = cc (pair-error _ _ _ _ _ _ _ _ _ (c .before .before .before .before .before .before .before .before .before .shape-in .ensures) (c .before .before .before .before .before .before .before .before .before .before .check .ensures) (c .before .before .before .before .before .before .before .before .is-node .ensures) (c .before .before .before .before .before .before .before .is-node2 .ensures) (c .before .before .before .before .before .is-dead-node .ensures) (c .before .before .before .before .is-dead-node2 .ensures))
+returns c = pair-error _ _ (c .before .before .before .before .before .before .before .shape-in .ensures) _ (c .before .before .before .before .before .before .before .before .check .ensures) _ _ _ (c .first-error .ensures) _ _ _ _ _ _ (c .before .before .before .before .before .before .is-node .ensures) (c .before .before .before .before .before .is-node2 .ensures) (c .before .before .before .before .both .ensures) (c .before .before .before .is-dead-node .ensures) (c .before .before .is-dead-node2 .ensures) (c .before .either .ensures)
 
 pub pair-error-spec : {M : Type 1} → statement M
 pair-error-spec =
@@ -51,7 +45,5 @@ pair-error-spec =
     is-dead-node-requires
     is-dead-node-requires-2
     either-requires
-    pick-requires
-    pick-requires-2
-    pick-requires-3
+    first-error-requires
     returns)

@@ -1,5 +1,6 @@
+use mathlib.Core.Path.{refl}
+use Rattle.planner.proofs.FirstError.{run-error}
 use borrow.Author.Needs.{needs}
-use Rattle.planner.proofs.Checking.{run-error}
 use Rattle.planner.proofs.run.run_error.Statement.{statement}
 use Rattle.planner.proofs.run.run_error.Tie as tie
 
@@ -12,22 +13,13 @@ shape-in-requires c κs = search needs
 is-node-requires : tie.Need-is-node-requires
 is-node-requires c κs = search needs
 
-pick-requires : tie.Need-pick-requires
-pick-requires c κs = search needs
-
-pick-requires-2 : tie.Need-pick-requires-2
-pick-requires-2 c κs = search needs
+first-error-requires : tie.Need-first-error-requires
+first-error-requires c κs = search needs
 
 returns : tie.Need-returns
-returns c = cc (run-error _ _ _ _ _ (c .before .before .before .shape-in .ensures) (c .before .before .before .before .check .ensures) (c .before .before .is-node .ensures))
+returns c = run-error _ _ (c .before .before .shape-in .ensures) _ (c .before .before .before .check .ensures) _ _ _ (c .first-error .ensures) _ (c .before .is-node .ensures) refl
 
 pub run-error-spec : {M : Type 1} → statement M
 run-error-spec =
     tie.close
-    (tie.spec
-    check-requires
-    shape-in-requires
-    is-node-requires
-    pick-requires
-    pick-requires-2
-    returns)
+    (tie.spec check-requires shape-in-requires is-node-requires first-error-requires returns)

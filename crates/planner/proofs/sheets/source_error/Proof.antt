@@ -1,4 +1,4 @@
-use Rattle.planner.proofs.Writing.{source-error}
+use Rattle.planner.proofs.FirstError.{source-error}
 use borrow.Author.Needs.{needs}
 use Rattle.planner.proofs.sheets.source_error.Statement.{statement}
 use Rattle.planner.proofs.sheets.source_error.Tie as tie
@@ -15,17 +15,11 @@ is-node-requires c κs = search needs
 is-dead-node-requires : tie.Need-is-dead-node-requires
 is-dead-node-requires c κs = search needs
 
-pick-requires : tie.Need-pick-requires
-pick-requires c κs = search needs
-
-pick-requires-2 : tie.Need-pick-requires-2
-pick-requires-2 c κs = search needs
-
-pick-requires-3 : tie.Need-pick-requires-3
-pick-requires-3 c κs = search needs
+first-error-requires : tie.Need-first-error-requires
+first-error-requires c κs = search needs
 
 returns : tie.Need-returns
-returns c = cc (source-error _ _ _ _ _ _ (c .before .before .before .before .before .shape-in .ensures) (c .before .before .before .before .before .before .check .ensures) (c .before .before .before .before .is-node .ensures) (c .before .before .before .is-dead-node .ensures))
+returns c = source-error _ _ (c .before .before .before .shape-in .ensures) _ (c .before .before .before .before .check .ensures) _ _ _ (c .first-error .ensures) _ (c .before .before .is-node .ensures) (c .before .is-dead-node .ensures)
 
 pub source-error-spec : {M : Type 1} → statement M
 source-error-spec =
@@ -35,7 +29,5 @@ source-error-spec =
     shape-in-requires
     is-node-requires
     is-dead-node-requires
-    pick-requires
-    pick-requires-2
-    pick-requires-3
+    first-error-requires
     returns)

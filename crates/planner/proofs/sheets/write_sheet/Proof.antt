@@ -1,4 +1,4 @@
-use Rattle.planner.proofs.Writing.{refused-source, put-is}
+use Rattle.planned_sheet.proofs.Written.{refused-source, put-is}
 use borrow.Author.Needs.{needs}
 use Rattle.planner.proofs.sheets.write_sheet.Statement.{statement}
 use Rattle.planner.proofs.sheets.write_sheet.Tie as tie

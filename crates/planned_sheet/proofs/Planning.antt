@@ -39,8 +39,8 @@ use Rattle.route_value.specs.Reading.{reading}
 use Rattle.route_value.specs.Value.{routesWith}
 use Rattle.route_value.proofs.Written.{written-accepted, written-says}
 use Rattle.route_value.proofs.RoundTrips.{good-written-read}
-use Rattle.planner.specs.Sheet.{sourceError, lists, entriesFrom, plannedSheet}
-use Rattle.planner.specs.Demand.{SheetDemand}
+use Rattle.planned_sheet.specs.Sheet.{sourceError, lists, entriesFrom, plannedSheet}
+use Rattle.planned_sheet.specs.Demand.{SheetDemand}
 
 -- A sound source of an accepted plan.
 pub record Source (L : Limits) (p : List ℕ) (S : ℕ) : Type 0 where

@@ -4,7 +4,7 @@ use mathlib.Core.List.{List}
 use Rattle.plan.specs.Checks.{Limits}
 use Rattle.choice.specs.Demand.{PlannedIn}
 use Rattle.routes.specs.Says.{says}
-use Rattle.planner.specs.Sheet.{plannedSheet}
+use Rattle.planned_sheet.specs.Sheet.{plannedSheet}
 
 -- The entry for no clear choice, 11, is the refusal of a route; a lookup is declined by nothing else.
 abbrev pub SheetDemand : Limits → List ℕ → ℕ → ℕ → Type 0

@@ -1,0 +1,4 @@
+pub mod Planning
+pub mod Unlisted
+pub mod Listing
+pub mod Written
