@@ -37,31 +37,6 @@ use Rattle.first_clear.proofs.Knowing.{shape-ok}
 use Rattle.first_clear.proofs.Destination.{length-is, none-given, all-near}
 
 -- ---- the checks of a pair
-checks : (a b c d : Bool) → cond (a && b) (cond (c || d) deadEnd 0) nodeOutside ≡ (declined (not a || not b) nodeOutside then declined (c || d) deadEnd then 0)
-checks true true true d = refl
-checks true true false true = refl
-checks true true false false = refl
-checks true false c d = refl
-checks false b c d = refl
-
-pub pair-error :
-    (p : List ℕ) (s : Shape) (S D e : ℕ) (a b c d : Bool) →
-    s ≡ shapeOf p →
-    e ≡ planError large p →
-    a ≡ isNode s S →
-    b ≡ isNode s D →
-    c ≡ nodeAnswer large p S →
-    d ≡ nodeAnswer large p D →
-    cond (not (eqb e 0)) e (cond (a && b) (cond (c || d) deadEnd 0) nodeOutside) ≡ pairError large p S D
-unfolding pairError isPlan
-pair-error p s S D zero a b c d es ee ea eb ec ed =
-    let z : planError large p ≡ 0 = sym ee in
-    let plan = eq-eqb (planError large p) 0 z in
-    let dS : c ≡ deadNode (faultsOf p) S = ec ∙ rw plan in
-    let dD : d ≡ deadNode (faultsOf p) D = ed ∙ rw plan in
-    rw (z, sym es, sym ea, sym eb, sym dS, sym dD) (checks a b c d)
-pair-error p s S D (suc e) a b c d es ee ea eb ec ed = rw (sym ee, ne-eqb (suc e) 0 (λ z. omega arith))
-
 -- None of them declines.
 pub record Accepted (p : List ℕ) (S D : ℕ) : Type 0 where
   pub plan : planError large p ≡ 0
