@@ -12,7 +12,7 @@ check-requires : tie.Need-check-requires
 check-requires c κs = search needs
 
 returns : tie.Need-returns
-returns c = cc
+returns c = rw (← c .before .before .packet-of .ensures, ← c .before .shape-of .ensures) (c .check .ensures)
 
 pub nafthurm-packet-check-spec : {M : Type 1} → statement M
 nafthurm-packet-check-spec =

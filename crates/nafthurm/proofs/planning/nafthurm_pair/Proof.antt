@@ -1,3 +1,5 @@
+use Rattle.nafthurm.specs.Forms.{plannedFor}
+use mathlib.Core.Path.{ap, _∙_}
 use borrow.Author.Needs.{needs}
 use Rattle.nafthurm.proofs.planning.nafthurm_pair.Statement.{statement}
 use Rattle.nafthurm.proofs.planning.nafthurm_pair.Tie as tie
@@ -9,7 +11,7 @@ planned-for-requires : tie.Need-planned-for-requires
 planned-for-requires c κs = search needs
 
 returns : tie.Need-returns
-returns c = cc
+returns c = c .planned-for .ensures ∙ ap plannedFor (c .before .pair .ensures)
 
 pub nafthurm-pair-spec : {M : Type 1} → statement M
 nafthurm-pair-spec = tie.close (tie.spec pair-requires planned-for-requires returns)

@@ -1,3 +1,5 @@
+use Rattle.nafthurm.specs.Forms.{routeFor}
+use mathlib.Core.Path.{ap, _∙_}
 use borrow.Author.Needs.{needs}
 use Rattle.nafthurm.proofs.sheets.nafthurm_lookup_route.Statement.{statement}
 use Rattle.nafthurm.proofs.sheets.nafthurm_lookup_route.Tie as tie
@@ -9,7 +11,7 @@ route-for-requires : tie.Need-route-for-requires
 route-for-requires c κs = search needs
 
 returns : tie.Need-returns
-returns c = cc
+returns c = c .route-for .ensures ∙ ap routeFor (c .before .route .ensures)
 
 pub nafthurm-lookup-route-spec : {M : Type 1} → statement M
 nafthurm-lookup-route-spec = tie.close (tie.spec route-requires route-for-requires returns)

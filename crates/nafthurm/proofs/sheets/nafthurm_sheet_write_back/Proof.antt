@@ -1,3 +1,5 @@
+use Rattle.nafthurm.specs.Forms.{writtenFor}
+use mathlib.Core.Path.{ap, _∙_}
 use borrow.Author.Needs.{needs}
 use Rattle.nafthurm.proofs.sheets.nafthurm_sheet_write_back.Statement.{statement}
 use Rattle.nafthurm.proofs.sheets.nafthurm_sheet_write_back.Tie as tie
@@ -12,7 +14,7 @@ same-length : tie.Need-same-length
 same-length c = search needs
 
 returns : tie.Need-returns
-returns c = (cc, cc)
+returns c = let e = c .before .before .before .write-back .ensures in (c .written-for .ensures ∙ ap writtenFor (e .0), e .1)
 
 pub nafthurm-sheet-write-back-spec : {M : Type 1} → statement M
 nafthurm-sheet-write-back-spec =
