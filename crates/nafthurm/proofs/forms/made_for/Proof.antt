@@ -17,7 +17,7 @@ leg-for-requires-2 c κs = search needs
 
 returns : tie.Need-returns
 unfolding madeFor
-returns c = cc
+returns c = rw (c .leg-for2 .ensures, c .before .before .leg-for .ensures)
 
 pub made-for-spec : {M : Type 1} → statement M
 made-for-spec =

@@ -11,7 +11,7 @@ length-for-requires c κs = search needs
 
 returns : tie.Need-returns
 unfolding plannedFor
-returns c = cc
+returns c = rw (c .length-for .ensures, c .before .route-for .ensures)
 
 pub planned-for-spec : {M : Type 1} → statement M
 planned-for-spec = tie.close (tie.spec route-for-requires length-for-requires returns)

@@ -11,7 +11,7 @@ number-requires c κs = search needs
 
 returns : tie.Need-returns
 unfolding steppedFor
-returns c = cc
+returns c = rw (c .number .ensures, c .before .packet-for .ensures)
 
 pub stepped-for-spec : {M : Type 1} → statement M
 stepped-for-spec = tie.close (tie.spec packet-for-requires number-requires returns)

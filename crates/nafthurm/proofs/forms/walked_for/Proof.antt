@@ -14,7 +14,7 @@ ending-for-requires c κs = search needs
 
 returns : tie.Need-returns
 unfolding walkedFor
-returns c = cc
+returns c = rw (c .ending-for .ensures, c .before .number .ensures, c .before .before .packet-for .ensures)
 
 pub walked-for-spec : {M : Type 1} → statement M
 walked-for-spec =

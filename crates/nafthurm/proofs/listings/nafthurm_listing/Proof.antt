@@ -12,7 +12,7 @@ same-length : tie.Need-same-length
 same-length c = search needs
 
 returns : tie.Need-returns
-returns c = (cc, cc)
+returns c = (rw (c .written-for .ensures, c .before .before .before .listing-text .ensures .0), rw (c .before .before .before .listing-text .ensures .1))
 
 pub nafthurm-listing-spec : {M : Type 1} → statement M
 nafthurm-listing-spec =

@@ -12,7 +12,7 @@ made-for-requires : tie.Need-made-for-requires
 made-for-requires c κs = search needs
 
 returns : tie.Need-returns
-returns c = cc
+returns c = rw (c .made-for .ensures, c .before .packet-in .ensures, c .before .before .outcome-in .ensures)
 
 pub nafthurm-new-packet-spec : {M : Type 1} → statement M
 nafthurm-new-packet-spec =

@@ -12,7 +12,7 @@ check-requires : tie.Need-check-requires
 check-requires c κs = search needs
 
 returns : tie.Need-returns
-returns c = cc
+returns c = rw (c .check .ensures, c .before .shape-of .ensures, c .before .before .packet-of .ensures)
 
 pub nafthurm-packet-check-spec : {M : Type 1} → statement M
 nafthurm-packet-check-spec =

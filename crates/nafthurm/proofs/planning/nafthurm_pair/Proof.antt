@@ -9,7 +9,7 @@ planned-for-requires : tie.Need-planned-for-requires
 planned-for-requires c κs = search needs
 
 returns : tie.Need-returns
-returns c = cc
+returns c = rw (c .planned-for .ensures, c .before .pair .ensures)
 
 pub nafthurm-pair-spec : {M : Type 1} → statement M
 nafthurm-pair-spec = tie.close (tie.spec pair-requires planned-for-requires returns)

@@ -9,7 +9,7 @@ shape-for-requires : tie.Need-shape-for-requires
 shape-for-requires c κs = search needs
 
 returns : tie.Need-returns
-returns c = cc
+returns c = rw (c .shape-for .ensures, c .before .shape-of .ensures)
 
 pub nafthurm-plan-shape-spec : {M : Type 1} → statement M
 nafthurm-plan-shape-spec = tie.close (tie.spec shape-of-requires shape-for-requires returns)

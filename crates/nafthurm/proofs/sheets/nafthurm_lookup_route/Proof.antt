@@ -9,7 +9,7 @@ route-for-requires : tie.Need-route-for-requires
 route-for-requires c κs = search needs
 
 returns : tie.Need-returns
-returns c = cc
+returns c = rw (c .route-for .ensures, c .before .route .ensures)
 
 pub nafthurm-lookup-route-spec : {M : Type 1} → statement M
 nafthurm-lookup-route-spec = tie.close (tie.spec route-requires route-for-requires returns)
