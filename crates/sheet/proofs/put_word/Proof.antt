@@ -22,7 +22,7 @@ same-length : tie.Need-same-length
 same-length c = search needs
 
 returns : tie.Need-returns
-returns c = cc
+returns c = rw (c .before .before .put-byte2 .ensures, c .before .before .before .lower .ensures, c .before .before .before .before .before .before .before .put-byte .ensures, c .before .before .before .before .before .before .before .before .upper .ensures)
 
 returns-2 : tie.Need-returns-2
 returns-2 c = put-word-past _ _ (c .if1 .left) _

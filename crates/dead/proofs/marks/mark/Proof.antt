@@ -14,7 +14,7 @@ element-write-masks c = search needs
 
 returns : tie.Need-returns
 unfolding markBit
-returns c = cc
+returns c = rw (c .with-bit .ensures)
 
 pub mark-spec : {M : Type 1} → statement M
 mark-spec =

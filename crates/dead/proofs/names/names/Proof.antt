@@ -20,7 +20,7 @@ either-requires-2 c κs = search needs
 
 returns : tie.Need-returns
 unfolding names
-returns c = cc
+returns c = rw (c .either2 .ensures, c .before .names-link .ensures, c .before .before .either .ensures, c .before .before .before .names-node2 .ensures, c .before .before .before .before .names-node .ensures)
 
 pub names-spec : {M : Type 1} → statement M
 names-spec =

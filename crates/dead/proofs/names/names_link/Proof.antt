@@ -26,7 +26,7 @@ both-requires-3 c κs = search needs
 
 returns : tie.Need-returns
 unfolding namesLink
-returns c = cc
+returns c = rw (c .both3 .ensures, c .before .either .ensures, c .before .before .is-link .ensures, c .before .before .before .both2 .ensures, c .before .before .before .before .before .opposite .ensures, c .before .before .before .before .before .before .both .ensures, c .before .before .before .before .before .before .before .before .dir .ensures .0)
 
 pub names-link-spec : {M : Type 1} → statement M
 names-link-spec =

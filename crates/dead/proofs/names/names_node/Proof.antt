@@ -11,7 +11,7 @@ both-requires c κs = search needs
 
 returns : tie.Need-returns
 unfolding namesNode
-returns c = cc
+returns c = rw (c .both .ensures, c .before .before .is-node .ensures)
 
 pub names-node-spec : {M : Type 1} → statement M
 names-node-spec = tie.close (tie.spec is-node-requires both-requires returns)

@@ -32,7 +32,7 @@ same-length c = search needs
 
 returns : tie.Need-returns
 unfolding putAll
-returns c = cc
+returns c = rw (c .before .before .put-byte8 .ensures, c .before .before .before .before .before .before .put-byte7 .ensures, c .before .before .before .before .before .before .before .before .before .before .put-byte6 .ensures, c .before .before .before .before .before .before .before .before .before .before .before .before .before .before .put-byte5 .ensures, c .before .before .before .before .before .before .before .before .before .before .before .before .before .before .before .before .before .before .put-byte4 .ensures, c .before .before .before .before .before .before .before .before .before .before .before .before .before .before .before .before .before .before .before .before .before .before .put-byte3 .ensures, c .before .before .before .before .before .before .before .before .before .before .before .before .before .before .before .before .before .before .before .before .before .before .before .before .before .before .put-byte2 .ensures, c .before .before .before .before .before .before .before .before .before .before .before .before .before .before .before .before .before .before .before .before .before .before .before .before .before .before .before .before .before .before .put-byte .ensures)
 
 pub put-word-spec : {M : Type 1} → statement M
 put-word-spec =

@@ -14,7 +14,7 @@ count-in-requires c κs = search needs
 
 returns : tie.Need-returns
 unfolding headOf
-returns c = cc
+returns c = rw (c .count-in .ensures, c .before .count .ensures, c .before .before .shape-in .ensures)
 
 pub head-of-spec : {M : Type 1} → statement M
 head-of-spec = tie.close (tie.spec shape-in-requires count-requires count-in-requires returns)

@@ -24,7 +24,7 @@ returns c = rw (c .before .enum-told .given .1) (c .useful-at .ensures)
 
 returns-2 : tie.Need-returns-2
 unfolding allowedAt
-returns-2 c = rw (c .before .before .enum-told2 .given .1) (cc)
+returns-2 c = rw (c .before .before .enum-told2 .given .1, c .both .ensures, c .before .first-at .ensures)
 
 pub allowed-at-spec : {M : Type 1} → statement M
 allowed-at-spec =

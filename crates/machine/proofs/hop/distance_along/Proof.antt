@@ -22,7 +22,7 @@ cast-result : tie.Need-cast-result
 cast-result c = search needs
 
 returns : tie.Need-returns
-returns c = (cc, omega arith)
+returns c = (rw (c .distance .ensures, c .before .coord2 .ensures, c .before .before .coord .ensures, c .before .before .before .wrapped .ensures, c .before .before .before .before .extent .ensures), omega arith)
 
 pub distance-along-spec : {M : Type 1} → statement M
 distance-along-spec =

@@ -20,7 +20,7 @@ add-result-2 c = search needs
 
 returns : tie.Need-returns
 unfolding distanceAt
-returns c = cc
+returns c = rw (c .distance-along3 .ensures .0, c .before .distance-along2 .ensures .0, c .before .before .distance-along .ensures .0)
 
 pub distance-at-spec : {M : Type 1} → statement M
 distance-at-spec =

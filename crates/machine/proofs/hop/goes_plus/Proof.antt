@@ -20,7 +20,7 @@ pick-bool-requires c κs = search needs
 
 returns : tie.Need-returns
 unfolding goes
-returns c = cc
+returns c = rw (c .pick-bool .ensures, c .before .half-ring-plus .ensures, c .before .before .both .ensures, c .before .before .before .useful2 .ensures, c .before .before .before .before .useful .ensures)
 
 pub goes-plus-spec : {M : Type 1} → statement M
 goes-plus-spec =

@@ -26,7 +26,7 @@ both-requires c κs = search needs
 
 returns : tie.Need-returns
 unfolding linkAt
-returns c = cc
+returns c = rw (c .both .ensures, c .before .has-link .ensures, c .before .before .is-plus .ensures, c .before .before .before .coord .ensures, c .before .before .before .before .wrapped .ensures, c .before .before .before .before .before .extent .ensures, c .before .before .before .before .before .before .dim-of .ensures)
 
 pub link-at-spec : {M : Type 1} → statement M
 link-at-spec =

@@ -25,7 +25,7 @@ in-dim-requires-5 : tie.Need-in-dim-requires-5
 in-dim-requires-5 c κs = search needs
 
 returns : tie.Need-returns
-returns c = rw (c .before .before .in-dim3 .ensures, c .before .in-dim4 .ensures, c .in-dim5 .ensures) (moved-dim _ _ _ _ _ _ (c .before .before .before .before .before .before .in-dim .ensures) (c .before .before .before .before .before .in-dim2 .ensures) (cc))
+returns c = rw (c .before .before .in-dim3 .ensures, c .before .in-dim4 .ensures, c .in-dim5 .ensures) (moved-dim _ _ _ _ _ _ (c .before .before .before .before .before .before .in-dim .ensures) (c .before .before .before .before .before .in-dim2 .ensures) (rw (c .before .before .before .next-place .ensures, c .before .before .before .before .is-plus .ensures)))
 
 pub moved-at-spec : {M : Type 1} → statement M
 moved-at-spec =

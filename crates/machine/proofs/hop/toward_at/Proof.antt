@@ -27,7 +27,7 @@ pick-requires : tie.Need-pick-requires
 pick-requires c κs = search needs
 
 returns : tie.Need-returns
-returns c = cc
+returns c = rw (c .pick .ensures, c .before .minus-dir .ensures, c .before .before .plus-dir .ensures, c .before .before .before .goes-plus .ensures, c .before .before .before .before .coord2 .ensures, c .before .before .before .before .before .coord .ensures, c .before .before .before .before .before .before .wrapped .ensures, c .before .before .before .before .before .before .before .extent .ensures)
 
 pub toward-at-spec : {M : Type 1} → statement M
 toward-at-spec =

@@ -28,7 +28,7 @@ both-requires c κs = search needs
 
 returns : tie.Need-returns
 unfolding usefulAt
-returns c = cc (in-dim (extentOf (c .before .before .before .before .before .before .before .args .shape)) (c .before .before .before .before .before .before .before .args .dir), in-dim (coordOf (c .before .before .before .before .before .before .before .args .at)) (c .before .before .before .before .before .before .before .args .dir), in-dim (coordOf (c .before .before .before .before .before .before .before .args .to)) (c .before .before .before .before .before .before .before .args .dir))
+returns c = rw (c .both .ensures, c .before .useful .ensures, c .before .before .is-plus .ensures, c .before .before .before .wrapped-in .ensures, c .before .before .before .before .in-dim3 .ensures, c .before .before .before .before .before .in-dim2 .ensures, c .before .before .before .before .before .before .in-dim .ensures, in-dim (extentOf (c .before .before .before .before .before .before .before .args .shape)) (c .before .before .before .before .before .before .before .args .dir), in-dim (coordOf (c .before .before .before .before .before .before .before .args .at)) (c .before .before .before .before .before .before .before .args .dir), in-dim (coordOf (c .before .before .before .before .before .before .before .args .to)) (c .before .before .before .before .before .before .before .args .dir))
 
 pub useful-at-spec : {M : Type 1} → statement M
 useful-at-spec =

@@ -18,10 +18,10 @@ distance-at-requires : tie.Need-distance-at-requires
 distance-at-requires c κs = search needs
 
 cast-result : tie.Need-cast-result
-cast-result c = omega (arith, distance-of _ _ _ (c .distance-at .result) (from-of _ _ _ (sym (c .before .before .before .before .are-pair .ensures) ∙ c .before .before .before .if1 .taken)) (to-of _ _ _ (sym (c .before .before .before .before .are-pair .ensures) ∙ c .before .before .before .if1 .taken)) (cc) .1)
+cast-result c = omega (arith, distance-of _ _ _ (c .distance-at .result) (from-of _ _ _ (sym (c .before .before .before .before .are-pair .ensures) ∙ c .before .before .before .if1 .taken)) (to-of _ _ _ (sym (c .before .before .before .before .are-pair .ensures) ∙ c .before .before .before .if1 .taken)) (rw (c .distance-at .ensures, c .before .coords-of2 .ensures, c .before .before .coords-of .ensures)) .1)
 
 returns : tie.Need-returns
-returns c = let d = distance-of _ _ _ (c .distance-at .result) (from-of _ _ _ (sym (c .before .before .before .before .are-pair .ensures) ∙ c .before .before .before .if1 .taken)) (to-of _ _ _ (sym (c .before .before .before .before .are-pair .ensures) ∙ c .before .before .before .if1 .taken)) (cc) in (rw (← c .before .before .before .before .are-pair .ensures, c .before .before .before .if1 .taken) (d .0), d .1)
+returns c = let d = distance-of _ _ _ (c .distance-at .result) (from-of _ _ _ (sym (c .before .before .before .before .are-pair .ensures) ∙ c .before .before .before .if1 .taken)) (to-of _ _ _ (sym (c .before .before .before .before .are-pair .ensures) ∙ c .before .before .before .if1 .taken)) (rw (c .distance-at .ensures, c .before .coords-of2 .ensures, c .before .before .coords-of .ensures)) in (rw (← c .before .before .before .before .are-pair .ensures, c .before .before .before .if1 .taken) (d .0), d .1)
 
 returns-2 : tie.Need-returns-2
 returns-2 c = (rw (← c .before .are-pair .ensures, c .if1 .left), omega arith)

@@ -15,7 +15,7 @@ link-at-requires : tie.Need-link-at-requires
 link-at-requires c κs = search needs
 
 returns : tie.Need-returns
-returns c = rw (← c .before .before .before .is-node .ensures, c .before .before .if1 .taken, link-at) (cc)
+returns c = rw (← c .before .before .before .is-node .ensures, c .before .before .if1 .taken, link-at, c .link-at .ensures, c .before .coords-of .ensures)
 
 returns-2 : tie.Need-returns-2
 returns-2 c = rw (← c .before .is-node .ensures, c .if1 .left)

@@ -18,7 +18,7 @@ number-at-requires : tie.Need-number-at-requires
 number-at-requires c κs = search needs
 
 returns : tie.Need-returns
-returns c = let n = node-of _ _ (sym (c .before .before .before .before .is-node .ensures) ∙ c .before .before .before .if1 .taken) in rw (← c .before .before .before .before .is-node .ensures, c .before .before .before .if1 .taken, ← neighbour-number _ (n .sound) _ (n .below) _) (cc)
+returns c = let n = node-of _ _ (sym (c .before .before .before .before .is-node .ensures) ∙ c .before .before .before .if1 .taken) in rw (← c .before .before .before .before .is-node .ensures, c .before .before .before .if1 .taken, ← neighbour-number _ (n .sound) _ (n .below) _, c .number-at .ensures, c .before .moved-at .ensures, c .before .before .coords-of .ensures)
 
 returns-2 : tie.Need-returns-2
 returns-2 c = rw (← c .before .is-node .ensures, c .if1 .left)

@@ -20,7 +20,7 @@ goes-plus-requires c κs = search needs
 
 -- src/row.rt:119:1
 returns : tie.Need-returns
-returns c = cc
+returns c = rw (c .goes-plus .ensures, c .before .pick2 .ensures, c .before .before .pick .ensures)
 
 pub goes-end-spec : {M : Type 1} → statement M
 goes-end-spec = tie.close (tie.spec pick-requires pick-requires-2 goes-plus-requires returns)

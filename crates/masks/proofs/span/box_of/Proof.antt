@@ -34,7 +34,7 @@ between-mask-requires-3 c κs = search needs
 -- src/span.rt:72:1
 returns : tie.Need-returns
 unfolding boxOf
-returns c = cc
+returns c = rw (c .between-mask3 .ensures, c .before .wrapped3 .ensures, c .before .before .between-mask2 .ensures, c .before .before .before .wrapped2 .ensures, c .before .before .before .before .between-mask .ensures, c .before .before .before .before .before .wrapped .ensures)
 
 pub box-of-spec : {M : Type 1} → statement M
 box-of-spec =

@@ -6,7 +6,7 @@ mode-of-requires : tie.Need-mode-of-requires
 mode-of-requires c κs = search needs
 
 returns : tie.Need-returns
-returns c = cc
+returns c = rw (c .mode-of .ensures)
 
 pub leg-of-spec : {M : Type 1} → statement M
 leg-of-spec = tie.close (tie.spec mode-of-requires returns)

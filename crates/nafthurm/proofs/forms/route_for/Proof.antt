@@ -11,7 +11,7 @@ number-requires c κs = search needs
 
 returns : tie.Need-returns
 unfolding routeFor
-returns c = cc
+returns c = rw (c .number .ensures, c .before .entry-for .ensures)
 
 pub route-for-spec : {M : Type 1} → statement M
 route-for-spec = tie.close (tie.spec entry-for-requires number-requires returns)

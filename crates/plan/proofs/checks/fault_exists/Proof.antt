@@ -30,7 +30,7 @@ both-requires-2 c κs = search needs
 
 returns : tie.Need-returns
 unfolding faultExists
-returns c = rw (← asked-twice _ _ _ _) (cc)
+returns c = rw (← asked-twice _ _ _ _, c .both2 .ensures, c .before .is-node2 .ensures, c .before .before .either .ensures, c .before .before .before .both .ensures, c .before .before .before .before .is-link .ensures, c .before .before .before .before .before .is-node .ensures, c .before .before .before .before .before .before .has-link .ensures, c .before .before .before .before .before .before .before .dir .ensures .0)
 
 pub fault-exists-spec : {M : Type 1} → statement M
 fault-exists-spec =

@@ -11,7 +11,7 @@ both-requires c κs = search needs
 
 returns : tie.Need-returns
 unfolding faultGood
-returns c = cc
+returns c = rw (c .both .ensures, c .before .fault-exists .ensures)
 
 pub fault-good-spec : {M : Type 1} → statement M
 fault-good-spec = tie.close (tie.spec fault-exists-requires both-requires returns)

@@ -32,7 +32,7 @@ pick-requires-4 c κs = search needs
 
 returns : tie.Need-returns
 unfolding headError layoutOf
-returns c = rw (then-cond _ 0 _, unless-cond _ 1 _, then-cond _ 2 _, unless-cond _ 3 _) (cc)
+returns c = rw (then-cond _ 0 _, unless-cond _ 1 _, then-cond _ 2 _, unless-cond _ 3 _, c .pick4 .ensures, c .before .pick3 .ensures, c .before .before .version-in .ensures, c .before .before .before .pick2 .ensures, c .before .before .before .before .pick .ensures, c .before .before .before .before .before .length-is .ensures, c .before .before .before .before .before .before .size-after .ensures, c .before .before .before .before .before .before .before .count-in .ensures)
 
 pub head-error-spec : {M : Type 1} → statement M
 head-error-spec =

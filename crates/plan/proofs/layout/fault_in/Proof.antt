@@ -23,7 +23,7 @@ byte-at-requires c κs = search needs
 
 returns : tie.Need-returns
 unfolding faultAt layoutOf
-returns c = cc
+returns c = rw (c .byte-at .ensures, c .before .word-at .ensures .0)
 
 pub fault-in-spec : {M : Type 1} → statement M
 fault-in-spec =

@@ -17,7 +17,7 @@ byte-at-requires-4 c κs = search needs
 
 returns : tie.Need-returns
 unfolding shapeOf
-returns c = cc
+returns c = rw (c .byte-at4 .ensures, c .before .byte-at3 .ensures, c .before .before .byte-at2 .ensures, c .before .before .before .byte-at .ensures)
 
 pub shape-in-spec : {M : Type 1} → statement M
 shape-in-spec =

@@ -53,7 +53,7 @@ array-write-bytes-9 c = search needs
 
 returns : tie.Need-returns
 unfolding headBytes layoutOf
-returns c = cc
+returns c = rw (c .lower2 .ensures, c .before .upper2 .ensures, c .before .before .lower .ensures, c .before .before .before .upper .ensures, c .before .before .before .before .size-after .ensures)
 
 pub head-spec : {M : Type 1} → statement M
 head-spec =

@@ -32,7 +32,7 @@ element-write-bytes-3 c = search needs
 
 returns : tie.Need-returns
 unfolding layoutOf
-returns c = cc
+returns c = rw (c .lower .ensures, c .before .upper .ensures)
 
 pub put-fault-spec : {M : Type 1} → statement M
 put-fault-spec =

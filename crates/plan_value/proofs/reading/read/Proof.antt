@@ -21,7 +21,7 @@ count-in-requires c κs = tt
 
 returns-2 : tie.Need-returns-2
 unfolding reading planOf
-returns-2 c = read-as _ _ _ (c .before .before .before .before .check .ensures) (c .before .before .before .if1 .left) _ (cc)
+returns-2 c = read-as _ _ _ (c .before .before .before .before .check .ensures) (c .before .before .before .if1 .left) _ (rw (c .count-in .ensures, c .before .shape-in .ensures, c .before .before .faults-in .ensures))
 
 pub read-spec : {M : Type 1} → statement M
 read-spec =

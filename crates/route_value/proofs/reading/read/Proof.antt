@@ -22,7 +22,7 @@ count-in-requires c κs = search needs
 
 returns-2 : tie.Need-returns-2
 unfolding reading routesOf
-returns-2 c = read-as _ _ _ _ (c .before .before .before .before .check .ensures) (c .before .before .before .if1 .left) _ (cc)
+returns-2 c = read-as _ _ _ _ (c .before .before .before .before .check .ensures) (c .before .before .before .if1 .left) _ (rw (c .count-in .ensures, c .before .source-in .ensures, c .before .before .entries-in .ensures))
 
 pub read-spec : {M : Type 1} → statement M
 read-spec =

@@ -21,7 +21,7 @@ pick-requires-2 c κs = search needs
 
 returns : tie.Need-returns
 unfolding sheetError
-returns c = rw (checked _ _ _) (cc)
+returns c = rw (checked _ _ _, c .pick2 .ensures, c .before .pick .ensures, c .before .before .sheet-good .ensures, c .before .before .before .shape-in .ensures, c .before .before .before .before .check .ensures)
 
 pub check-spec : {M : Type 1} → statement M
 check-spec =

@@ -17,7 +17,7 @@ both-requires-2 c κs = search needs
 
 returns : tie.Need-returns
 unfolding entryGood
-returns c = cc
+returns c = rw (c .both2 .ensures, c .before .via-good .ensures, c .before .before .both .ensures, c .before .before .before .before .is-node .ensures)
 
 pub entry-good-spec : {M : Type 1} → statement M
 entry-good-spec =

@@ -26,7 +26,7 @@ both-requires c κs = search needs
 
 returns-2 : tie.Need-returns-2
 unfolding routesGood sheetGood
-returns-2 c = rw (sym (c .before .before .before .before .before .head-good .ensures) ∙ not-false _ (c .before .before .before .before .if1 .left)) (cc)
+returns-2 c = rw (sym (c .before .before .before .before .before .head-good .ensures) ∙ not-false _ (c .before .before .before .before .if1 .left), c .both .ensures, c .before .entries-good .ensures, c .before .before .is-node .ensures, c .before .before .before .source-in .ensures)
 
 pub sheet-good-spec : {M : Type 1} → statement M
 sheet-good-spec =

@@ -26,7 +26,7 @@ pick-bool-requires c κs = search needs
 
 returns : tie.Need-returns
 unfolding viaGood
-returns c = cc
+returns c = rw (c .pick-bool .ensures, c .before .both3 .ensures, c .before .before .before .is-plain .ensures, c .before .before .before .before .both2 .ensures, c .before .before .before .before .before .is-node .ensures, c .before .before .before .before .before .before .has-via .ensures, c .before .before .before .before .before .before .before .both .ensures)
 
 pub via-good-spec : {M : Type 1} → statement M
 via-good-spec =

@@ -8,7 +8,7 @@ both-requires c κs = search needs
 
 returns : tie.Need-returns
 unfolding viaKind
-returns c = cc
+returns c = rw (c .both .ensures)
 
 pub has-via-spec : {M : Type 1} → statement M
 has-via-spec = tie.close (tie.spec both-requires returns)

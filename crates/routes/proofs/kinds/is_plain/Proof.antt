@@ -11,7 +11,7 @@ either-requires-2 c κs = search needs
 
 returns : tie.Need-returns
 unfolding plainKind
-returns c = cc
+returns c = rw (c .either2 .ensures, c .before .either .ensures)
 
 pub is-plain-spec : {M : Type 1} → statement M
 is-plain-spec = tie.close (tie.spec either-requires either-requires-2 returns)

@@ -32,7 +32,7 @@ cast-t10 c = search needs
 
 returns : tie.Need-returns
 unfolding entryAt formatBy
-returns c = cc
+returns c = rw (c .word-at2 .ensures .0, c .before .byte-at .ensures, c .before .before .word-at .ensures .0)
 
 pub entry-in-spec : {M : Type 1} → statement M
 entry-in-spec =

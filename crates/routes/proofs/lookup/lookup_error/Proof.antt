@@ -21,7 +21,7 @@ pick-requires-2 c κs = search needs
 
 returns : tie.Need-returns
 unfolding lookupError
-returns c = rw (checked _ _ _) (cc)
+returns c = rw (checked _ _ _, c .pick2 .ensures, c .before .pick .ensures, c .before .before .is-node .ensures, c .before .before .before .shape-in .ensures, c .before .before .before .before .check .ensures)
 
 pub lookup-error-spec : {M : Type 1} → statement M
 lookup-error-spec =

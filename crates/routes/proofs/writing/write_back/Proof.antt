@@ -12,7 +12,7 @@ same-length : tie.Need-same-length
 same-length c = search needs
 
 returns : tie.Need-returns
-returns c = (cc, cc)
+returns c = (rw (c .before .before .put-sheet .ensures .0, c .before .before .before .before .check .ensures), rw (c .before .before .put-sheet .ensures .1, c .before .before .before .before .check .ensures))
 
 pub write-back-spec : {M : Type 1} → statement M
 write-back-spec = tie.close (tie.spec check-requires put-sheet-requires same-length returns)

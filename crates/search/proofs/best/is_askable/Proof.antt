@@ -26,7 +26,7 @@ both-requires-3 c κs = search needs
 
 returns : tie.Need-returns
 unfolding askable
-returns c = cc
+returns c = rw (c .both3 .ensures, c .before .both2 .ensures, c .before .before .has-rows .ensures, c .before .before .before .shape-error .ensures, c .before .before .before .before .both .ensures, c .before .before .before .before .before .is-within2 .ensures, c .before .before .before .before .before .before .is-within .ensures)
 
 pub is-askable-spec : {M : Type 1} → statement M
 is-askable-spec =

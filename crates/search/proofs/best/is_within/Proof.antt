@@ -11,7 +11,7 @@ both-requires-2 c κs = search needs
 
 returns : tie.Need-returns
 unfolding within
-returns c = cc
+returns c = rw (c .both2 .ensures, c .before .both .ensures)
 
 pub is-within-spec : {M : Type 1} → statement M
 is-within-spec = tie.close (tie.spec both-requires both-requires-2 returns)

@@ -14,7 +14,7 @@ add-result : tie.Need-add-result
 add-result c = omega (arith, part-most (c .before .before .args .len) (c .before .before .args .ring) (c .before .before .args .p) (c .before .before .args .q) (c .before .before .args .c) (c .before .before .pre .0) (c .before .before .pre .1) (c .before .before .pre .2) (c .before .before .pre .3), c .before .distance .ensures, c .distance2 .ensures)
 
 returns : tie.Need-returns
-returns c = (cc, omega (arith, part-most (c .before .before .args .len) (c .before .before .args .ring) (c .before .before .args .p) (c .before .before .args .q) (c .before .before .args .c) (c .before .before .pre .0) (c .before .before .pre .1) (c .before .before .pre .2) (c .before .before .pre .3), c .before .distance .ensures, c .distance2 .ensures))
+returns c = (rw (c .distance2 .ensures, c .before .distance .ensures), omega (arith, part-most (c .before .before .args .len) (c .before .before .args .ring) (c .before .before .args .p) (c .before .before .args .q) (c .before .before .args .c) (c .before .before .pre .0) (c .before .before .pre .1) (c .before .before .pre .2) (c .before .before .pre .3), c .before .distance .ensures, c .distance2 .ensures))
 
 pub part-spec : {M : Type 1} → statement M
 part-spec = tie.close (tie.spec distance-requires distance-requires-2 add-result returns)

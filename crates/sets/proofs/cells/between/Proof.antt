@@ -42,7 +42,7 @@ both-requires c κs = search needs
 -- src/cells.rt:16:1
 returns : tie.Need-returns
 unfolding between
-returns c = cc
+returns c = rw (c .both .ensures, c .before .distance3 .ensures, c .before .before .distance2 .ensures, c .before .before .before .distance .ensures)
 
 pub between-spec : {M : Type 1} → statement M
 between-spec =

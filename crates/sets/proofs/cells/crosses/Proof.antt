@@ -23,7 +23,7 @@ both-requires c κs = search needs
 -- src/cells.rt:26:1
 returns : tie.Need-returns
 unfolding crosses
-returns c = cc
+returns c = rw (c .both .ensures, c .before .useful .ensures, c .before .before .between .ensures)
 
 pub crosses-spec : {M : Type 1} → statement M
 crosses-spec = tie.close (tie.spec between-requires useful-requires both-requires returns)

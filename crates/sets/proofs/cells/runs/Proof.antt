@@ -28,7 +28,7 @@ both-requires c κs = search needs
 -- src/cells.rt:39:1
 returns : tie.Need-returns
 unfolding runs
-returns c = cc
+returns c = rw (c .both .ensures, c .before .agree .ensures, c .before .before .goes-plus .ensures, c .before .before .before .crosses .ensures)
 
 pub runs-spec : {M : Type 1} → statement M
 runs-spec =

@@ -32,7 +32,7 @@ either-requires c κs = search needs
 -- src/cells.rt:58:1
 returns : tie.Need-returns
 unfolding takesLink
-returns c = cc
+returns c = rw (c .either .ensures, c .before .both .ensures, c .before .before .takes2 .ensures, c .before .before .before .next-place .ensures, c .before .before .before .before .takes .ensures)
 
 pub takes-link-spec : {M : Type 1} → statement M
 takes-link-spec =

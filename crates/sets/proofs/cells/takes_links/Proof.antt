@@ -27,7 +27,7 @@ either-requires c κs = search needs
 -- src/cells.rt:67:1
 returns : tie.Need-returns
 unfolding takesLinks
-returns c = cc
+returns c = rw (c .either .ensures, c .before .takes-link2 .ensures, c .before .before .next-place .ensures, c .before .before .before .takes-link .ensures)
 
 pub takes-links-spec : {M : Type 1} → statement M
 takes-links-spec =

@@ -24,7 +24,7 @@ cell-requires c κs = search needs
 
 -- src/leg.rt:19:1
 returns : tie.Need-returns
-returns c = cc
+returns c = rw (c .cell .ensures, c .before .column .ensures .0)
 
 pub along-spec : {M : Type 1} → statement M
 along-spec = tie.close (tie.spec column-requires cast-cell cast-cell-2 cell-requires returns)

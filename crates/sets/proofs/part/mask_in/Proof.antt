@@ -41,7 +41,7 @@ element-copy-out-result c = search needs
 -- src/clear.rt:11:1
 returns : tie.Need-returns
 unfolding maskIn
-returns c = cc
+returns c = rw (c .before .column .ensures .0)
 
 pub mask-in-spec : {M : Type 1} → statement M
 mask-in-spec =

@@ -30,7 +30,7 @@ either-requires-2 c κs = search needs
 -- src/sift.rt:19:1
 returns : tie.Need-returns
 unfolding deadReaches
-returns c = cc
+returns c = rw (c .either2 .ensures, c .before .either .ensures, c .before .before .part-reaches3 .ensures, c .before .before .before .part-reaches2 .ensures, c .before .before .before .before .part-reaches .ensures)
 
 pub dead-reaches-spec : {M : Type 1} → statement M
 dead-reaches-spec =

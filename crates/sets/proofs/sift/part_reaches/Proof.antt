@@ -22,7 +22,7 @@ both-requires c κs = search needs
 -- src/sift.rt:11:1
 returns : tie.Need-returns
 unfolding partReaches
-returns c = cc
+returns c = rw (c .both .ensures, c .before .mask-in2 .ensures, c .before .before .mask-in .ensures)
 
 pub part-reaches-spec : {M : Type 1} → statement M
 part-reaches-spec = tie.close (tie.spec mask-in-requires mask-in-requires-2 both-requires returns)

@@ -29,7 +29,7 @@ both-requires c κs = search needs
 
 returns : tie.Need-returns
 unfolding axisUseful
-returns c = cc
+returns c = rw (c .both .ensures, c .before .has-link .ensures, c .before .before .distance2 .ensures, c .before .before .before .distance .ensures, c .before .before .before .before .next-place .ensures)
 
 pub lowers-spec : {M : Type 1} → statement M
 lowers-spec =

@@ -14,7 +14,7 @@ pick-requires c κs = search needs
 
 returns : tie.Need-returns
 unfolding place
-returns c = cc
+returns c = rw (c .pick .ensures, c .before .place-down .ensures, c .before .before .place-up .ensures)
 
 pub next-place-spec : {M : Type 1} → statement M
 next-place-spec = tie.close (tie.spec place-up-requires place-down-requires pick-requires returns)

@@ -12,7 +12,7 @@ both-requires : tie.Need-both-requires
 both-requires c κs = search needs
 
 returns : tie.Need-returns
-returns c = cc
+returns c = rw (c .both .ensures, c .before .pick-bool .ensures)
 
 pub ring-useful-spec : {M : Type 1} → statement M
 ring-useful-spec = tie.close (tie.spec mul-twice pick-bool-requires both-requires returns)

@@ -22,7 +22,7 @@ ring-useful-requires : tie.Need-ring-useful-requires
 ring-useful-requires c κs = search needs
 
 returns-3 : tie.Need-returns-3
-returns-3 c = rw (useful-is _ _ _ _ _ (c .before .before .before .before .if1 .left) (c .before .before .before .if2 .left), c .before .before .if3 .taken) (cc)
+returns-3 c = rw (useful-is _ _ _ _ _ (c .before .before .before .before .if1 .left) (c .before .before .before .if2 .left), c .before .before .if3 .taken, c .ring-useful .ensures, c .before .hops-ahead .ensures)
 
 pick-bool-requires : tie.Need-pick-bool-requires
 pick-bool-requires c κs = search needs

@@ -20,7 +20,7 @@ either-requires-2 c κs = search needs
 
 returns : tie.Need-returns
 unfolding badExtents
-returns c = cc
+returns c = rw (c .either2 .ensures, c .before .either .ensures, c .before .before .bad-extent3 .ensures, c .before .before .before .bad-extent2 .ensures, c .before .before .before .before .bad-extent .ensures)
 
 pub bad-extents-spec : {M : Type 1} → statement M
 bad-extents-spec =

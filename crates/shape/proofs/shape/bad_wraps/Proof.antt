@@ -32,7 +32,7 @@ either-requires-3 c κs = search needs
 
 returns : tie.Need-returns
 unfolding badWraps
-returns c = cc
+returns c = rw (c .either3 .ensures, c .before .either2 .ensures, c .before .before .either .ensures, c .before .before .before .before .bad-wrap3 .ensures, c .before .before .before .before .before .wrapped3 .ensures, c .before .before .before .before .before .before .bad-wrap2 .ensures, c .before .before .before .before .before .before .before .wrapped2 .ensures, c .before .before .before .before .before .before .before .before .bad-wrap .ensures, c .before .before .before .before .before .before .before .before .before .wrapped .ensures)
 
 pub bad-wraps-spec : {M : Type 1} → statement M
 bad-wraps-spec =

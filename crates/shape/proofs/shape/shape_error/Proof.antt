@@ -18,7 +18,7 @@ pick-requires-2 c κs = search needs
 
 returns : tie.Need-returns
 unfolding shapeError
-returns c = rw (then-cond (badExtents _) _ _, then-cond (badWraps _) _ _) (cc)
+returns c = rw (then-cond (badExtents _) _ _, then-cond (badWraps _) _ _, c .pick2 .ensures, c .before .pick .ensures, c .before .before .bad-wraps .ensures, c .before .before .before .bad-extents .ensures)
 
 pub shape-error-spec : {M : Type 1} → statement M
 shape-error-spec =

@@ -14,7 +14,7 @@ both-requires c κs = search needs
 
 returns : tie.Need-returns
 unfolding lengthIs
-returns c = cc
+returns c = rw (c .both .ensures, c .before .bytes-after .ensures, c .before .before .length-in .ensures)
 
 pub length-is-spec : {M : Type 1} → statement M
 length-is-spec = tie.close (tie.spec length-in-requires bytes-after-requires both-requires returns)

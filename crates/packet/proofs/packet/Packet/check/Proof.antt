@@ -35,7 +35,7 @@ pick-requires : tie.Need-pick-requires
 pick-requires c κs = search needs
 
 returns-3 : tie.Need-returns-3
-returns-3 c = error-rest _ _ _ _ _ (omega arith) (omega arith) (c .before .before .before .before .count .ensures) (c .before .before .leg-outside .ensures) (cc)
+returns-3 c = error-rest _ _ _ _ _ (omega arith) (omega arith) (c .before .before .before .before .count .ensures) (c .before .before .leg-outside .ensures) (rw (c .pick .ensures, c .before .either .ensures))
 
 pub check-spec : {M : Type 1} → statement M
 check-spec =
