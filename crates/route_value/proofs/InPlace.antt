@@ -1,5 +1,5 @@
 -- A route sheet made in place, entry by entry.
-use Prim.Native.Nat.{ℕ, suc, _+_, _*_, _≤_, _<_}
+use Prim.Native.Nat.{ℕ, zero, suc, _+_, _*_, _≤_, _<_}
 use native.Mathlib.Omega.{arith}
 use mathlib.Core.Path.{_≡_, refl, sym, ap, _∙_}
 use mathlib.Core.List.{List, [], _∷_, _++_}
@@ -7,13 +7,13 @@ use lib.ListN.{length, take, drop, set, length-append, length-drop}
 use lib.Seq.{sets, sets-eq, length-sets, take-at, take-add, length-take-le, drop-set-add}
 use Rattle.numbers.specs.Numbers.{wrongRouteSheet}
 use Rattle.sheet.specs.declared.output.Written.{Written}
-use Rattle.sheet.specs.declared.output.Written.the-variants.{Refused}
+use Rattle.sheet.specs.declared.output.Written.the-variants.{Bytes, Refused}
 use Rattle.sheet.specs.Output as Output
 use Rattle.sheet.specs.Output.{roomError, outAfter}
 use Rattle.sheet.specs.Records.{recordsBytes}
 use Rattle.routes.specs.declared.layout.Entry.{Entry}
 use Rattle.routes.specs.Layout.{written, entryForm, entriesAt, mostEntries}
-use Rattle.route_value.specs.Writing.{headBytes, sheetBytes}
+use Rattle.route_value.specs.Writing.{sheetBytes}
 use Rattle.route_value.specs.Steps.{putHead, putEntry}
 use Rattle.route_value.specs.Making.{Holds, Added, PutMade}
 use Rattle.route_value.proofs.Forms.{entry-row, head-take, head-past}
@@ -67,12 +67,20 @@ pub no-place : (bytes : List ℕ) (i : ℕ) (e : Entry) → length bytes < entri
 no-place bytes i e m es g n h = absurd (omega (arith, g .room))
 
 -- ---- the sheet
+left : (k : ℕ) (s o t : List ℕ) (w : Written) (n : ℕ) → (w ≡ Output.written k s) × (t ≡ outAfter k s o) → w ≡ Refused n → t ≡ o
+unfolding Output.written outAfter
+left zero s o t w n put r =
+    let b : w ≡ Bytes (length s) = put .0 in
+    let z : _≡_ {A = ℕ} 0 1 = cc in
+    absurd (omega arith)
+left (suc k) s o t w n put r = put .1
+
 module _ (S count : ℕ) (bytes o : List ℕ) where
   pub too-many : mostEntries < count → PutMade S count bytes o (Refused wrongRouteSheet) o
-  too-many h = record { many = λ _. (refl, refl); short = λ _. (refl, refl); made = λ es g n m. absurd (omega arith) }
+  too-many h = record { many = λ _. (refl, refl); short = λ _. (refl, refl); refused = λ n r. refl; made = λ es g n m. absurd (omega arith) }
 
   pub too-short : length bytes < entriesAt + 5 * count → PutMade S count bytes o (Refused wrongRouteSheet) o
-  too-short h = record { many = λ _. (refl, refl); short = λ _. (refl, refl); made = λ es g n m. absurd (omega (arith, g .room)) }
+  too-short h = record { many = λ _. (refl, refl); short = λ _. (refl, refl); refused = λ n r. refl; made = λ es g n m. absurd (omega (arith, g .room)) }
 
   module _ (head : List ℕ) (q : head ≡ putHead bytes S count) where
     front : (es : List Entry) → Holds es bytes → length es ≡ count → take (entriesAt + 5 * count) head ≡ sheetBytes written S es
@@ -90,5 +98,6 @@ module _ (S count : ℕ) (bytes o : List ℕ) where
     whole-made w t m b put = record {
       many = λ h. absurd (omega arith);
       short = λ h. absurd (omega arith);
+      refused = λ n r. left (roomError 0 (take (entriesAt + 5 * count) head) o) (take (entriesAt + 5 * count) head) o t w n put r;
       made = λ es g n _. rw (front es g n) at put;
     }

@@ -22,10 +22,11 @@ pub record Holds (es : List Entry) (bytes : List ℕ) : Type 0 where
 abbrev pub Added : List ℕ → ℕ → Entry → List ℕ → Type 0
 Added bytes i e after = (es : List Entry) → Holds es bytes → length es ≡ i → i < mostEntries → Holds (es ++ (e ∷ [])) after
 
--- The answer w to putting the sheet of the entries that the bytes hold, and the output t afterwards.
+-- The answer w to putting the sheet of the entries that the bytes hold, and the output t afterwards: a refusal leaves it.
 pub record PutMade (S count : ℕ) (bytes o : List ℕ) (w : Written) (t : List ℕ) : Type 0 where
   pub many : mostEntries < count → (w ≡ Refused wrongRouteSheet) × (t ≡ o)
   pub short : length bytes < entriesAt + entrySize Layout.written * count → (w ≡ Refused wrongRouteSheet) × (t ≡ o)
+  pub refused : (n : ℕ) → w ≡ Refused n → t ≡ o
   pub made :
       (es : List Entry) → Holds es bytes → length es ≡ count → count ≤ mostEntries →
       (w ≡ written (roomError 0 (sheetBytes Layout.written S es) o) (sheetBytes Layout.written S es)) × (t ≡ outAfter (roomError 0 (sheetBytes Layout.written S es) o) (sheetBytes Layout.written S es) o)

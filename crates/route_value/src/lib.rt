@@ -1,4 +1,4 @@
-// The route sheet as a value: read from a sheet, and written to one.
+// The route sheet as a value: read from a sheet, and written to one; and a sheet made in place.
 mod encode;
 mod making;
 mod reading;
