@@ -20,15 +20,14 @@ use Rattle.plan.specs.Layout.{shapeOf, faultsOf}
 use Rattle.plan.specs.Checks.{large}
 use Rattle.dead.specs.Dead.{deadNode, bitOf, nodeAnswer}
 use Rattle.dead.proofs.Table.{is-node}
-use Rattle.route_value.specs.declared.reading.Routes.{Routes}
-use Rattle.route_value.specs.Writing.{routeEntries, sheetOf, countError}
+use Rattle.route_value.specs.Making.{PutMade}
 use Rattle.losses.specs.OfPlan.{AreLosses}
 use Rattle.masks.specs.Masks.{gatherAt, Ended, Masked}
 use Rattle.planner.specs.declared.boards.Step.{Step}
-use Rattle.planned_sheet.specs.Sheet.{sourceError, entriesFrom, plannedSheet}
+use Rattle.planned_sheet.specs.Sheet.{sourceError, plannedSheet}
 use Rattle.planner.specs.Run.{runError}
 use Rattle.first_clear.specs.Known.{OfPlan, IsAt}
-use Rattle.planner.specs.Known.{Filled, Prepared}
+use Rattle.planner.specs.Known.{Filled, Prepared, Listed}
 use Rattle.planner.specs.Steps.{stepOf, Boarded}
 use Rattle.first_clear.proofs.Knowing.{shape-ok}
 use Rattle.planner.proofs.Destination.{dead-byte}
@@ -105,8 +104,7 @@ module _ (p : List ℕ) (s : Shape) (words : List ℕ) (count : ℕ) (dead ta td
         (k, (at, (gathered-at p s S a sa adaptive h at Adaptive true (m .0) ga, (gathered-at p s S a sd deterministic h at Deterministic true (m .1) gd, source .alive))))
 
     pub board-written :
-        (r : Routes) → (r .source ≡ S) × (routeEntries r ≡ entriesFrom large p S 0 (nodeCount (shapeOf p))) → (o t : List ℕ) (w : Written) →
-        (w ≡ written (roomError (countError r) (sheetOf r) o) (sheetOf r)) × (t ≡ outAfter (roomError (countError r) (sheetOf r) o) (sheetOf r) o) → (step : Step) → step ≡ stepOf w → Boarded p S o step t
-    board-written r made o t w put step e =
+        (n : ℕ) (made o t : List ℕ) (w : Written) → Listed p S made n → PutMade S n made o w t → (step : Step) → step ≡ stepOf w → Boarded p S o step t
+    board-written n made o t w listed put step e =
         let sound = no-error large p S source in
-        rw e (boarded p S sound o t w (put-is p S 0 r o w t (sym sound) refl made put))
+        rw e (boarded p S sound o t w (put-is p S 0 n made o w t (sym sound) refl (listed .held) (listed .many) put))

@@ -4,8 +4,8 @@ use native.Mathlib.Omega.{arith}
 use mathlib.Core.Path.{_≡_, refl, sym, ap, _∙_}
 use mathlib.Core.Logic.{inl}
 use mathlib.Core.Bool.{false}
-use mathlib.Core.List.{List, []}
-use lib.ListN.{getD, set, replicate}
+use mathlib.Core.List.{List, [], _∷_, _++_}
+use lib.ListN.{length, getD, length-append}
 use Rattle.shape.specs.declared.shape.Shape.{Shape}
 use Rattle.shape.specs.declared.shape.Coords.{Coords}
 use Rattle.shape.specs.declared.shape.Dim.the-variants.{X}
@@ -24,27 +24,33 @@ use Rattle.choice.specs.declared.outcome.Outcome.{Outcome}
 use Rattle.choice.specs.Outcome.{told}
 use Rattle.choice.specs.Pair.{pair}
 use Rattle.routes.specs.declared.layout.Entry.{Entry}
-use Rattle.routes.specs.Layout.{noEntry}
+use Rattle.routes.specs.Layout.{mostEntries}
 use Rattle.routes.specs.Said.{entryFor, heard}
 use Rattle.planner.specs.declared.outside.At.{At}
 use Rattle.planner.specs.Outside.{placeOf, Stands, NextOutside}
+use Rattle.route_value.specs.Making.{Holds, Added}
+use Rattle.route_value.proofs.InPlace.{none-held}
 use Rattle.losses.specs.OfPlan.{AreLosses}
 use Rattle.masks.specs.Masks.{Masked}
 use Rattle.first_clear.specs.Known.{isClear, IsAt}
-use Rattle.planner.specs.Known.{Prepared, Ready}
-use Rattle.planned_sheet.specs.Sheet.{sourceError, entriesFrom}
+use Rattle.planner.specs.Known.{Prepared, Ready, Listed}
+use Rattle.planned_sheet.specs.Sheet.{sourceError}
 use Rattle.first_clear.proofs.Knowing.{shape-ok}
 use Rattle.first_clear.proofs.FirstSteps.{nodes-few}
 use Rattle.planner.proofs.Standing.{starts, stands-end, stands-below, stands-node, stands-at}
 use Rattle.planned_sheet.proofs.Planning.{Source, source-of}
-use Rattle.planned_sheet.proofs.Listing.{Listing, first, begin, entered, passed, ended}
+use Rattle.planned_sheet.proofs.Listing as Lists
+use Rattle.planned_sheet.proofs.Listing.{Listing, begin, entered, passed, ended}
 
 -- ---- all that holds at a turn
-pub record Going (p : List ℕ) (s : Shape) (words : List ℕ) (count : ℕ) (dead ta td work : List ℕ) (S : ℕ) (a : Coords) (fa fd : List ℕ) (entries : List Entry) (listed : ℕ) (at : At) : Type 0 where
+pub record Going (p : List ℕ) (s : Shape) (words : List ℕ) (count : ℕ) (dead ta td work : List ℕ) (S : ℕ) (a : Coords) (fa fd bytes : List ℕ) (listed : ℕ) (at : At) : Type 0 where
   pub ready : Ready p s words count dead ta td work S a fa fd
   pub stands : Stands s at
   pub out : at .z < s .z → (at .x < s .x) × (inSet s fa 0 (at .node) ≡ false)
-  pub listing : Listing p S entries listed (at .node)
+  pub entries : List Entry
+  pub listing : Listing p S entries (at .node)
+  pub held : Holds entries bytes
+  pub long : length entries ≡ listed
 
 module _ (p : List ℕ) (s : Shape) (words : List ℕ) (count : ℕ) (dead ta td work : List ℕ) (S : ℕ) (a : Coords) (fa fd : List ℕ) (ready : Ready p s words count dead ta td work S a fa fd) where
   abbrev same : s ≡ shapeOf p
@@ -62,8 +68,8 @@ module _ (p : List ℕ) (s : Shape) (words : List ℕ) (count : ℕ) (dead ta td
   pub node-known : (at : At) → Stands s at → at .x < s .x → at .z < s .z → (t : Coords) → t ≡ placeOf at → IsAt p (at .node) t
   node-known at g hx hz t e = record { node = rw same at (stands-node s ok at g hx hz); at = e ∙ sym (stands-at s ok at g hx hz) ∙ ap (λ m. coordsOf m (at .node)) same }
 
-  module _ (entries : List Entry) (listed : ℕ) (from r : At) (stand : Stands s from) (next : NextOutside s fa from r) (before : Listing p S entries listed (from .node)) where
-    pub found : Going p s words count dead ta td work S a fa fd entries listed r
+  module _ (bytes : List ℕ) (listed : ℕ) (from r : At) (stand : Stands s from) (next : NextOutside s fa from r) (entries : List Entry) (before : Listing p S entries (from .node)) (held : Holds entries bytes) (long : length entries ≡ listed) where
+    found : Going p s words count dead ta td work S a fa fd bytes listed r
     found =
         let few = stands-below s ok r (next .stands) in
         let up = next .onward in
@@ -73,20 +79,19 @@ module _ (p : List ℕ) (s : Shape) (words : List ℕ) (count : ℕ) (dead ta td
           ready = ready;
           stands = next .stands;
           out = next .found;
-          listing = rw (← e) (passed p S source entries listed (r .node - from .node) (from .node) (omega arith)
+          entries = entries;
+          listing = rw (← e) (passed p S source entries (r .node - from .node) (from .node) (omega arith)
               (λ v x y. sym (ready .adaptive v (omega arith)) ∙ rw (← same) (next .skipped v x (omega arith))) before);
+          held = held;
+          long = long;
         }
       where
         nodeCount-same : nodeCount s ≡ nodeCount (shapeOf p)
         nodeCount-same = ap nodeCount same
 
-  module _ (entries : List Entry) (listed : ℕ) (at : At) (g : Going p s words count dead ta td work S a fa fd entries listed at) where
-    pub few : (listed ≤ 4096) × (at .node ≤ 4096)
-    few =
-        let m = nodes-few (shapeOf p) (shape-ok p accepted) in
-        let w = g .listing .within in
-        let f = g .listing .few in
-        (omega arith, omega arith)
+  module _ (bytes : List ℕ) (listed : ℕ) (at : At) (g : Going p s words count dead ta td work S a fa fd bytes listed at) where
+    pub few : listed ≤ mostEntries
+    few = omega (arith, Lists.few p S source (g .entries) (at .node) (g .listing), g .long)
 
     module _ (l : at .z < s .z) where
       pub is-at : (t : Coords) → t ≡ placeOf at → IsAt p (at .node) t
@@ -95,8 +100,8 @@ module _ (p : List ℕ) (s : Shape) (words : List ℕ) (count : ℕ) (dead ta td
       pub unclear : isClear p Adaptive S (at .node) ≡ false
       unclear = sym (ready .adaptive (at .node) (is-at (placeOf at) refl .node)) ∙ rw (← same) (g .out l .1)
 
-      pub roomy : listed < 4095
-      roomy = entered p S source entries listed (at .node) (g .listing) (is-at (placeOf at) refl .node) unclear _ _ refl refl .0
+      pub roomy : listed < mostEntries
+      roomy = omega (arith, entered p S source (g .entries) (at .node) (g .listing) (is-at (placeOf at) refl .node) unclear _ _ refl refl .0, g .long)
 
       pub places : (at .x < 16) × (at .node < 4096)
       places = (omega (arith, g .out l .0, sound s ok X .high), omega (arith, is-at (placeOf at) refl .node, nodes-few (shapeOf p) (shape-ok p accepted)))
@@ -106,21 +111,22 @@ module _ (p : List ℕ) (s : Shape) (words : List ℕ) (count : ℕ) (dead ta td
       after = record { node = omega (arith, g .stands .node); x = omega (arith, g .out l .0); y = g .stands .y; z = g .stands .z; end = λ e. absurd (omega arith) }
 
       pub turn :
-          (o : Outcome) (e : Entry) (r : At) → o ≡ told (shapeOf p) S (pair large p S (at .node)) → e ≡ entryFor (at .node) (heard (at .node) o) →
-          NextOutside s fa (record { node = at .node + 1; x = at .x + 1; y = at .y; z = at .z }) r →
-          (listed < 4095) × Going p s words count dead ta td work S a fa fd (set entries listed e) (listed + 1) r
-      turn o e r eo ee next =
-          let n = entered p S source entries listed (at .node) (g .listing) (is-at (placeOf at) refl .node) unclear o e eo ee in
-          (n .0, found (set entries listed e) (listed + 1) _ r after next (n .1))
+          (o : Outcome) (e : Entry) (after-bytes : List ℕ) (r : At) → o ≡ told (shapeOf p) S (pair large p S (at .node)) → e ≡ entryFor (at .node) (heard (at .node) o) →
+          Added bytes listed e after-bytes → NextOutside s fa (record { node = at .node + 1; x = at .x + 1; y = at .y; z = at .z }) r →
+          Going p s words count dead ta td work S a fa fd after-bytes (listed + 1) r
+      turn o e after-bytes r eo ee put next =
+          let n = entered p S source (g .entries) (at .node) (g .listing) (is-at (placeOf at) refl .node) unclear o e eo ee in
+          found after-bytes (listed + 1) _ r after next (g .entries ++ (e ∷ [])) (n .1) (put (g .entries) (g .held) (g .long) roomy) (omega (arith, length-append (g .entries) (e ∷ []), g .long))
 
-    pub done : s .z ≤ at .z → first entries listed ≡ entriesFrom large p S 0 (nodeCount (shapeOf p))
+    pub done : s .z ≤ at .z → Listed p S bytes listed
     done m =
         let e = stands-end s ok at (g .stands) m in
         let n : nodeCount s ≡ nodeCount (shapeOf p) = ap nodeCount same in
-        ended p S entries listed (at .node) (g .listing) (omega arith)
+        let all = ended p S (g .entries) (at .node) (g .listing) (omega arith) in
+        record { held = rw (← all) (g .held); many = sym (g .long) ∙ ap length all }
 
-  pub begun : (r : At) → NextOutside s fa (record { node = 0; x = 0; y = 0; z = 0 }) r → Going p s words count dead ta td work S a fa fd (replicate 4095 noEntry) 0 r
-  begun r next = found (replicate 4095 noEntry) 0 _ r (starts s ok) next (begin p S)
+  pub begun : (bytes : List ℕ) → 20482 ≤ length bytes → (r : At) → NextOutside s fa (record { node = 0; x = 0; y = 0; z = 0 }) r → Going p s words count dead ta td work S a fa fd bytes 0 r
+  begun bytes b r next = found bytes 0 _ r (starts s ok) next [] (begin p S) (none-held bytes b) refl
 
 -- What is made of a plan for its sound source S, with no sets to its nodes.
 pub planned-known :

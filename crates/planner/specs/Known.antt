@@ -13,6 +13,8 @@ use Rattle.plan.specs.Layout.{shapeOf, faultsOf}
 use Rattle.plan.specs.Checks.{large}
 use Rattle.dead.specs.Dead.{deadNode, bitOf, nodeAnswer}
 use Rattle.masks.specs.Masks.{Masked}
+use Rattle.route_value.specs.Making.{Holds}
+use Rattle.planned_sheet.specs.Sheet.{entriesFrom}
 use Rattle.first_clear.specs.Known.{OfPlan, IsAt, FromSet, BothTo, NearLosses}
 
 -- A run with both sets to each node, 512 rows a node; or an empty run.
@@ -49,3 +51,8 @@ pub record Ready (p : List ℕ) (s : Shape) (words : List ℕ) (count : ℕ) (de
   pub alive : deadNode (faultsOf p) S ≡ false
   pub adaptive : FromSet p Adaptive S fa
   pub deterministic : FromSet p Deterministic S fd
+
+-- The bytes hold the entries of the sheet from S, which are so many.
+pub record Listed (p : List ℕ) (S : ℕ) (bytes : List ℕ) (count : ℕ) : Type 0 where
+  pub held : Holds (entriesFrom large p S 0 (nodeCount (shapeOf p))) bytes
+  pub many : count ≡ length (entriesFrom large p S 0 (nodeCount (shapeOf p)))

@@ -10,7 +10,7 @@ use masks::table::gather;
 use masks::table::table;
 use numbers::OUTPUT_SHORT;
 use plan::layout::shape_in;
-use route_value::put_routes;
+use route_value::put_made;
 use shape::Shape;
 use sheet::output::Written;
 ghost use mathlib.Core.Path.{_≡_};
@@ -77,7 +77,8 @@ fn write_board(
     let a = coords(shape, source);
     let adaptive = gather(sa, a);
     let deterministic = gather(sd, a);
-    let routes = routes_from(
+    let mut bytes = [0u8; 20482];
+    let entries = routes_from(
         plan,
         shape,
         words,
@@ -90,8 +91,9 @@ fn write_board(
         a,
         &adaptive,
         &deterministic,
+        &mut bytes,
     );
-    step_of(put_routes(routes, out))
+    step_of(put_made(source, entries, &mut bytes, out))
 }
 
 // The run from a board on, with the sets to all nodes.

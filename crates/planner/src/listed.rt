@@ -6,29 +6,25 @@ use crate::sifted::renew;
 use crate::sifted::row_at;
 use first_clear::sets_of::from_masks;
 use machine::leg::Mode;
-use route_value::Routes;
-use routes::Entry;
+use route_value::set_entry;
 use routes::kinds::entry_for;
-use routes::layout::MOST_ENTRIES;
 use shape::Coords;
 use shape::Shape;
 ghost use mathlib.Core.Path.{_≡_};
 ghost use mathlib.Core.Bool.{true, false};
+ghost use Prim.Native.Nat.{_≤_};
+ghost use lib.ListN.{length};
 ghost use Rattle.machine.specs.declared.leg.Mode.the-variants.{Adaptive, Deterministic};
-ghost use Rattle.machine.specs.Number.{nodeCount};
-ghost use Rattle.plan.specs.Layout.{shapeOf, faultsOf};
-ghost use Rattle.plan.specs.Checks.{large};
+ghost use Rattle.plan.specs.Layout.{faultsOf};
 ghost use Rattle.dead.specs.Dead.{deadNode};
 ghost use Rattle.masks.specs.Masks.{Ended};
-ghost use Rattle.route_value.specs.Writing.{routeEntries};
-ghost use Rattle.planned_sheet.specs.Sheet.{entriesFrom};
 ghost use Rattle.first_clear.specs.Known.{IsAt};
-ghost use Rattle.planner.specs.Known.{Prepared, Ready};
+ghost use Rattle.planner.specs.Known.{Prepared, Ready, Listed};
 
 // No row of nodes: they are 256.
 const NO_ROW: u16 = 256;
 
-// The sets from the source, and what is known of the plan. Each destination is planned once, with the losses that can lie on the shortest ways to its row.
+// The sets from the source, and what is known of the plan; the entries go to their places in the bytes of a sheet. Each destination is planned once, with the losses that can lie on the shortest ways to its row.
 fn list(
     plan: &[u8],
     shape: Shape,
@@ -42,15 +38,12 @@ fn list(
     a: Coords,
     fa: &[u16; 256],
     fd: &[u16; 256],
-) -> Routes
+    bytes: &mut [u8],
+) -> u16
     requires { ⌜ Ready (now plan) shape (now words) count (now dead) (now ta) (now td) (now work) source a (now fa) (now fd) ⌝ }
-    ensures { λ r. ⌜ (r .source ≡ source) × (routeEntries r ≡ entriesFrom large (now (plan .entry)) source 0 (nodeCount (shapeOf (now (plan .entry))))) ⌝ }
+    requires { ⌜ 20482 ≤ length (now bytes) ⌝ }
+    ensures { λ r. ⌜ Listed (now (plan .entry)) source (now (bytes .exit)) r ⌝ }
 {
-    let mut entries = [Entry {
-        dest: 0,
-        kind: 0,
-        via: 0,
-    }; MOST_ENTRIES];
     let mut listed: usize = 0;
     let mut near = [0u16; 256];
     let mut nears: usize = 0;
@@ -92,7 +85,7 @@ fn list(
             dest,
             t,
         );
-        entries[listed] = entry_for(dest, outcome);
+        set_entry(bytes, listed, entry_for(dest, outcome));
         listed = listed + 1;
         at = next_outside(
             shape,
@@ -105,15 +98,10 @@ fn list(
             },
         );
     }
-    let entry_count = listed as u16;
-    Routes {
-        source: source,
-        count: entry_count,
-        entries: entries,
-    }
+    listed as u16
 }
 
-// From a sound source, whose masks they are. The empty run `work` has no sets.
+// From a sound source, whose masks they are: its entries in the bytes of a sheet, and how many they are. The empty run `work` has no sets.
 pub fn routes_from(
     plan: &[u8],
     shape: Shape,
@@ -127,13 +115,15 @@ pub fn routes_from(
     a: Coords,
     adaptive: &[u16; 288],
     deterministic: &[u16; 288],
-) -> Routes
+    bytes: &mut [u8],
+) -> u16
     requires { ⌜ Prepared (now plan) shape (now words) count (now dead) (now ta) (now td) (now work) ⌝ }
     requires { ⌜ IsAt (now plan) source a ⌝ }
     requires { ⌜ Ended Adaptive true shape a (now adaptive) ⌝ }
     requires { ⌜ Ended Deterministic true shape a (now deterministic) ⌝ }
     requires { ⌜ deadNode (faultsOf (now plan)) source ≡ false ⌝ }
-    ensures { λ r. ⌜ (r .source ≡ source) × (routeEntries r ≡ entriesFrom large (now (plan .entry)) source 0 (nodeCount (shapeOf (now (plan .entry))))) ⌝ }
+    requires { ⌜ 20482 ≤ length (now bytes) ⌝ }
+    ensures { λ r. ⌜ Listed (now (plan .entry)) source (now (bytes .exit)) r ⌝ }
 {
     let fa = from_masks(words, count, adaptive);
     let fd = from_masks(words, count, deterministic);
@@ -150,5 +140,6 @@ pub fn routes_from(
         a,
         &fa,
         &fd,
+        bytes,
     )
 }

@@ -11,16 +11,15 @@ use masks::table::ends;
 use masks::table::table;
 use plan::check;
 use plan::layout::shape_in;
-use route_value::Routes;
-use route_value::put_routes;
+use route_value::put_made;
 use sheet::output::Written;
 ghost use mathlib.Core.Path.{_≡_};
+ghost use Prim.Native.Nat.{_≤_};
+ghost use lib.ListN.{length};
 ghost use Rattle.sheet.specs.Output.{roomError, written, outAfter};
-ghost use Rattle.plan.specs.Layout.{shapeOf};
 ghost use Rattle.plan.specs.Checks.{large};
-ghost use Rattle.machine.specs.Number.{nodeCount};
-ghost use Rattle.route_value.specs.Writing.{routeEntries};
-ghost use Rattle.planned_sheet.specs.Sheet.{sourceError, entriesFrom, plannedSheet};
+ghost use Rattle.planned_sheet.specs.Sheet.{sourceError, plannedSheet};
+ghost use Rattle.planner.specs.Known.{Listed};
 
 // Checks 1 to 8, then 9 and 10 of the source; 0 where none declines.
 pub fn source_error(plan: &[u8], source: u16) -> u8
@@ -31,10 +30,11 @@ pub fn source_error(plan: &[u8], source: u16) -> u8
     first_error(error, known, is_dead_node(plan, source))
 }
 
-// What a sheet from a sound source says, by the losses: in fixed memory, with no set to any node kept.
-fn planned(plan: &[u8], source: u16) -> Routes
+// The entries of a sheet from a sound source, in their places of its bytes, by the losses: in fixed memory, with no set to any node kept.
+fn planned(plan: &[u8], source: u16, bytes: &mut [u8]) -> u16
     requires { ⌜ sourceError large (now plan) source ≡ 0 ⌝ }
-    ensures { λ r. ⌜ (r .source ≡ source) × (routeEntries r ≡ entriesFrom large (now (plan .entry)) source 0 (nodeCount (shapeOf (now (plan .entry))))) ⌝ }
+    requires { ⌜ 20482 ≤ length (now bytes) ⌝ }
+    ensures { λ r. ⌜ Listed (now (plan .entry)) source (now (bytes .exit)) r ⌝ }
 {
     let shape = shape_in(plan);
     let lost = losses(plan);
@@ -60,6 +60,7 @@ fn planned(plan: &[u8], source: u16) -> Routes
         a,
         &adaptive,
         &deterministic,
+        bytes,
     )
 }
 
@@ -71,5 +72,7 @@ pub fn write_sheet(plan: &[u8], source: u16, out: &mut [u8]) -> Written
     if error != 0 {
         return Written::Refused(error);
     }
-    put_routes(planned(plan, source), out)
+    let mut bytes = [0u8; 20482];
+    let count = planned(plan, source, &mut bytes);
+    put_made(source, count, &mut bytes, out)
 }

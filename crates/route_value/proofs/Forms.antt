@@ -57,7 +57,7 @@ head-row : (l : List ℕ) (S n : ℕ) → putHead l S n ≡ sets l 0 (headBytes 
 unfolding putHead headBytes
 head-row l S n = refl
 
-entry-row : (l : List ℕ) (i : ℕ) (e : Entry) → putEntry l i e ≡ sets l (entriesAt + 5 * i) (entryForm written .bytes e)
+pub entry-row : (l : List ℕ) (i : ℕ) (e : Entry) → putEntry l i e ≡ sets l (entriesAt + 5 * i) (entryForm written .bytes e)
 unfolding putEntry
 entry-row l i e =
     let a = entriesAt + 5 * i in

@@ -5,4 +5,4 @@ pub mod Many
 pub mod Readings
 pub mod Rewriting
 pub mod RoundTrips
-pub mod Putting
+pub mod InPlace

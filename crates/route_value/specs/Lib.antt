@@ -3,3 +3,4 @@ pub mod Writing
 pub mod Value
 -- The code's own steps.
 pub mod Steps
+pub mod Making

@@ -2,14 +2,11 @@
 use Prim.Native.Nat.{ℕ}
 use mathlib.Core.List.{List, _∷_, _++_}
 use lib.ListN.{length, getD}
-use lib.Dec.{ltb}
-use Rattle.numbers.specs.Numbers.{wrongRouteSheet}
-use Rattle.theory.specs.Checks.{declined, _then_}
 use Rattle.sheet.specs.Bytes.{upperByte, lowerByte, wordBytes, listFrom}
 use Rattle.sheet.specs.Head.{frontBytes}
 use Rattle.sheet.specs.Records.{recordsBytes}
 use Rattle.routes.specs.declared.layout.Entry.{Entry}
-use Rattle.routes.specs.Layout.{Format, written, entryForm, sizeAfter, noEntry, mostEntries}
+use Rattle.routes.specs.Layout.{Format, written, entryForm, sizeAfter, noEntry}
 use Rattle.route_value.specs.declared.reading.Routes.{Routes}
 
 -- Version, length of what follows, source and entry count.
@@ -26,7 +23,3 @@ routeEntries r = listFrom (λ i. getD (r .entries) i noEntry) 0 (r .count)
 
 unfoldable pub sheetOf : Routes → List ℕ
 sheetOf r = sheetBytes written (r .source) (routeEntries r)
-
--- What a check of the routes alone declines them with: more entries than a sheet holds.
-unfoldable pub countError : Routes → ℕ
-countError r = declined (ltb mostEntries (r .count)) wrongRouteSheet then 0

@@ -17,7 +17,7 @@ ghost use Rattle.routes.specs.Layout.{written, entriesAt, entrySize, mostEntrie
 ghost use Rattle.route_value.specs.Steps.{putHead, putEntry};
 ghost use Rattle.route_value.specs.Writing.{sheetOf};
 
-fn put_head(bytes: &mut [u8], source: u16, count: u16)
+pub fn put_head(bytes: &mut [u8], source: u16, count: u16)
     requires { ⌜ count ≤ mostEntries ⌝ }
     ensures { λ _. ⌜ now (bytes .exit) ≡ putHead (now (bytes .entry)) source count ⌝ }
 {
@@ -27,7 +27,7 @@ fn put_head(bytes: &mut [u8], source: u16, count: u16)
     put_word(bytes, 5, count);
 }
 
-fn put_entry(bytes: &mut [u8], i: usize, e: Entry)
+pub fn put_entry(bytes: &mut [u8], i: usize, e: Entry)
     requires { ⌜ entriesAt + entrySize written * i + entrySize written ≤ length (now bytes) ⌝ }
     ensures { λ _. ⌜ now (bytes .exit) ≡ putEntry (now (bytes .entry)) i e ⌝ }
 {

@@ -1,10 +1,12 @@
-// The route sheet as a value: read from a sheet, and written to one.
+// The route sheet as a value: read from a sheet, and written to one; and a sheet made in place.
 mod encode;
+mod making;
 mod reading;
 mod writing;
 
+pub use making::put_made;
+pub use making::set_entry;
 pub use reading::Reading;
 pub use reading::Routes;
 pub use reading::read;
-pub use writing::put_routes;
 pub use writing::write;

@@ -2,7 +2,6 @@
 use crate::encode::encode;
 use crate::reading::Routes;
 use logic::pick;
-use numbers::OUTPUT_SHORT;
 use numbers::WRONG_ROUTE_SHEET;
 use routes::layout::ENTRIES_AT;
 use routes::layout::ENTRY_SIZE;
@@ -13,9 +12,9 @@ ghost use mathlib.Core.Path.{_≡_};
 ghost use Prim.Native.Nat.{_≤_};
 ghost use lib.ListN.{length, take};
 ghost use Rattle.plan.specs.Checks.{large};
-ghost use Rattle.sheet.specs.Output.{roomError, written, outAfter};
+ghost use Rattle.sheet.specs.Output.{written, outAfter};
 ghost use Rattle.routes.specs.Writing.{writeError};
-ghost use Rattle.route_value.specs.Writing.{sheetOf, countError};
+ghost use Rattle.route_value.specs.Writing.{sheetOf};
 
 // The sheet in the first `end` bytes.
 fn write_front(plan: &[u8], bytes: &[u8], end: usize, out: &mut [u8]) -> Written
@@ -39,21 +38,4 @@ pub fn write(plan: &[u8], routes: Routes, out: &mut [u8]) -> Written
     let mut bytes = [0u8; 20482];
     encode(routes, &mut bytes);
     write_front(plan, &bytes, ENTRIES_AT + ENTRY_SIZE * count, out)
-}
-
-// The sheet of routes with no plan to check them by: 13 for more entries than a sheet holds, then 12.
-pub fn put_routes(routes: Routes, out: &mut [u8]) -> Written
-    ensures { λ r. ⌜ r ≡ written (roomError (countError routes) (sheetOf routes) (now (out .entry))) (sheetOf routes) ⌝ }
-    ensures { λ _. ⌜ now (out .exit) ≡ outAfter (roomError (countError routes) (sheetOf routes) (now (out .entry))) (sheetOf routes) (now (out .entry)) ⌝ }
-{
-    let count = routes.count as usize;
-    if MOST_ENTRIES < count {
-        return Written::Refused(WRONG_ROUTE_SHEET);
-    }
-    let size = ENTRIES_AT + ENTRY_SIZE * count;
-    if out.len() < size {
-        return Written::Refused(OUTPUT_SHORT);
-    }
-    encode(routes, out);
-    Written::Bytes(size)
 }

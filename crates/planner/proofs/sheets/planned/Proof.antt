@@ -1,16 +1,7 @@
-use borrow.Author.Needs.{needs}
 use Rattle.planner.proofs.Writing.{planned-known}
+use borrow.Author.Needs.{needs}
 use Rattle.planner.proofs.sheets.planned.Statement.{statement}
 use Rattle.planner.proofs.sheets.planned.Tie as tie
-use Rattle.planner.proofs.sheets.planned.Reads as reads
-use Rattle.planner.proofs.sheets.planned.Lts as lts
-use Rattle.dead.proofs.dead_nodes.Reads as dead-nodes-reads
-use Rattle.losses.proofs.losses.Reads as losses-reads
-use Rattle.machine.proofs.node.coords.Reads as coords-reads
-use Rattle.masks.proofs.table.ends.Reads as ends-reads
-use Rattle.masks.proofs.table.table.Reads as table-reads
-use Rattle.plan.proofs.layout.shape_in.Reads as shape-in-reads
-use Rattle.planner.proofs.listed.routes_from.Reads as routes-from-reads
 
 shape-in-requires : tie.Need-shape-in-requires
 shape-in-requires c κs = search needs
@@ -44,8 +35,11 @@ slice-aggregate-routes-from c = search needs
 
 routes-from-requires : tie.Need-routes-from-requires
 routes-from-requires c κs =
-    let k = planned-known _ _ _ _ _ _ _ _ _ (c .before .before .before .before .before .before .before .before .before .before .before .before .before .before .before .before .before .before .pre) (c .before .before .before .before .before .before .before .before .before .before .before .before .before .before .before .before .shape-in .ensures) (c .before .before .before .before .before .before .before .before .before .before .before .before .before .before .before .losses .ensures) (c .before .before .before .before .before .before .before .before .before .before .before .before .dead-nodes .ensures) (c .before .before .before .before .before .before .before .before .before .before .before .table .ensures) (c .before .before .before .before .before .before .before .before .before .before .table2 .ensures) (c .before .before .before .before .before .before .before .before .before .coords .ensures) in
-    (k .0, (k .1 .0, (c .before .before .before .before .before .before .before .before .ends .ensures, (c .before .before .before .before .before .before .before .ends2 .ensures, k .1 .1))))
+    let k = planned-known _ _ _ _ _ _ _ _ _ (c .before .before .before .before .before .before .before .before .before .before .before .before .before .before .before .before .before .before .before .before .pre .0) (c .before .before .before .before .before .before .before .before .before .before .before .before .before .before .before .before .before .shape-in .ensures) (c .before .before .before .before .before .before .before .before .before .before .before .before .before .before .before .before .losses .ensures) (c .before .before .before .before .before .before .before .before .before .before .before .before .before .dead-nodes .ensures) (c .before .before .before .before .before .before .before .before .before .before .before .before .table .ensures) (c .before .before .before .before .before .before .before .before .before .before .before .table2 .ensures) (c .before .before .before .before .before .before .before .before .before .before .coords .ensures) in
+    (k .0, (k .1 .0, (c .before .before .before .before .before .before .before .before .before .ends .ensures, (c .before .before .before .before .before .before .before .before .ends2 .ensures, (k .1 .1, c .before .before .before .before .before .before .before .before .before .before .before .before .before .before .before .before .before .before .before .before .pre .1)))))
+
+same-length : tie.Need-same-length
+same-length c = search needs
 
 returns : tie.Need-returns
 returns c = search needs
@@ -65,4 +59,5 @@ planned-spec =
     ends-requires-2
     slice-aggregate-routes-from
     routes-from-requires
+    same-length
     returns)

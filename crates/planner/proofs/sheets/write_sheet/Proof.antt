@@ -2,11 +2,6 @@ use Rattle.planned_sheet.proofs.Written.{refused-source, put-is}
 use borrow.Author.Needs.{needs}
 use Rattle.planner.proofs.sheets.write_sheet.Statement.{statement}
 use Rattle.planner.proofs.sheets.write_sheet.Tie as tie
-use Rattle.planner.proofs.sheets.write_sheet.Reads as reads
-use Rattle.planner.proofs.sheets.write_sheet.Lts as lts
-use Rattle.planner.proofs.sheets.planned.Reads as planned-reads
-use Rattle.planner.proofs.sheets.source_error.Reads as source-error-reads
-use Rattle.route_value.proofs.put_routes.Reads as put-routes-reads
 
 source-error-requires : tie.Need-source-error-requires
 source-error-requires c κs = search needs
@@ -14,17 +9,25 @@ source-error-requires c κs = search needs
 returns : tie.Need-returns
 returns c = refused-source _ _ _ _ (c .before .source-error .ensures) (c .if1 .taken)
 
+slice-aggregate-planned : tie.Need-slice-aggregate-planned
+slice-aggregate-planned c = search needs
+
 planned-requires : tie.Need-planned-requires
 planned-requires c κs = search needs
 
-put-routes-requires : tie.Need-put-routes-requires
-put-routes-requires c κs = search needs
+slice-aggregate-put-made : tie.Need-slice-aggregate-put-made
+slice-aggregate-put-made c = search needs
+
+put-made-requires : tie.Need-put-made-requires
+put-made-requires c κs = search needs
 
 same-length : tie.Need-same-length
 same-length c = search needs
 
 returns-2 : tie.Need-returns-2
-returns-2 c = put-is _ _ _ _ _ _ _ (c .before .before .before .before .before .before .source-error .ensures) (c .before .before .before .before .before .if1 .left) (c .before .before .before .before .planned .ensures) (c .before .before .put-routes .ensures)
+returns-2 c =
+    let listed = c .before .before .before .before .before .before .before .planned .ensures in
+    put-is _ _ _ _ _ _ _ _ (c .before .before .before .before .before .before .before .before .before .before .source-error .ensures) (c .before .before .before .before .before .before .before .before .before .if1 .left) (listed .held) (listed .many) (c .before .before .before .put-made .ensures)
 
 pub write-sheet-spec : {M : Type 1} → statement M
 write-sheet-spec =
@@ -32,7 +35,9 @@ write-sheet-spec =
     (tie.spec
     source-error-requires
     returns
+    slice-aggregate-planned
     planned-requires
-    put-routes-requires
+    slice-aggregate-put-made
+    put-made-requires
     same-length
     returns-2)

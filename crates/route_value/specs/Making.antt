@@ -1,0 +1,32 @@
+-- The code's own steps: a route sheet made in place, entry by entry.
+use Prim.Native.Nat.{ℕ, _+_, _*_, _≤_, _<_}
+use mathlib.Core.Path.{_≡_}
+use mathlib.Core.List.{List, [], _∷_, _++_}
+use lib.ListN.{length, take, drop}
+use Rattle.numbers.specs.Numbers.{wrongRouteSheet}
+use Rattle.sheet.specs.declared.output.Written.{Written}
+use Rattle.sheet.specs.declared.output.Written.the-variants.{Refused}
+use Rattle.sheet.specs.Output.{roomError, written, outAfter}
+use Rattle.sheet.specs.Records.{recordsBytes}
+use Rattle.routes.specs.declared.layout.Entry.{Entry}
+use Rattle.routes.specs.Layout as Layout
+use Rattle.routes.specs.Layout.{entryForm, entrySize, entriesAt, mostEntries}
+use Rattle.route_value.specs.Writing.{sheetBytes}
+
+-- Bytes with room for any sheet hold these entries, in the places of a sheet's first.
+pub record Holds (es : List Entry) (bytes : List ℕ) : Type 0 where
+  pub room : entriesAt + entrySize Layout.written * mostEntries ≤ length bytes
+  pub entries : take (entrySize Layout.written * length es) (drop entriesAt bytes) ≡ recordsBytes (entryForm Layout.written) es
+
+-- Entry number i is put behind those that the bytes hold.
+abbrev pub Added : List ℕ → ℕ → Entry → List ℕ → Type 0
+Added bytes i e after = (es : List Entry) → Holds es bytes → length es ≡ i → i < mostEntries → Holds (es ++ (e ∷ [])) after
+
+-- The answer w to putting the sheet of the entries that the bytes hold, and the output t afterwards: a refusal leaves it.
+pub record PutMade (S count : ℕ) (bytes o : List ℕ) (w : Written) (t : List ℕ) : Type 0 where
+  pub many : mostEntries < count → (w ≡ Refused wrongRouteSheet) × (t ≡ o)
+  pub short : length bytes < entriesAt + entrySize Layout.written * count → (w ≡ Refused wrongRouteSheet) × (t ≡ o)
+  pub refused : (n : ℕ) → w ≡ Refused n → t ≡ o
+  pub made :
+      (es : List Entry) → Holds es bytes → length es ≡ count → count ≤ mostEntries →
+      (w ≡ written (roomError 0 (sheetBytes Layout.written S es) o) (sheetBytes Layout.written S es)) × (t ≡ outAfter (roomError 0 (sheetBytes Layout.written S es) o) (sheetBytes Layout.written S es) o)
