@@ -35,15 +35,16 @@ use Rattle.masks.proofs.Spans.{box-inside}
 use Rattle.masks.proofs.Tables.{gathered}
 use Rattle.search.specs.FirstVia.{isVia, FirstOf}
 use Rattle.first_clear.specs.Rows.{Put}
-use Rattle.first_clear.specs.Known.{isClear, OfPlan, IsAt, FromSet, ToBetween, OnlyBetween, BothTo, IsBox, NearLosses, nearRoute, routeTold, isGiven, Near, Apart, Nearing, NearMasks, NearDone, Faring, Halfway, FarMasks, BySets, ByLosses}
-use Rattle.first_clear.proofs.Knowing.{shape-ok, to-within, within-only, put-set, both-between}
+use Rattle.first_clear.specs.Known.{isClear, OfPlan, IsAt, FromSet, ToBetween, BothTo, IsBox, NearLosses, nearRoute, viaRoute, oneRoute, routeTold, isGiven, LowestVia, Blocked, Near, Apart, Nearing, NearMasks, NearDone, Short, Faring, FarMasks, BySets, ByLosses}
+use Rattle.first_clear.proofs.Knowing.{shape-ok, to-within, put-set, both-between}
 use Rattle.first_clear.proofs.FirstSteps.{near-by, box-lowest}
+use Rattle.first_clear.proofs.ShortStep.{one-near, two-near}
 
 -- The answer of the first steps, or else that of the last.
 pub first-given : (p : List ℕ) (S D : ℕ) (r : Outcome) (b : Bool) → Near p S D r → b ≡ isGiven r → b ≡ true → r ≡ routeTold p S D
 first-given p S D r b n e t = n .given (sym e ∙ t)
 
-pub none-given : (p : List ℕ) (S D : ℕ) (r : Outcome) (b : Bool) → Near p S D r → b ≡ isGiven r → b ≡ false → isClear p Deterministic S D ≡ false
+pub none-given : (p : List ℕ) (S D : ℕ) (r : Outcome) (b : Bool) → Near p S D r → b ≡ isGiven r → b ≡ false → Blocked p S D
 none-given p S D r b n e t = n .none (sym e ∙ t)
 
 -- The box of two nodes has just the nodes on the shortest ways between them.
@@ -84,11 +85,8 @@ has-is p m rows S D t g to b e = e ∙ ap (inRows rows 0) (to .at) ∙ g D (to .
 
 -- A set made within the box, by losses that stand for all there.
 pub within-box : (p : List ℕ) (s : Shape) (words : List ℕ) (count : ℕ) (near : List ℕ) (n S D : ℕ) (t : Coords) (bx by bz : ℕ) (m : Mode) (masks rows : List ℕ) →
-    OfPlan p s words count → NearLosses p S D words count near n → IsAt p D t → IsBox p S D bx by bz → Ended m false s t masks → Are (clearIn bx by bz masks near n) rows → (ToBetween p m S D rows 0) × (OnlyBetween p S D rows 0)
-within-box p s words count near n S D t bx by bz m masks rows k g to b e r = (
-  λ v l w. to-within p s words count k D t to m masks rows bx by bz near n (g .few) e r v l (b v l .1 w) (g .same m v l w),
-  λ v l i. b v l .0 (within-only p s words count k D t to m masks rows bx by bz near n (g .few) e r v l i),
-)
+    OfPlan p s words count → NearLosses p S D words count near n → IsAt p D t → IsBox p S D bx by bz → Ended m false s t masks → Are (clearIn bx by bz masks near n) rows → ToBetween p m S D rows 0
+within-box p s words count near n S D t bx by bz m masks rows k g to b e r v l w = to-within p s words count k D t to m masks rows bx by bz near n (g .few) e r v l (b v l .1 w) (g .same m v l w)
 
 -- All losses stand for all.
 pub all-near : (p : List ℕ) (s : Shape) (words : List ℕ) (count : ℕ) → OfPlan p s words count → (S D : ℕ) → NearLosses p S D words count words count
@@ -107,7 +105,7 @@ pub near-of :
     (p : List ℕ) (s : Shape) (S D len bx by bz : ℕ) (fa : List ℕ) (straight : Bool) (to : List ℕ) (at : ℕ) → Nearing p s S D len bx by bz fa straight to at →
     (via : ℕ) → FirstOf (nodeCount s) (isVia s bx by bz fa to at) via → (r : Outcome) → r ≡ nearRoute via straight len → Near p S D r
 near-of p s S D len bx by bz fa straight to at g via first =
-    near-by p S D len straight (g .apart) via (box-lowest p s S D bx by bz fa to at (g .shape) (g .apart .plan) (g .room) via first (g .box) (g .out) (g .back))
+    near-by p S D len straight (g .apart) via (box-lowest p s Adaptive Adaptive S D bx by bz fa to at (g .shape) (g .apart .plan) (g .room) via first (g .box) (g .out) (g .back))
 
 module _ (p : List ℕ) (s : Shape) (S D : ℕ) (a t : Coords) (near : List ℕ) (n : ℕ) (ends fa : List ℕ) (straight : Bool) (run : List ℕ) (g : NearMasks p s S D a t near n ends fa straight run) (b : Box) (eb : b ≡ boxOf s a t) where
   box-of : IsBox p S D (b .x) (b .y) (b .z)
@@ -121,7 +119,7 @@ module _ (p : List ℕ) (s : Shape) (S D : ℕ) (a t : Coords) (near : List ℕ)
       between-new : ToBetween p Adaptive S D new 0
       between-new v l w =
           put-set (shapeOf p) (shape-ok p (g .of-plan .plan)) 0 set run new put v l
-          ∙ within-box p s (g .words) (g .count) near n S D t (b .x) (b .y) (b .z) Adaptive ends set (g .of-plan) (g .standing) (g .target) box-of (g .ended) are .0 v l w
+          ∙ within-box p s (g .words) (g .count) near n S D t (b .x) (b .y) (b .z) Adaptive ends set (g .of-plan) (g .standing) (g .target) box-of (g .ended) are v l w
 
       pub box-nearing : Nearing p s S D len (b .x) (b .y) (b .z) fa straight new 0
       box-nearing = record { apart = apart-here; shape = g .of-plan .shape; box = box-of; out = g .out; back = between-new; room = omega (arith, g .room, put .rest .long) }
@@ -129,29 +127,50 @@ module _ (p : List ℕ) (s : Shape) (S D : ℕ) (a t : Coords) (near : List ℕ)
       pub box-done : (r : Outcome) → Near p S D r → NearDone p S D r new
       box-done r k = record { near = k; set = λ _. (omega (arith, g .room, put .rest .long), between-new) }
 
+-- ---- the step between
+module _ (p : List ℕ) (s : Shape) (S D len bx by bz : ℕ) (fa fd to : List ℕ) (at : ℕ) (g : Short p s S D len bx by bz fa fd to at)
+    (first second : ℕ) (lf : FirstOf (nodeCount s) (isVia s bx by bz fa to (at + 256)) first) (ls : FirstOf (nodeCount s) (isVia s bx by bz fd to at) second) where
+  lowest-first : LowestVia p Adaptive Deterministic S D first
+  lowest-first = box-lowest p s Adaptive Deterministic S D bx by bz fa to (at + 256) (g .shape) (g .plan) (omega (arith, g .both .room)) first lf (g .box) (g .adaptive) (g .both .deterministic)
+
+  lowest-second : LowestVia p Deterministic Adaptive S D second
+  lowest-second = box-lowest p s Deterministic Adaptive S D bx by bz fd to at (g .shape) (g .plan) (omega (arith, g .both .room)) second ls (g .box) (g .deterministic) (g .both .adaptive)
+
+  pub one-of : (r : Outcome) → r ≡ oneRoute first second len → Near p S D r
+  one-of = one-near p S D len (g .plan) (g .source) (g .target) (g .distance) (g .blocked) first second lowest-first lowest-second
+
+  pub two-of : (one : Outcome) (b : Bool) → one ≡ oneRoute first second len → b ≡ isGiven one → b ≡ false → (third : ℕ) → FirstOf (nodeCount s) (isVia s bx by bz fd to (at + 256)) third →
+      (r : Outcome) → r ≡ viaRoute third Deterministic Deterministic len → Near p S D r
+  two-of one b e eb none third lt =
+      two-near p S D len (g .plan) (g .source) (g .target) (g .distance) (g .blocked) first second lowest-first lowest-second third
+      (box-lowest p s Deterministic Deterministic S D bx by bz fd to (at + 256) (g .shape) (g .plan) (omega (arith, g .both .room)) third lt (g .box) (g .deterministic) (g .both .deterministic))
+      (sym (ap isGiven e) ∙ sym eb ∙ none)
+
 -- ---- the last steps, by the masks
 module _ (p : List ℕ) (s : Shape) (words : List ℕ) (count S D : ℕ) (a t : Coords) (near : List ℕ) (n : ℕ) (adaptive deterministic fa fd run : List ℕ)
     (g : FarMasks p s words count S D a t near n adaptive deterministic fa fd run) where
   abbrev k : OfPlan p s words count
   k = g .ends .of-plan
 
-  pub masks-halfway : (b : Box) → b ≡ boxOf s a t → (set new : List ℕ) → Are (clearIn (b .x) (b .y) (b .z) deterministic near n) set → Put 256 set 256 run new → Halfway p s S D a t fa fd new 0
-  masks-halfway b eb set new are put =
+  pub masks-short : (b : Box) → b ≡ boxOf s a t → (len : ℕ) → len ≡ distanceAt s a t → (set new : List ℕ) → Are (clearIn (b .x) (b .y) (b .z) deterministic near n) set → Put 256 set 256 run new →
+      Short p s S D len (b .x) (b .y) (b .z) fa fd new 0
+  masks-short b eb len el set new are put =
       let box = is-box p s S D a t (k .plan) (k .shape) (g .source) (g .ends .node) b eb in
-      let w = within-box p s words count near n S D t (b .x) (b .y) (b .z) Deterministic deterministic set k (g .standing) (g .ends .node) box (g .ends .deterministic) are in
       record {
         plan = k .plan;
         shape = k .shape;
-        source = g .source;
-        target = g .ends .node;
+        source = g .source .node;
+        target = g .ends .node .node;
+        distance = length-is p s S D a t len (k .shape) (g .source) (g .ends .node) el;
+        box = box;
         adaptive = g .out;
         deterministic = g .straight;
-        both = both-between p (k .plan) S D set run new (g .set .0) put (g .set .1) (w .0) (w .1);
+        both = both-between p (k .plan) S D set run new (g .set .0) put (g .set .1) (within-box p s words count near n S D t (b .x) (b .y) (b .z) Deterministic deterministic set k (g .standing) (g .ends .node) box (g .ends .deterministic) are);
         blocked = g .blocked;
       }
 
   pub masks-faring : (new : List ℕ) → BothTo p D new 0 → Faring p s S D a t fa fd new 0
-  masks-faring new both = record { plan = k .plan; shape = k .shape; source = g .source; target = g .ends .node; adaptive = g .out; deterministic = g .straight; both = both; blocked = g .blocked }
+  masks-faring new both = record { plan = k .plan; shape = k .shape; source = g .source; target = g .ends .node; adaptive = g .out; deterministic = g .straight; both = both; blocked = g .blocked .straight }
 
 -- ---- one destination
 module _ (p : List ℕ) (s : Shape) (work : List ℕ) (S D : ℕ) (a t : Coords) (fa fd : List ℕ) (straight : Bool) (g : BySets p s work S D a t fa fd straight) where
@@ -165,8 +184,22 @@ module _ (p : List ℕ) (s : Shape) (work : List ℕ) (S D : ℕ) (a t : Coords)
     room = omega (arith, g .both .room);
   }
 
-  pub sets-faring : isClear p Deterministic S D ≡ false → Faring p s S D a t fa fd work (512 * D)
-  sets-faring blocked = record { plan = g .plan; shape = g .shape; source = g .source; target = g .target; adaptive = g .adaptive; deterministic = g .deterministic; both = g .both; blocked = blocked }
+  pub sets-short : (len : ℕ) (b : Box) → len ≡ distanceAt s a t → b ≡ boxOf s a t → Blocked p S D → Short p s S D len (b .x) (b .y) (b .z) fa fd work (512 * D)
+  sets-short len b el eb blocked = record {
+    plan = g .plan;
+    shape = g .shape;
+    source = g .source .node;
+    target = g .target .node;
+    distance = length-is p s S D a t len (g .shape) (g .source) (g .target) el;
+    box = is-box p s S D a t (g .plan) (g .shape) (g .source) (g .target) b eb;
+    adaptive = g .adaptive;
+    deterministic = g .deterministic;
+    both = record { room = g .both .room; adaptive = λ v l _. g .both .adaptive v l; deterministic = λ v l _. g .both .deterministic v l };
+    blocked = blocked;
+  }
+
+  pub sets-faring : Blocked p S D → Faring p s S D a t fa fd work (512 * D)
+  sets-faring blocked = record { plan = g .plan; shape = g .shape; source = g .source; target = g .target; adaptive = g .adaptive; deterministic = g .deterministic; both = g .both; blocked = blocked .straight }
 
 module _ (p : List ℕ) (s : Shape) (words : List ℕ) (count : ℕ) (near : List ℕ) (n : ℕ) (ta td : List ℕ) (S D : ℕ) (a t : Coords) (fa fd : List ℕ) (straight : Bool)
     (g : ByLosses p s words count near n ta td S D a t fa fd straight) (masks : List ℕ) (gathered : (i : ℕ) → i < 288 → getD masks i 0 ≡ gatherAt ta t i) where

@@ -14,6 +14,7 @@ use Rattle.theory.proofs.Cases.{test, by-le}
 use Rattle.shape.specs.declared.shape.Shape.{Shape}
 use Rattle.shape.specs.Shape.{shapeError}
 use Rattle.shape.proofs.Shapes.{count-most}
+use Rattle.machine.specs.declared.leg.Mode.{Mode}
 use Rattle.machine.specs.declared.leg.Mode.the-variants.{Adaptive, Deterministic}
 use Rattle.machine.specs.Number.{nodeCount, coordsOf}
 use Rattle.machine.specs.Hop.{distance}
@@ -28,23 +29,23 @@ use Rattle.choice.specs.Pair.{soundIn, routeIn, chosen}
 use Rattle.choice.proofs.Search.{via-first, deterministic-first}
 use Rattle.rows.specs.Rows.{inSet, inProduct}
 use Rattle.search.specs.FirstVia.{hasRows, inAll, isVia, FirstOf}
-use Rattle.first_clear.specs.Known.{isClear, FromSet, ToBetween, routeTold, isGiven, nearRoute, Near, OnWay, LowestVia, IsBox, Apart}
+use Rattle.first_clear.specs.Known.{isClear, FromSet, ToBetween, routeTold, isGiven, nearRoute, Blocked, Near, OnWay, LowestVia, IsBox, Apart}
 use Rattle.first_clear.proofs.Knowing.{shape-ok}
 
 pub nodes-few : (s : Shape) → shapeError s ≡ 0 → nodeCount s ≤ 4096
 unfolding nodeCount
 nodes-few s h = count-most s h
 
-told-via : (s : Shape) (S D v len : ℕ) → distance s S v + distance s v D ≡ len → told s S (Given (leg v Adaptive ∷ leg D Adaptive ∷ [])) ≡ Outcome.Given (Route.Via v Adaptive Adaptive) len
+pub told-via : (s : Shape) (S D v len : ℕ) (m n : Mode) → distance s S v + distance s v D ≡ len → told s S (Given (leg v m ∷ leg D n ∷ [])) ≡ Outcome.Given (Route.Via v m n) len
 unfolding told toldAs sumBy
-told-via s S D v len e = ap (Outcome.Given (Route.Via v Adaptive Adaptive)) (omega arith)
+told-via s S D v len m n e = ap (Outcome.Given (Route.Via v m n)) (omega arith)
 
 told-straight : (s : Shape) (S D len : ℕ) → distance s S D ≡ len → told s S (Given (leg D Deterministic ∷ [])) ≡ Outcome.Given (Route.Direct Deterministic) len
 unfolding told toldAs sumBy
 told-straight s S D len e = ap (Outcome.Given (Route.Direct Deterministic)) (omega arith)
 
 -- ---- by the lowest via
-module _ (p : List ℕ) (S D len : ℕ) (straight : Bool) (g : Apart p S D len straight) (via : ℕ) (low : LowestVia p S D via) where
+module _ (p : List ℕ) (S D len : ℕ) (straight : Bool) (g : Apart p S D len straight) (via : ℕ) (low : LowestVia p Adaptive Adaptive S D via) where
   ok : shapeError (shapeOf p) ≡ 0
   ok = shape-ok p (g .plan)
 
@@ -54,7 +55,7 @@ module _ (p : List ℕ) (S D len : ℕ) (straight : Bool) (g : Apart p S D len s
       let b = f .1 in
       let route = via-first (shapeOf p) ok (soundIn p) S D (g .source) (g .target) (g .direct) via (f .0) (b .out) (b .back) (b .sum)
       (λ u lu o k q. low .before u (omega (arith, f .0)) lu (record { out = o; back = k; sum = q })) in
-      sym (told-via (shapeOf p) S D via len (b .sum ∙ sym (g .distance))) ∙ sym (ap (λ r. told (shapeOf p) S (chosen r)) route)
+      sym (told-via (shapeOf p) S D via len Adaptive Adaptive (b .sum ∙ sym (g .distance))) ∙ sym (ap (λ r. told (shapeOf p) S (chosen r)) route)
 
   directly : 4096 ≤ via → straight ≡ true → Outcome.Given (Route.Direct Deterministic) len ≡ routeTold p S D
   directly m t =
@@ -63,20 +64,23 @@ module _ (p : List ℕ) (S D len : ℕ) (straight : Bool) (g : Apart p S D len s
       (λ v l o k q. low .before v l (omega arith) (record { out = o; back = k; sum = q })) in
       sym (told-straight (shapeOf p) S D len (sym (g .distance))) ∙ sym (ap (λ r. told (shapeOf p) S (chosen r)) route)
 
+  none-of : 4096 ≤ via → straight ≡ false → Blocked p S D
+  none-of m t = let few = nodes-few (shapeOf p) ok in record { straight = sym (g .one) ∙ t; ways = λ v l w. low .before v l (omega arith) w }
+
   near-is : Near p S D (nearRoute via straight len)
   unfolding nearRoute
   near-is =
       by-le 4096 via
       (λ m. test straight
       (λ t. rw (le-ltb via 4096 m, t) (record { given = λ _. directly m t; none = λ e. absurd (true≢false e) }))
-      (λ t. rw (le-ltb via 4096 m, t) (record { given = λ e. absurd (true≢false (sym e)); none = λ _. sym (g .one) ∙ t })))
+      (λ t. rw (le-ltb via 4096 m, t) (record { given = λ e. absurd (true≢false (sym e)); none = λ _. none-of m t })))
       (λ m. rw (lt-ltb via 4096 m) (record { given = λ _. by-via m; none = λ e. absurd (true≢false e) }))
 
   pub near-by : (r : Outcome) → r ≡ nearRoute via straight len → Near p S D r
   near-by r e = rw e near-is
 
 -- ---- the first node of a product that passes the test
-module _ (p : List ℕ) (s : Shape) (S D bx by bz : ℕ) (fa to : List ℕ) (at : ℕ) (es : s ≡ shapeOf p) (h : planError large p ≡ 0) (room : at + 256 ≤ length to)
+module _ (p : List ℕ) (s : Shape) (m n : Mode) (S D bx by bz : ℕ) (fa to : List ℕ) (at : ℕ) (es : s ≡ shapeOf p) (h : planError large p ≡ 0) (room : at + 256 ≤ length to)
     (via : ℕ) (first : FirstOf (nodeCount s) (isVia s bx by bz fa to at) via) where
   fine : shapeError (shapeOf p) ≡ 0
   fine = shape-ok p h
@@ -103,15 +107,15 @@ module _ (p : List ℕ) (s : Shape) (S D bx by bz : ℕ) (fa to : List ℕ) (at 
   count-is : nodeCount s ≡ nodeCount (shapeOf p)
   count-is = ap nodeCount es
 
-  -- The nodes that pass are on the shortest ways with two clear adaptive legs, and below the first one all such nodes pass.
-  lowest-of : ((v : ℕ) → v < nodeCount (shapeOf p) → Passes v → OnWay p S D v) → ((v : ℕ) → v < nodeCount (shapeOf p) → v < via → OnWay p S D v → Passes v) → LowestVia p S D via
+  -- The nodes that pass are on the shortest ways with two clear legs, and below the first one all such nodes pass.
+  lowest-of : ((v : ℕ) → v < nodeCount (shapeOf p) → Passes v → OnWay p m n S D v) → ((v : ℕ) → v < nodeCount (shapeOf p) → v < via → OnWay p m n S D v → Passes v) → LowestVia p m n S D via
   lowest-of sound whole = record {
-    found = λ m. let f = first .found m in let l : via < nodeCount (shapeOf p) = omega (arith, f .0, count-is) in (l, sound via l (passes-is via (f .1)));
-    before = λ v l m w. true≢false (sym (is-passes v (whole v l m w)) ∙ first .before v (omega (arith, count-is)) m);
+    found = λ k. let f = first .found k in let l : via < nodeCount (shapeOf p) = omega (arith, f .0, count-is) in (l, sound via l (passes-is via (f .1)));
+    before = λ v l k w. true≢false (sym (is-passes v (whole v l k w)) ∙ first .before v (omega (arith, count-is)) k);
   }
 
   -- The product is the box.
-  pub box-lowest : IsBox p S D bx by bz → FromSet p Adaptive S fa → ToBetween p Adaptive S D to at → LowestVia p S D via
+  pub box-lowest : IsBox p S D bx by bz → FromSet p m S fa → ToBetween p n S D to at → LowestVia p m n S D via
   box-lowest box out back = lowest-of
       (λ v l b. let sum = box v l .0 (b .box) in record { out = sym (out v l) ∙ b .out; back = sym (back v l sum) ∙ b .back; sum = sum })
-      (λ v l m w. record { box = box v l .1 (w .sum); out = out v l ∙ w .out; back = back v l (w .sum) ∙ w .back })
+      (λ v l k w. record { box = box v l .1 (w .sum); out = out v l ∙ w .out; back = back v l (w .sum) ∙ w .back })

@@ -8,7 +8,6 @@ use mathlib.Core.List.{List}
 use lib.ListN.{length, getD, set, length-set}
 use lib.Seq.{getD-set-same, getD-set-other}
 use borrow.Author.Tests.{le-leb}
-use Rattle.theory.proofs.Bools.{and-true}
 use Rattle.theory.proofs.Cases.{by-le}
 use Rattle.shape.specs.declared.shape.Shape.{Shape}
 use Rattle.shape.specs.declared.shape.Coords.{Coords}
@@ -32,9 +31,9 @@ use Rattle.losses.specs.OfPlan.{AreLosses}
 use Rattle.losses.proofs.AtPlan.{clear-is}
 use Rattle.masks.specs.Masks.{Ended}
 use Rattle.sets.specs.Clear.{clearIn}
-use Rattle.sets.proofs.Sets.{clear-set, clear-in}
+use Rattle.sets.proofs.Sets.{clear-in}
 use Rattle.search.specs.FirstVia.{hasRows}
-use Rattle.first_clear.specs.Known.{isClear, OfPlan, IsAt, FromSet, ToSet, ToBetween, OnlyBetween, BothTo, BothBetween}
+use Rattle.first_clear.specs.Known.{isClear, OfPlan, IsAt, FromSet, ToSet, ToBetween, BothTo, BothBetween}
 use Rattle.first_clear.specs.Rows.{Elsewhere, Put}
 
 pub shape-ok : (p : List ℕ) → planError large p ≡ 0 → shapeError (shapeOf p) ≡ 0
@@ -83,12 +82,6 @@ module _ (p : List ℕ) (s : Shape) (words : List ℕ) (count : ℕ) (k : OfPlan
       ∙ ap (λ (t : Coords). not (onLeg rule m (shapeOf p) near some (coordsOf (shapeOf p) v) t)) (a .at)
       ∙ ap not same
       ∙ sym (clear-is p (k .plan) words count (k .losses) v n l (a .node) m)
-
-  -- No node outside the product.
-  pub within-only : (bx by bz : ℕ) (near : List ℕ) (some : ℕ) → some ≤ 256 → Ended m false s c ends → Are (clearIn bx by bz ends near some) rows → (v : ℕ) → v < nodeCount (shapeOf p) →
-      inSet (shapeOf p) rows 0 v ≡ true → inProduct bx by bz (coordsOf (shapeOf p) v) ≡ true
-  within-only bx by bz near some most e r v l i =
-      and-true (inProduct bx by bz (coordsOf (shapeOf p) v)) _ (sym (clear-set m false (shapeOf p) ok c here bx by bz ends near rows some most (rw (k .shape) at e) r v l) ∙ i) .0
 
 -- ---- rows put into a run
 pub put-none : (at : ℕ) (rows old : List ℕ) → Put at rows 0 old old
@@ -143,12 +136,11 @@ both-to p h D at first second old mid new room f g a d = record {
 -- The adaptive set stands at the front of the run; the deterministic one is put behind it.
 pub both-between :
     (p : List ℕ) → planError large p ≡ 0 → (S D : ℕ) (second old new : List ℕ) → 512 ≤ length old → Put 256 second 256 old new →
-    ToBetween p Adaptive S D old 0 → ToBetween p Deterministic S D second 0 → OnlyBetween p S D second 0 → BothBetween p S D new 0
-both-between p h S D second old new room g a d o = record {
+    ToBetween p Adaptive S D old 0 → ToBetween p Deterministic S D second 0 → BothBetween p S D new 0
+both-between p h S D second old new room g a d = record {
   room = omega (arith, g .rest .long);
   adaptive = λ v l w. other-set (shapeOf p) (shape-ok p h) 256 256 0 old new (g .rest) (inl (omega arith)) v l ∙ a v l w;
   deterministic = λ v l w. put-set (shapeOf p) (shape-ok p h) 256 second old new g v l ∙ d v l w;
-  only = λ v l i. o v l (sym (put-set (shapeOf p) (shape-ok p h) 256 second old new g v l) ∙ i);
 }
 
 -- ---- rows that a run has

@@ -1,4 +1,5 @@
 pub mod Knowing
 pub mod FirstSteps
+pub mod ShortStep
 pub mod LastStep
 pub mod Destination

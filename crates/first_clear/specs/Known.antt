@@ -5,7 +5,7 @@ use mathlib.Core.Logic.{_↔_}
 use mathlib.Core.Bool.{Bool, true, false}
 use mathlib.Core.List.{List}
 use lib.ListN.{length}
-use lib.Dec.{ltb}
+use lib.Dec.{ltb, leb}
 use Rattle.numbers.specs.Numbers.{noClearChoice}
 use Rattle.theory.specs.Clear.{clear}
 use Rattle.shape.specs.declared.shape.Shape.{Shape}
@@ -55,23 +55,17 @@ abbrev pub ToBetween : List ℕ → Mode → ℕ → ℕ → List ℕ → ℕ �
 ToBetween p m S D rows at =
     (v : ℕ) → v < nodeCount (shapeOf p) → distance (shapeOf p) S v + distance (shapeOf p) v D ≡ distance (shapeOf p) S D → inSet (shapeOf p) rows at v ≡ isClear p m v D
 
--- A set that has such nodes alone.
-abbrev pub OnlyBetween : List ℕ → ℕ → ℕ → List ℕ → ℕ → Type 0
-OnlyBetween p S D rows at =
-    (v : ℕ) → v < nodeCount (shapeOf p) → inSet (shapeOf p) rows at v ≡ true → distance (shapeOf p) S v + distance (shapeOf p) v D ≡ distance (shapeOf p) S D
-
 -- Both sets to D, the adaptive one first.
 pub record BothTo (p : List ℕ) (D : ℕ) (rows : List ℕ) (at : ℕ) : Type 0 where
   pub room : at + 512 ≤ length rows
   pub adaptive : ToSet p Adaptive D rows at
   pub deterministic : ToSet p Deterministic D rows (at + 256)
 
--- Both sets of the nodes on the shortest ways from S, the adaptive one first; no other node is in the deterministic one.
+-- Both sets of the nodes on the shortest ways from S, the adaptive one first.
 pub record BothBetween (p : List ℕ) (S D : ℕ) (rows : List ℕ) (at : ℕ) : Type 0 where
   pub room : at + 512 ≤ length rows
   pub adaptive : ToBetween p Adaptive S D rows at
   pub deterministic : ToBetween p Deterministic S D rows (at + 256)
-  pub only : OnlyBetween p S D rows (at + 256)
 
 -- What both sets to n, at c, are made of.
 pub record ToEnd (p : List ℕ) (s : Shape) (words : List ℕ) (count n : ℕ) (c : Coords) (ea ed : List ℕ) : Type 0 where
@@ -87,21 +81,26 @@ abbrev pub isGiven : Outcome → Bool
 isGiven (Outcome.Given r len) = true
 isGiven (Outcome.Refused e) = false
 
--- What the first steps of the search give: the route, or that the direct legs are not clear.
-pub record Near (p : List ℕ) (S D : ℕ) (r : Outcome) : Type 0 where
-  pub given : isGiven r ≡ true → r ≡ routeTold p S D
-  pub none : isGiven r ≡ false → isClear p Deterministic S D ≡ false
-
--- v lies on a shortest way from S to D, and both legs by it are clear and adaptive.
-pub record OnWay (p : List ℕ) (S D v : ℕ) : Type 0 where
-  pub out : isClear p Adaptive S v ≡ true
-  pub back : isClear p Adaptive v D ≡ true
+-- v lies on a shortest way from S to D, and the legs by it are clear in modes m and n.
+pub record OnWay (p : List ℕ) (m n : Mode) (S D v : ℕ) : Type 0 where
+  pub out : isClear p m S v ≡ true
+  pub back : isClear p n v D ≡ true
   pub sum : distance (shapeOf p) S v + distance (shapeOf p) v D ≡ distance (shapeOf p) S D
 
 -- The lowest such node; 4096 where there is none.
-pub record LowestVia (p : List ℕ) (S D via : ℕ) : Type 0 where
-  pub found : via < 4096 → (via < nodeCount (shapeOf p)) × OnWay p S D via
-  pub before : (v : ℕ) → v < nodeCount (shapeOf p) → v < via → OnWay p S D v → ⊥
+pub record LowestVia (p : List ℕ) (m n : Mode) (S D via : ℕ) : Type 0 where
+  pub found : via < 4096 → (via < nodeCount (shapeOf p)) × OnWay p m n S D via
+  pub before : (v : ℕ) → v < nodeCount (shapeOf p) → v < via → OnWay p m n S D v → ⊥
+
+-- The direct deterministic leg is not clear, and no via on the shortest ways has two clear adaptive legs.
+pub record Blocked (p : List ℕ) (S D : ℕ) : Type 0 where
+  pub straight : isClear p Deterministic S D ≡ false
+  pub ways : (v : ℕ) → v < nodeCount (shapeOf p) → OnWay p Adaptive Adaptive S D v → ⊥
+
+-- What a step of the search gives: the route, or that the first steps have none.
+pub record Near (p : List ℕ) (S D : ℕ) (r : Outcome) : Type 0 where
+  pub given : isGiven r ≡ true → r ≡ routeTold p S D
+  pub none : isGiven r ≡ false → Blocked p S D
 
 -- The product of these masks has just the nodes on the shortest ways from S to D.
 abbrev pub IsBox : List ℕ → ℕ → ℕ → ℕ → ℕ → ℕ → Type 0
@@ -120,6 +119,14 @@ unfoldable pub nearRoute : ℕ → Bool → ℕ → Outcome
 nearRoute via straight len =
     pickOutcome (ltb via 4096) (Outcome.Given (Route.Via via Adaptive Adaptive) len)
     (pickOutcome straight (Outcome.Given (Route.Direct Deterministic) len) (Outcome.Refused noClearChoice))
+
+-- By a via, or by none.
+unfoldable pub viaRoute : ℕ → Mode → Mode → ℕ → Outcome
+viaRoute via m n len = pickOutcome (ltb via 4096) (Outcome.Given (Route.Via via m n) len) (Outcome.Refused noClearChoice)
+
+-- By the lower of two vias: the first with an adaptive first leg, the second with an adaptive second leg.
+unfoldable pub oneRoute : ℕ → ℕ → ℕ → Outcome
+oneRoute first second len = pickOutcome (leb first second) (viaRoute first Adaptive Deterministic len) (viaRoute second Deterministic Adaptive len)
 
 -- ---- what each step rests on
 -- A pair whose direct adaptive leg is not clear.
@@ -170,16 +177,18 @@ pub record Faring (p : List ℕ) (s : Shape) (S D : ℕ) (a t : Coords) (fa fd t
   pub both : BothTo p D to at
   pub blocked : isClear p Deterministic S D ≡ false
 
--- The search over the vias on the shortest ways.
-pub record Halfway (p : List ℕ) (s : Shape) (S D : ℕ) (a t : Coords) (fa fd to : List ℕ) (at : ℕ) : Type 0 where
+-- The step between, over the vias on the shortest ways.
+pub record Short (p : List ℕ) (s : Shape) (S D len bx by bz : ℕ) (fa fd to : List ℕ) (at : ℕ) : Type 0 where
   pub plan : planError large p ≡ 0
   pub shape : s ≡ shapeOf p
-  pub source : IsAt p S a
-  pub target : IsAt p D t
+  pub source : S < nodeCount (shapeOf p)
+  pub target : D < nodeCount (shapeOf p)
+  pub distance : len ≡ distance (shapeOf p) S D
+  pub box : IsBox p S D bx by bz
   pub adaptive : FromSet p Adaptive S fa
   pub deterministic : FromSet p Deterministic S fd
   pub both : BothBetween p S D to at
-  pub blocked : isClear p Deterministic S D ≡ false
+  pub blocked : Blocked p S D
 
 -- Both, by the masks of D and the set that the first steps left.
 pub record FarMasks (p : List ℕ) (s : Shape) (words : List ℕ) (count S D : ℕ) (a t : Coords) (near : List ℕ) (n : ℕ) (ea ed fa fd run : List ℕ) : Type 0 where
@@ -189,7 +198,7 @@ pub record FarMasks (p : List ℕ) (s : Shape) (words : List ℕ) (count S D : �
   pub out : FromSet p Adaptive S fa
   pub straight : FromSet p Deterministic S fd
   pub set : (512 ≤ length run) × ToBetween p Adaptive S D run 0
-  pub blocked : isClear p Deterministic S D ≡ false
+  pub blocked : Blocked p S D
 
 -- One destination, by the sets to all nodes, or by the losses and the masks of all targets.
 pub record BySets (p : List ℕ) (s : Shape) (work : List ℕ) (S D : ℕ) (a t : Coords) (fa fd : List ℕ) (straight : Bool) : Type 0 where

@@ -4,6 +4,7 @@ use crate::near::is_given;
 use crate::near::near_outcome;
 use crate::sets_of::put_both;
 use crate::sets_of::put_rows;
+use crate::short::short_outcome;
 use choice::Outcome;
 use machine::hop::distance_at;
 use masks::span::box_of;
@@ -57,9 +58,10 @@ pub fn far_by_masks(
     ensures { λ r. ⌜ ((p : List ℕ) (S D : ℕ) → FarMasks p shape (now (words .entry)) count S D a t (now (near .entry)) nears (now (adaptive .entry)) (now (deterministic .entry)) (now (fa .entry)) (now (fd .entry)) (now (run .entry)) → r ≡ routeTold p S D) ⌝ }
 {
     let b = box_of(shape, a, t);
+    let length = distance_at(shape, a, t);
     let set = clear_in(b.x, b.y, b.z, deterministic, near, nears);
     put_rows(run, 256, &set);
-    let first = best_outcome(shape, a, t, fa, fd, run, 0);
+    let first = short_outcome(shape, length, b.x, b.y, b.z, fa, fd, run, 0);
     if is_given(first) {
         return first;
     }
@@ -86,6 +88,10 @@ pub fn by_sets(
     let first = near_outcome(shape, length, b.x, b.y, b.z, fa, straight, work, at);
     if is_given(first) {
         return first;
+    }
+    let second = short_outcome(shape, length, b.x, b.y, b.z, fa, fd, work, at);
+    if is_given(second) {
+        return second;
     }
     best_outcome(shape, a, t, fa, fd, work, at)
 }

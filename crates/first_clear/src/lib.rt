@@ -3,3 +3,4 @@ pub mod best;
 pub mod dest;
 pub mod near;
 pub mod sets_of;
+pub mod short;

@@ -1,5 +1,5 @@
 -- Losses taken away one after the other.
-use Prim.Native.Nat.{ℕ, _+_, _-_, _/_, _%_, _≤_, _<_, min}
+use Prim.Native.Nat.{ℕ, zero, suc, _+_, _-_, _*_, _/_, _%_, _^_, _≤_, _<_, min}
 use native.Mathlib.Omega.{arith}
 use native.Mathlib.Numerals.{add-one}
 use mathlib.Core.Path.{_≡_, refl, sym, _∙_}
@@ -7,7 +7,10 @@ use mathlib.Core.Bool.{Bool, true, false, not, _&&_, _||_}
 use mathlib.Core.List.{List}
 use lib.ListN.{getD}
 use lib.Bits.{bitAnd}
-use borrow.Author.Tests.{lt-ltb, le-ltb, eq-eqb, ne-eqb}
+use lib.Dec.{ltb, eqb}
+use borrow.Author.Tests.{lt-ltb, le-ltb, eq-eqb, ne-eqb, eqb-true, ltb-true}
+use Rattle.theory.proofs.Bools.{and-true}
+use Rattle.theory.proofs.Cases.{by-le}
 use Rattle.shape.specs.declared.shape.Coords.{Coords}
 use Rattle.rows.specs.Bits.{bit}
 use Rattle.rows.specs.Rows.{inProduct}
@@ -15,21 +18,37 @@ use Rattle.rows.proofs.Bits.{bit-and}
 use Rattle.rows.specs.Product.{nodeAt, Less, Are, product}
 use Rattle.rows.proofs.Taking.{less-none, less-same}
 use Rattle.losses.specs.Loss.{someBelow}
-use Rattle.sets.specs.Part.{kindDim, kindOwn, column, maskIn, partIn, deadIn, lossIn}
+use Rattle.sets.specs.Part.{kindDim, kindOwn, columns, column, maskIn, partIn, deadIn, lossIn}
 use Rattle.sets.specs.Clear.{someIn, clearIn}
 
 -- ---- the column of a dimension
-pub column-own : (kind d own v : ℕ) → own ≡ kindDim kind → own ≡ d → v ≡ kindOwn kind → v ≡ column kind d
-unfolding column
-column-own kind d own v e q h = rw (eq-eqb (kindDim kind) d (sym e ∙ q)) h
+-- A test of each number below n.
+unfoldable allTo : (ℕ → Bool) → ℕ → Bool
+allTo f zero = true
+allTo f (suc n) = f n && allTo f n
 
-pub column-before : (kind d own : ℕ) → own ≡ kindDim kind → (own ≡ d → ⊥) → d < own → 0 ≡ column kind d
-unfolding column
-column-before kind d own e q h = rw (ne-eqb (kindDim kind) d (λ w. q (e ∙ w)), lt-ltb d (kindDim kind) (omega (arith, e)))
+all-below : (f : ℕ → Bool) (n : ℕ) → allTo f n ≡ true → (k : ℕ) → k < n → f k ≡ true
+unfolding allTo
+all-below f zero e k l = absurd (omega arith)
+all-below f (suc n) e k l = by-le n k
+    (λ h. let q : k ≡ n = omega arith in rw q (and-true (f n) _ e .0))
+    (λ h. all-below f n (and-true (f n) _ e .1) k h)
 
-pub column-behind : (kind d own : ℕ) → own ≡ kindDim kind → (own ≡ d → ⊥) → own ≤ d → 3 ≡ column kind d
-unfolding column
-column-behind kind d own e q h = rw (ne-eqb (kindDim kind) d (λ w. q (e ∙ w)), le-ltb d (kindDim kind) (omega (arith, e)))
+abbrev isColumn : ℕ → ℕ → Bool
+isColumn d kind = eqb (columns d / 2 ^ (4 * kind) % 16) (column kind d) && ltb (column kind d) 6
+
+columns-are : (d : ℕ) → d < 3 → allTo (isColumn d) 12 ≡ true
+unfolding allTo column kindDim kindOwn columns
+columns-are zero h = refl
+columns-are (suc zero) h = refl
+columns-are (suc (suc zero)) h = refl
+columns-are (suc (suc (suc n))) h = absurd (omega arith)
+
+pub column-is : (kind d c : ℕ) → kind < 12 → d < 3 → c ≡ columns d → (c / 2 ^ (4 * kind) % 16 ≡ column kind d) × (c / 2 ^ (4 * kind) % 16 < 6)
+column-is kind d c k l e =
+    let both = and-true (eqb (columns d / 2 ^ (4 * kind) % 16) (column kind d)) _ (all-below (isColumn d) 12 (columns-are d l) kind k) in
+    let is : c / 2 ^ (4 * kind) % 16 ≡ column kind d = rw e (eqb-true (columns d / 2 ^ (4 * kind) % 16) (column kind d) (both .0)) in
+    (is, omega (arith, is, ltb-true (column kind d) 6 (both .1)))
 
 -- ---- one loss, within a product
 module _ (ends : List ℕ) (w bx by bz : ℕ) where

@@ -24,6 +24,10 @@ kindOwn kind = cond (ltb kind 6) (1 + kind % 2) (cond (ltb kind 9) 4 5)
 unfoldable pub column : ℕ → ℕ → ℕ
 column kind d = cond (eqb (kindDim kind) d) (kindOwn kind) (cond (ltb d (kindDim kind)) 0 3)
 
+-- The code's own form of it: four bits a kind.
+unfoldable pub columns : ℕ → ℕ
+columns d = cond (eqb d 0) 0x5004000021 (cond (eqb d 1) 0x53043002133 0x533433213333)
+
 -- ---- by the masks of one end
 unfoldable pub maskIn : List ℕ → ℕ → ℕ → ℕ → ℕ
 maskIn ends kind d c = getD ends (96 * d + 16 * column kind d + c) 0

@@ -4,12 +4,14 @@ use crate::part::mask_in;
 use rows::product::less;
 use rows::product::product;
 ghost use mathlib.Core.Bool.{_&&_};
+ghost use Prim.Native.Nat.{_<_};
 ghost use Rattle.rows.specs.Product.{nodeAt, Less, Are, product};
 ghost use Rattle.sets.specs.Part.{partIn, deadIn, lossIn};
 ghost use Rattle.sets.specs.Clear.{clearIn};
 
 // What is lost of this kind, within the product of the places in bx, by and bz.
 fn less_part(rows: &mut [u16; 256], ends: &[u16; 288], kind: u16, w: u16, bx: u16, by: u16, bz: u16)
+    requires { ⌜ kind < 12 ⌝ }
     ensures { λ _. ⌜ Less (λ r x. partIn (now (ends .entry)) kind w (nodeAt r x) && product bx by bz r x) (now (rows .entry)) (now (rows .exit)) ⌝ }
 {
     let x = mask_in(ends, kind, 0, w % 16) & bx;

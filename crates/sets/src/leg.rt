@@ -18,7 +18,7 @@ ghost use Rattle.masks.specs.Cell.{cell};
 
 // In dimension number d.
 fn along(mode: Mode, len: u8, ring: bool, kind: u16, d: u16, c: u16, p: u8, q: u8) -> bool
-    requires { ⌜ c < 16 ⌝ }
+    requires { ⌜ (kind < 12) × (d < 3) × (c < 16) ⌝ }
     ensures { λ r. ⌜ r ≡ cell mode len ring (column kind d) c p q ⌝ }
 {
     cell(mode, len, ring, column(kind, d) as u8, c as u8, p, q)
@@ -26,6 +26,7 @@ fn along(mode: Mode, len: u8, ring: bool, kind: u16, d: u16, c: u16, p: u8, q: u
 
 // Of a kind along Y or Z, where X is the quickest to try.
 fn x_first(mode: Mode, shape: Shape, kind: u16, w: u16, a: Coords, t: Coords) -> bool
+    requires { ⌜ kind < 12 ⌝ }
     ensures { λ r. ⌜ r ≡ cellsIn mode shape kind (lossAt w) a t ⌝ }
 {
     if !along(
@@ -66,6 +67,7 @@ fn x_first(mode: Mode, shape: Shape, kind: u16, w: u16, a: Coords, t: Coords) ->
 
 // Of a kind along X.
 fn x_last(mode: Mode, shape: Shape, kind: u16, w: u16, a: Coords, t: Coords) -> bool
+    requires { ⌜ kind < 12 ⌝ }
     ensures { λ r. ⌜ r ≡ cellsIn mode shape kind (lossAt w) a t ⌝ }
 {
     if !along(
@@ -105,6 +107,7 @@ fn x_last(mode: Mode, shape: Shape, kind: u16, w: u16, a: Coords, t: Coords) -> 
 }
 
 fn part_meets(mode: Mode, shape: Shape, kind: u16, w: u16, a: Coords, t: Coords) -> bool
+    requires { ⌜ kind < 12 ⌝ }
     ensures { λ r. ⌜ r ≡ cellsIn mode shape kind (lossAt w) a t ⌝ }
 {
     if kind_dim(kind) == 0 {

@@ -5,10 +5,11 @@ use logic::both;
 use logic::either;
 ghost use mathlib.Core.Path.{_≡_};
 ghost use mathlib.Core.Bool.{cond};
-ghost use Prim.Native.Nat.{_≤_, min};
+ghost use Prim.Native.Nat.{_≤_, _<_, min};
 ghost use Rattle.sets.specs.Sift.{partReaches, deadReaches, reaches, Sifted};
 
 fn part_reaches(by: u16, bz: u16, ends: &[u16; 288], kind: u16, w: u16) -> bool
+    requires { ⌜ kind < 12 ⌝ }
     ensures { λ r. ⌜ r ≡ partReaches by bz (now (ends .entry)) kind w ⌝ }
 {
     let y = mask_in(ends, kind, 1, w / 16 % 16) & by;
