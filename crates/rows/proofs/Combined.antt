@@ -10,6 +10,7 @@ use borrow.Author.Tests.{lt-ltb, le-ltb, le-leb, lt-leb}
 use Rattle.theory.proofs.Cases.{by-le}
 use Rattle.shape.specs.Steps.{ahead}
 use Rattle.rows.specs.Bits.{bit, rowOf}
+use Rattle.rows.proofs.LowestBit.{bit-down}
 use Rattle.rows.proofs.Bits.{bit-and, bit-or, bit-not, bit-low, bit-past, row-below, row-bit, row-of}
 
 pub row-same : (f g : ℕ → Bool) (n : ℕ) → ((x : ℕ) → x < n → f x ≡ g x) → rowOf f n ≡ rowOf g n
@@ -81,16 +82,12 @@ bit-up m p y = ap (λ (t : ℕ). eqb (t % 2) 1) (sym (shr-shr (m * 2 ^ p) p y) �
 bit-under : (m p x : ℕ) → x < p → bit (m * 2 ^ p) x ≡ false
 bit-under m p x h = let z : m * 2 ^ p ≡ m * 2 ^ p + 0 = omega arith in ap (λ (t : ℕ). bit t x) z ∙ bit-low m p 0 x h ∙ bit-none x
 
-bit-down : (v n x : ℕ) → bit (v / 2 ^ n) x ≡ bit v (n + x)
-unfolding bit
-bit-down v n x = ap (λ (t : ℕ). eqb (t % 2) 1) (shr-shr v n x)
-
 pub turned-row : (m p len : ℕ) → p < len → m < 2 ^ len → bitAnd (bitOr (m * 2 ^ p) (m * 2 ^ p / 2 ^ len)) (2 ^ len - 1) ≡ rowOf (λ x. bit m (ahead len p x)) len
 unfolding ahead
 turned-row m p len hp hm =
     row-of (λ x. bit m (ahead len p x)) len (bitAnd (bitOr v (v / 2 ^ len)) (2 ^ len - 1))
     (omega (arith, and-le-r (bitOr v (v / 2 ^ len)) (2 ^ len - 1), pow-pos len))
-    (λ x l. bit-and (bitOr v (v / 2 ^ len)) (2 ^ len - 1) x ∙ rw (bit-ones len x, lt-ltb x len l, bit-or v (v / 2 ^ len) x, bit-down v len x) (at x l))
+    (λ x l. bit-and (bitOr v (v / 2 ^ len)) (2 ^ len - 1) x ∙ rw (bit-ones len x, lt-ltb x len l, bit-or v (v / 2 ^ len) x, bit-down len v x) (at x l))
   where
     v : ℕ
     v = m * 2 ^ p

@@ -1,5 +1,5 @@
 -- A product taken away from a set of nodes, plane by plane and row by row.
-use Prim.Native.Nat.{ℕ, zero, suc, _+_, _-_, _*_, _/_, _%_, _≤_, _<_}
+use Prim.Native.Nat.{ℕ, zero, suc, _+_, _-_, _*_, _/_, _%_, _^_, _≤_, _<_}
 use native.Mathlib.Omega.{arith}
 use native.Mathlib.Decide.{ℕ-discrete}
 use mathlib.Core.Path.{_≡_, refl, sym, ap, _∙_}
@@ -14,8 +14,9 @@ use Rattle.theory.proofs.Cases.{test, by-le}
 use Rattle.rows.specs.Bits.{bit}
 use Rattle.rows.specs.Rows.{inProduct}
 use Rattle.rows.specs.Product.{Less, Are, product}
-use Rattle.rows.specs.Planes.{keptRow, planeTo, planeIf, productTo}
-use Rattle.rows.proofs.Bits.{bit-and, bit-past, bit-not}
+use Rattle.rows.specs.Planes.{keptRow, planeTo, planeIf, productTo, Producing}
+use Rattle.rows.proofs.Bits.{bit-and, bit-low, bit-past, bit-not}
+use Rattle.rows.proofs.LowestBit.{bit-down}
 
 module _ {A : Type 0} (d : A) where
   pub getD-same : (n k : ℕ) → getD (replicate n d) k d ≡ d
@@ -130,12 +131,6 @@ unfolding planeIf
 not-kept b plane k old e = less-none _ old (λ r x l m. rw e)
 
 -- ---- a product, up to its plane k
-pub record Producing (bx by bz : ℕ) (kept old new : List ℕ) (k : ℕ) : Type 0 where
-  pub small : bx < 65536
-  pub most : k ≤ 16
-  pub plane : (j : ℕ) → j < 16 → getD kept j 0 ≡ keptRow bx by j
-  pub less : Less (productTo bx by bz k) old new
-
 pub product-begin : (bx by bz : ℕ) (kept old : List ℕ) → bx < 65536 → ((j : ℕ) → j < 16 → getD kept j 0 ≡ keptRow bx by j) → Producing bx by bz kept old old 0
 unfolding productTo
 product-begin bx by bz kept old h f = record {
@@ -194,6 +189,53 @@ product-turn bx by bz kept old new next k b e p h q = record {
         (here (bit (getD old r 0) x) (bit bx x) (bit by (r % 16)) (bit bz k)))
         (λ b. rw (ne-eqb (r / 16) k (λ e. omega arith), lt-ltb (r / 16) k b, lt-ltb (r / 16) (k + 1) (omega arith)) (there (bit (getD old r 0) x) (bit bx x && (bit by (r % 16) && bit bz (r / 16))) (bit bz k))))
         (λ a. rw (ne-eqb (r / 16) k (λ e. omega arith), le-ltb (r / 16) k (omega arith), le-ltb (r / 16) (k + 1) (omega arith)) (there (bit (getD old r 0) x) false (bit bz k)))
+
+-- Planes that the product does not have.
+pub product-skip : (bx by bz : ℕ) (kept old new : List ℕ) (k n : ℕ) → k + n ≤ 16 → ((i : ℕ) → i < n → bit bz (k + i) ≡ false) → Producing bx by bz kept old new k → Producing bx by bz kept old new (k + n)
+unfolding productTo product inProduct
+product-skip bx by bz kept old new k n h none p = record {
+  small = p .small;
+  most = h;
+  plane = p .plane;
+  less = less-same _ _ old new (p .less) (λ r x l m. by-le k (r / 16)
+      (λ a. by-le (k + n) (r / 16)
+      (λ b. rw (le-ltb (r / 16) k a, le-ltb (r / 16) (k + n) b))
+      (λ b. let e : k + (r / 16 - k) ≡ r / 16 = omega arith in let z : bit bz (r / 16) ≡ false = sym (ap (bit bz) e) ∙ none (r / 16 - k) (omega arith) in
+      rw (le-ltb (r / 16) k a, lt-ltb (r / 16) (k + n) b, z) (sym (no-third (bit bx x) (bit by (r % 16))))))
+      (λ a. rw (lt-ltb (r / 16) k a, lt-ltb (r / 16) (k + n) (omega arith))));
+}
+  where
+    no-third : (a b : Bool) → (a && (b && false)) ≡ false
+    no-third true true = refl
+    no-third true false = refl
+    no-third false b = refl
+
+-- Eight bits that are none.
+pub no-eight : (bz k : ℕ) → bz / 2 ^ k % 256 ≡ 0 → (i : ℕ) → i < 8 → bit bz (k + i) ≡ false
+no-eight bz k e i l =
+    sym (bit-down k bz i) ∙ ap (λ v. bit v i) (low (bz / 2 ^ k) e) ∙ bit-low (bz / 2 ^ k / 256) 8 0 i l ∙ bit-past 0 0 i (omega arith) (omega arith)
+  where
+    low : (v : ℕ) → v % 256 ≡ 0 → v ≡ v / 256 * 2 ^ 8 + 0
+    low v q = omega arith
+
+-- ---- eight planes, up to the one with number `first` + k
+pub record Halving (bz first : ℕ) (kept rows new : List ℕ) (k : ℕ) : Type 0 where
+  pub low : first ≤ 8
+  pub most : k ≤ 8
+  pub step : (bx by : ℕ) (old : List ℕ) → Producing bx by bz kept old rows first → Producing bx by bz kept old new (first + k)
+
+pub half-begin : (bz first : ℕ) (kept rows : List ℕ) → first ≤ 8 → Halving bz first kept rows rows 0
+half-begin bz first kept rows l = record { low = l; most = omega arith; step = λ bx by old p. let e : first + 0 ≡ first = omega arith in rw e p }
+
+pub half-turn : (bz first : ℕ) (kept rows new next : List ℕ) (k : ℕ) (b : Bool) → b ≡ bit bz (first + k) → Halving bz first kept rows new k → k < 8 → Less (planeIf b kept (first + k)) new next → Halving bz first kept rows next (k + 1)
+half-turn bz first kept rows new next k b e h l q = record {
+  low = h .low;
+  most = omega arith;
+  step = λ bx by old p. let s : first + (k + 1) ≡ first + k + 1 = omega arith in rw s (product-turn bx by bz kept old new next (first + k) b e (h .step bx by old p) (omega (arith, h .low)) q);
+}
+
+pub half-end : (bz first : ℕ) (kept rows new : List ℕ) (k : ℕ) → Halving bz first kept rows new k → 8 ≤ k → (bx by : ℕ) (old : List ℕ) → Producing bx by bz kept old rows first → Producing bx by bz kept old new (first + 8)
+half-end bz first kept rows new k h l bx by old p = let m = h .most in let e : k ≡ 8 = omega arith in rw e at (h .step bx by old p)
 
 pub product-end : (bx by bz : ℕ) (kept old new : List ℕ) (k : ℕ) → Producing bx by bz kept old new k → 16 ≤ k → Less (product bx by bz) old new
 unfolding productTo

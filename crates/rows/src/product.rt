@@ -1,11 +1,12 @@
 // A product of three sets of places, as a set of nodes, and taken away from one.
 ghost use mathlib.Core.Path.{_≡_};
 ghost use mathlib.Core.Bool.{cond};
+ghost use mathlib.Core.List.{List};
 ghost use Prim.Native.Nat.{ℕ, _+_, _≤_, _<_};
 ghost use lib.ListN.{getD};
 ghost use Rattle.rows.specs.Bits.{bit};
 ghost use Rattle.rows.specs.Product.{Less, Are, product};
-ghost use Rattle.rows.specs.Planes.{keptRow, planeTo, planeIf};
+ghost use Rattle.rows.specs.Planes.{keptRow, planeTo, planeIf, Producing};
 
 fn bit(v: u16, i: u16) -> bool
     requires { ⌜ i < 16 ⌝ }
@@ -56,15 +57,27 @@ fn keep_if(b: bool, rows: &mut [u16; 256], plane: &[u16; 16], k: usize)
     }
 }
 
+// The eight planes from `first` on, where z has one of them.
+fn less_half(rows: &mut [u16; 256], plane: &[u16; 16], z: u16, first: u16)
+    requires { ⌜ first ≤ 8 ⌝ }
+    ensures { λ _. ⌜ ((bx by : ℕ) (old : List ℕ) → Producing bx by z (now (plane .entry)) old (now (rows .entry)) first → Producing bx by z (now (plane .entry)) old (now (rows .exit)) (first + 8)) ⌝ }
+{
+    if (z >> first) % 256 == 0 {
+        return;
+    }
+    let mut k: u16 = 0;
+    while k < 8 {
+        keep_if(bit(z, first + k), rows, plane, (first + k) as usize);
+        k = k + 1;
+    }
+}
+
 fn less_planes(rows: &mut [u16; 256], x: u16, y: u16, z: u16)
     ensures { λ _. ⌜ Less (product x y z) (now (rows .entry)) (now (rows .exit)) ⌝ }
 {
     let kept = plane(x, y);
-    let mut k: u16 = 0;
-    while k < 16 {
-        keep_if(bit(z, k), rows, &kept, k as usize);
-        k = k + 1;
-    }
+    less_half(rows, &kept, z, 0);
+    less_half(rows, &kept, z, 8);
 }
 
 // The rows less the nodes of a product.
