@@ -3,27 +3,25 @@ use Prim.Native.Nat.{ℕ, zero, suc, _+_, _*_, _-_, _≤_, _<_}
 use native.Mathlib.Nat.{mul-pos}
 use native.Mathlib.Omega.{arith}
 use mathlib.Core.Path.{_≡_, refl, sym, ap, _∙_}
-use mathlib.Core.Bool.{Bool, true, false, cond, _&&_, true≢false}
+use mathlib.Core.Bool.{Bool, true, false, cond, true≢false}
 use mathlib.Core.List.{List, [], _++_, append-nil}
 use lib.ListN.{length, take, replicate, length-replicate}
 use lib.Seq.{take-append-seam}
 use lib.Dec.{eqb, ltb}
-use borrow.Author.Tests.{eq-eqb, eqb-true, lt-ltb, le-ltb, ltb-true, ltb-false}
+use borrow.Author.Tests.{eq-eqb, eqb-true, lt-ltb, le-ltb, ltb-true}
 use Rattle.numbers.specs.Numbers.{outputShort}
 use Rattle.theory.proofs.Cases.{test, by-le}
 use Rattle.theory.proofs.Bools.{and-true}
 use Rattle.shape.specs.declared.shape.Dim.the-variants.{X, Y, Z}
-use Rattle.shape.specs.Shape.{shapeError}
 use Rattle.shape.proofs.Shapes.{sound}
 use Rattle.machine.specs.Number.{nodeCount}
 use Rattle.plan.specs.Layout.{shapeOf}
 use Rattle.plan.specs.Checks.{large, torusPlans, planError}
 use Rattle.plan.proofs.Plans.{accepted}
 use Rattle.planner.specs.declared.run.Run.{Run}
-use Rattle.planner.specs.declared.run.Answer.{Answer}
 use Rattle.planner.specs.declared.run.Answer.the-variants.{Written, Refused, FewWords}
 use Rattle.all_sheets.specs.All.{left, allSheets}
-use Rattle.planner.specs.Run.{runSheets, runNext, joined, boards, runBytes, runOf, runAfter, runError, fewWords, noneFits, runAnswer, passes, runOutput}
+use Rattle.planner.specs.Run.{runNext, joined, boards, runBytes, runOf, runAfter, runError, fewWords, noneFits, runAnswer, passes, runOutput}
 use Rattle.all_sheets.specs.Runs.{Ran, Runs, last, onward}
 use Rattle.planner.proofs.Checking.{accepted-run, board-of, board-error}
 use Rattle.all_sheets.proofs.Leaving.{next-within, next-same, next-left, none-left, run-left-bytes}

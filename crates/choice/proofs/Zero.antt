@@ -5,7 +5,6 @@ use mathlib.Core.Path.{_≡_, refl, sym, ap, _∙_}
 use mathlib.Core.Bool.{Bool, true, false, _&&_, true≢false}
 use mathlib.Core.List.{[], _∷_}
 use mathlib.Core.Option.{some}
-use lib.ListN.{length}
 use Rattle.theory.specs.Machine.{endBy, sumBy}
 use Rattle.theory.specs.Clear.{clearBy}
 use Rattle.theory.proofs.Bools.{and-true}
@@ -15,7 +14,7 @@ use Rattle.machine.specs.declared.leg.Leg.{Leg}
 use Rattle.machine.specs.declared.leg.Mode.{Mode}
 use Rattle.machine.specs.declared.leg.Mode.the-variants.{Adaptive, Deterministic}
 use Rattle.machine.specs.Torus.{leg}
-use Rattle.choice.specs.Choice.{Choice, targetsOf, viasOf, det, modesOf, detsOf, endFrom, lengthFrom, keyOf, before, Admits, choicesBy}
+use Rattle.choice.specs.Choice.{Choice, targetsOf, viasOf, det, modesOf, detsOf, lengthFrom, keyOf, before, Admits, choicesBy}
 use Rattle.choice.specs.Further.{clearChoice, firstBy}
 use Rattle.choice.specs.Search.{Between}
 use Rattle.choice.proofs.Lists.{below-targets}

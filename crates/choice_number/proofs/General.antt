@@ -2,7 +2,7 @@
 use Prim.Native.Nat.{ℕ, _+_, _≤_, _<_}
 use native.Mathlib.Omega.{arith}
 use mathlib.Core.Path.{_≡_, refl, sym, ap, _∙_}
-use mathlib.Core.Logic.{_⊎_, inl, inr, ⊎-elim}
+use mathlib.Core.Logic.{_⊎_, ⊎-elim}
 use mathlib.Core.Bool.{Bool, true, false, true≢false}
 use mathlib.Core.List.{List, [], _∷_, _++_, List·Memᴰ, List·Memᴰ·append-cases, Memᴰ·append-right}
 use mathlib.Core.Option.{Option, none, some}
@@ -21,7 +21,7 @@ use Rattle.machine.specs.Number.{nodeCount}
 use Rattle.machine.specs.Hop.{rule}
 use Rattle.machine.specs.Torus.{leg, torus}
 use Rattle.machine.proofs.Laws.{distance-most}
-use Rattle.choice.specs.Choice.{Choice, over, legLength, lengthOf, beforeIn}
+use Rattle.choice.specs.Choice.{Choice, legLength, lengthOf, beforeIn}
 use Rattle.choice.specs.OneVia.{OneVia, viaOf}
 use Rattle.choice.specs.Further.{firstBy, better, directly, alone, followed, furthered}
 use Rattle.choice.specs.Answer.{Answer}

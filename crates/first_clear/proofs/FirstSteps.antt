@@ -1,12 +1,11 @@
 -- The first steps of the search give the route, or that the direct deterministic leg is not clear.
 use Prim.Native.Nat.{ℕ, _+_, _≤_, _<_}
 use native.Mathlib.Omega.{arith}
-use mathlib.Core.Path.{_≡_, refl, sym, ap, _∙_}
+use mathlib.Core.Path.{_≡_, sym, ap, _∙_}
 use mathlib.Core.Bool.{Bool, true, false, _&&_, true≢false}
 use mathlib.Core.List.{List, [], _∷_}
-use mathlib.Core.Option.{some}
 use lib.ListN.{length}
-use lib.Dec.{ltb, leb, eqb}
+use lib.Dec.{eqb}
 use borrow.Author.Tests.{eq-eqb, le-leb, lt-ltb, le-ltb}
 use Rattle.theory.specs.Machine.{sumBy}
 use Rattle.theory.proofs.Bools.{and-true}
@@ -25,11 +24,11 @@ use Rattle.packet.specs.declared.route.Route.{Route}
 use Rattle.choice.specs.declared.outcome.Outcome.{Outcome}
 use Rattle.choice.specs.Answer.{Given}
 use Rattle.choice.specs.Outcome.{told, toldAs}
-use Rattle.choice.specs.Pair.{soundIn, routeIn, chosen}
+use Rattle.choice.specs.Pair.{soundIn, chosen}
 use Rattle.choice.proofs.Search.{via-first, deterministic-first}
 use Rattle.rows.specs.Rows.{inSet, inProduct}
 use Rattle.search.specs.FirstVia.{hasRows, inAll, isVia, FirstOf}
-use Rattle.first_clear.specs.Known.{isClear, FromSet, ToBetween, routeTold, isGiven, nearRoute, Blocked, Near, OnWay, LowestVia, IsBox, Apart}
+use Rattle.first_clear.specs.Known.{FromSet, ToBetween, routeTold, nearRoute, Blocked, Near, OnWay, LowestVia, IsBox, Apart}
 use Rattle.first_clear.proofs.Knowing.{shape-ok}
 
 pub nodes-few : (s : Shape) → shapeError s ≡ 0 → nodeCount s ≤ 4096

@@ -1,9 +1,9 @@
 -- The sets that losses give are those of the clear legs.
-use Prim.Native.Nat.{ℕ, zero, suc, _+_, _-_, _*_, _≤_, _<_}
+use Prim.Native.Nat.{ℕ, _+_, _-_, _*_, _≤_, _<_}
 use native.Mathlib.Omega.{arith}
 use mathlib.Core.Path.{_≡_, refl, sym, ap, _∙_}
 use mathlib.Core.Logic.{_⊎_, inl, inr, ⊎-elim}
-use mathlib.Core.Bool.{Bool, true, false, not, _&&_, true≢false}
+use mathlib.Core.Bool.{Bool, true, false, not, true≢false}
 use mathlib.Core.List.{List}
 use lib.ListN.{length, getD, set, length-set}
 use lib.Seq.{getD-set-same, getD-set-other}
@@ -17,7 +17,7 @@ use Rattle.shape.proofs.Shapes.{sound}
 use Rattle.machine.specs.declared.leg.Mode.{Mode}
 use Rattle.machine.specs.declared.leg.Mode.the-variants.{Adaptive, Deterministic}
 use Rattle.machine.specs.Number.{nodeCount, coordsOf, Inside}
-use Rattle.machine.specs.Hop.{rule, distance}
+use Rattle.machine.specs.Hop.{rule}
 use Rattle.machine.proofs.Numbers.{inside}
 use Rattle.plan.specs.Layout.{shapeOf}
 use Rattle.plan.specs.Checks.{large, torusPlans, planError}
@@ -27,7 +27,6 @@ use Rattle.rows.specs.Rows.{inRows, inSet, inProduct}
 use Rattle.rows.specs.Product.{Are}
 use Rattle.rows.proofs.Bits.{row-bit}
 use Rattle.losses.specs.Loss.{onLeg}
-use Rattle.losses.specs.OfPlan.{AreLosses}
 use Rattle.losses.proofs.AtPlan.{clear-is}
 use Rattle.masks.specs.Masks.{Ended}
 use Rattle.sets.specs.Clear.{clearIn}

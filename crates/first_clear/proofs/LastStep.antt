@@ -1,38 +1,29 @@
 -- The least number of all vias gives the route, where neither direct leg is clear.
-use Prim.Native.Nat.{ℕ, _+_, _*_, _≤_, _<_}
+use Prim.Native.Nat.{ℕ, _+_, _≤_, _<_}
 use native.Mathlib.Omega.{arith}
-use mathlib.Core.Path.{_≡_, refl, sym, ap, _∙_}
+use mathlib.Core.Path.{_≡_, ap, _∙_}
 use mathlib.Core.Logic.{_⊎_, inl, inr, ⊎-elim}
-use mathlib.Core.Bool.{Bool, true, false, cond, _&&_, true≢false}
+use mathlib.Core.Bool.{true}
 use mathlib.Core.List.{List}
 use lib.ListN.{length}
-use lib.Dec.{ltb, eqb}
 use borrow.Author.Tests.{eq-eqb, lt-ltb, le-leb}
-use Rattle.theory.proofs.Cases.{test, by-le}
 use Rattle.shape.specs.declared.shape.Shape.{Shape}
 use Rattle.shape.specs.declared.shape.Coords.{Coords}
 use Rattle.shape.specs.Shape.{shapeError}
-use Rattle.machine.specs.declared.leg.Mode.the-variants.{Adaptive, Deterministic}
 use Rattle.machine.specs.Number.{nodeCount, coordsOf, Inside}
-use Rattle.machine.specs.Hop.{distance}
-use Rattle.machine.specs.ByCoords.{distanceAt}
 use Rattle.machine.proofs.Numbers.{inside}
-use Rattle.machine.proofs.Laws.{triangle, distance-most}
 use Rattle.machine.proofs.ByCoords.{distance-at}
 use Rattle.plan.specs.Layout.{shapeOf}
 use Rattle.plan.specs.Checks.{large, planError}
 use Rattle.choice.specs.declared.outcome.Outcome.{Outcome}
 use Rattle.choice.specs.Pair.{soundIn}
-use Rattle.rows.specs.Rows.{inSet}
 use Rattle.search.specs.FirstVia.{hasRows}
-use Rattle.search.specs.Number.{unclear, detOf, viaNumber}
-use Rattle.search.specs.BestVia.{within, askable, numberIn, NumberOf, LeastOf}
+use Rattle.search.specs.BestVia.{within, askable, numberIn, LeastOf}
 use Rattle.choice_number.specs.KeyNumber.{decoded}
 use Rattle.choice_number.specs.ViaNumber.{viaNumberBy, viaNumberIn}
 use Rattle.first_clear.specs.Known.{routeTold, Faring}
 use Rattle.choice_number.proofs.General.{general-planned}
 use Rattle.first_clear.proofs.Knowing.{shape-ok}
-use Rattle.first_clear.proofs.FirstSteps.{nodes-few}
 
 inside-within : (s : Shape) (c : Coords) → Inside s c → within s c ≡ true
 unfolding within

@@ -1,11 +1,10 @@
 -- Where the first steps have no route: the lowest via on the shortest ways with one deterministic leg gives it, then the lowest with two.
 use Prim.Native.Nat.{ℕ, _+_, _*_, _≤_, _<_}
 use native.Mathlib.Omega.{arith}
-use mathlib.Core.Path.{_≡_, refl, sym, ap, _∙_}
+use mathlib.Core.Path.{_≡_, refl, sym, _∙_}
 use mathlib.Core.Logic.{inr}
 use mathlib.Core.Bool.{Bool, true, false, true≢false}
 use mathlib.Core.List.{List, [], _∷_}
-use lib.Dec.{ltb, leb}
 use borrow.Author.Tests.{lt-ltb, le-ltb, le-leb, lt-leb}
 use Rattle.theory.proofs.Cases.{test, by-le}
 use Rattle.theory.specs.Machine.{endBy, sumBy}
@@ -20,12 +19,12 @@ use Rattle.plan.specs.Layout.{shapeOf}
 use Rattle.plan.specs.Checks.{large, planError}
 use Rattle.packet.specs.declared.route.Route.{Route}
 use Rattle.choice.specs.declared.outcome.Outcome.{Outcome}
-use Rattle.choice.specs.Choice.{legLength, viasOf, det, detsOf}
+use Rattle.choice.specs.Choice.{viasOf, det, detsOf}
 use Rattle.choice.specs.OneVia.{viaOf, firstDet}
 use Rattle.choice.specs.Pair.{soundIn}
 use Rattle.choice.proofs.Search.{adaptive-clear}
-use Rattle.search.specs.Number.{unclear, viaNumber}
-use Rattle.choice_number.specs.KeyNumber.{keyNumber, decoded}
+use Rattle.search.specs.Number.{viaNumber}
+use Rattle.choice_number.specs.KeyNumber.{keyNumber}
 use Rattle.choice_number.specs.ViaNumber.{viaNumberBy, viaNumberIn}
 use Rattle.choice_number.proofs.Decoded.{decoded-number}
 use Rattle.choice_number.proofs.General.{general-planned}

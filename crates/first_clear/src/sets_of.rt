@@ -5,7 +5,6 @@ use search::lowest::has_rows;
 use sets::clear::clear_in;
 use shape::Coords;
 use shape::Shape;
-ghost use mathlib.Core.Path.{_≡_};
 ghost use mathlib.Core.List.{List};
 ghost use mathlib.Core.Bool.{true};
 ghost use Prim.Native.Nat.{ℕ, _+_, _≤_};

@@ -1,6 +1,5 @@
 // Choices and connectives as functions: a function that only calls others is proved by congruence.
 ghost use mathlib.Core.Path.{_≡_};
-ghost use Prim.Native.Nat.{_≤_};
 ghost use mathlib.Core.Bool.{cond, _&&_, _||_};
 
 pub fn pick(b: bool, x: u8, y: u8) -> u8

@@ -11,7 +11,7 @@ use shape::shape::coord;
 use shape::shape::extent;
 use shape::shape::wrapped;
 ghost use mathlib.Core.Path.{_≡_};
-ghost use Prim.Native.Nat.{_+_, _*_, _%_, _≤_, _<_};
+ghost use Prim.Native.Nat.{_+_, _*_, _%_, _<_};
 ghost use Rattle.shape.specs.Shape.{wrappedIn};
 ghost use Rattle.machine.specs.Number.{numberOf};
 ghost use Rattle.machine.specs.Hop.{dirDim, dirPlus, plusDir, minusDir, rule};

@@ -2,7 +2,7 @@
 use shape::Coords;
 use shape::Shape;
 ghost use mathlib.Core.Path.{_≡_};
-ghost use Prim.Native.Nat.{_+_, _*_, _/_, _%_, _≤_, _<_};
+ghost use Prim.Native.Nat.{_+_, _*_, _/_, _%_, _<_};
 ghost use Rattle.shape.specs.Shape.{shapeError};
 ghost use Rattle.machine.specs.Number.{nodeCount, coordsOf};
 

@@ -7,7 +7,6 @@ use crate::row::takes_row;
 use machine::leg::Mode;
 use shape::axis::next_place;
 ghost use mathlib.Core.Path.{_≡_};
-ghost use mathlib.Core.Bool.{cond};
 ghost use lib.Dec.{eqb};
 ghost use Prim.Native.Nat.{_≤_, _<_};
 ghost use Rattle.rows.specs.Bits.{rowOf};

@@ -1,7 +1,7 @@
 // Ranges of places as the bits of a number, and turned round a ring.
 ghost use mathlib.Core.Path.{_≡_};
 ghost use mathlib.Core.Bool.{_||_};
-ghost use Prim.Native.Nat.{ℕ, _+_, _-_, _^_, _≤_, _<_};
+ghost use Prim.Native.Nat.{ℕ, _-_, _^_, _≤_, _<_};
 ghost use Rattle.shape.specs.Steps.{ahead};
 ghost use Rattle.rows.specs.Bits.{bit, rowOf};
 ghost use Rattle.masks.specs.Ranges.{inRange};

@@ -10,11 +10,9 @@ use machine::leg::Mode;
 use shape::axis::useful;
 ghost use mathlib.Core.Path.{_≡_};
 ghost use mathlib.Core.Bool.{true, false, cond};
-ghost use lib.Dec.{eqb};
 ghost use Prim.Native.Nat.{_≤_, _<_};
 ghost use Rattle.shape.specs.Steps.{goes};
 ghost use Rattle.machine.specs.Hop.{rule};
-ghost use Rattle.rows.specs.Bits.{rowOf};
 ghost use Rattle.masks.specs.Ranges.{betweenRow, usefulRow, waysRow, crossesRow, takesRow};
 
 pub fn pick_row(b: bool, x: u16, y: u16) -> u16

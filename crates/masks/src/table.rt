@@ -10,7 +10,7 @@ use shape::shape::extent;
 use shape::shape::shape_error;
 use shape::shape::wrapped;
 ghost use mathlib.Core.Path.{_≡_};
-ghost use Prim.Native.Nat.{ℕ, _≤_, _<_};
+ghost use Prim.Native.Nat.{ℕ, _<_};
 ghost use lib.ListN.{length, getD};
 ghost use Rattle.masks.specs.Laid.{Laid, laidTo};
 ghost use Rattle.masks.specs.Ranges.{endWay, anyWay};

@@ -8,16 +8,19 @@ use mathlib.Core.List.{List}
 use lib.ListN.{length, getD}
 use borrow.Author.Tests.{eq-eqb}
 use Rattle.numbers.specs.Numbers.{deadEnd}
+use Rattle.theory.specs.Machine.{sumBy}
 use Rattle.theory.proofs.Cases.{test}
 use Rattle.shape.specs.declared.shape.Shape.{Shape}
 use Rattle.shape.specs.declared.shape.Coords.{Coords}
 use Rattle.machine.specs.declared.leg.Mode.the-variants.{Adaptive, Deterministic}
+use Rattle.machine.specs.ByCoords.{distanceAt}
 use Rattle.machine.specs.Node.{isNode}
 use Rattle.plan.specs.Layout.{shapeOf, faultsOf}
 use Rattle.plan.specs.Checks.{large, planError}
 use Rattle.plan.specs.Reading.{isPlan}
 use Rattle.dead.specs.Dead.{deadNode, bitOf, nodeAnswer}
 use Rattle.dead.proofs.Table.{is-node}
+use Rattle.packet.specs.declared.route.Route.{Route}
 use Rattle.choice.specs.declared.outcome.Outcome.{Outcome}
 use Rattle.choice.specs.Outcome.{told, toldAs}
 use Rattle.choice.specs.Pair.{pair}
@@ -25,9 +28,10 @@ use Rattle.rows.specs.Rows.{inRows}
 use Rattle.first_clear.specs.Known.{isClear, IsAt, NearLosses, routeTold, BySets, ByLosses}
 use Rattle.first_clear.proofs.Knowing.{shape-ok}
 use Rattle.first_clear.proofs.FirstSteps.{nodes-few}
-use Rattle.first_clear.proofs.Destination.{has-is}
+use Rattle.first_clear.proofs.Destination.{length-is, has-is}
 use Rattle.planner.specs.Known.{Ready, Sifting}
 use Rattle.planned_sheet.proofs.Planning.{Source, pair-dead, pair-alive}
+use Rattle.planned_sheet.proofs.Unlisted.{pair-direct}
 
 -- The byte of a node.
 pub dead-byte : (p dead : List ℕ) → planError large p ≡ 0 → ((n : ℕ) → getD dead n 0 ≡ bitOf (nodeAnswer large p n)) → (n : ℕ) → getD dead n 0 ≡ bitOf (deadNode (faultsOf p) n)
@@ -65,6 +69,17 @@ module _ (p : List ℕ) (s : Shape) (words : List ℕ) (count : ℕ) (dead ta td
       test (deadNode (faultsOf p) D)
       (λ d. let q : _≡_ {A = ℕ} 1 0 = sym (dead-is ∙ ap bitOf d) ∙ z in absurd (omega arith))
       (λ d. e ∙ sym (ap (told (shapeOf p) S) (pair-alive large p S source-is D target-is d)))
+
+  -- The direct adaptive leg is clear, or not.
+  pub direct-told : (b : Bool) → b ≡ inRows fa 0 t → b ≡ true → (len : ℕ) → len ≡ distanceAt s a t → Outcome.Given (Route.Direct Adaptive) len ≡ told (shapeOf p) S (pair large p S D)
+  unfolding told toldAs sumBy
+  direct-told b e y len q =
+      let c = sym (has-is p Adaptive fa S D t (g .adaptive) to b e) ∙ y in
+      let d = length-is p s S D a t len (g .prepared .of-plan .shape) (g .source) to q in
+      rw (pair-direct p S source-is D target-is c) (ap (Outcome.Given (Route.Direct Adaptive)) (omega arith))
+
+  pub not-direct : (b : Bool) → b ≡ inRows fa 0 t → b ≡ false → isClear p Adaptive S D ≡ false
+  not-direct b e n = sym (has-is p Adaptive fa S D t (g .adaptive) to b e) ∙ n
 
   module _ (direct : isClear p Adaptive S D ≡ false) (straight : Bool) (es : straight ≡ inRows fd 0 t) where
     pub by-losses : (near : List ℕ) (n : ℕ) → NearLosses p S D words count near n → ByLosses p s words count near n ta td S D a t fa fd straight

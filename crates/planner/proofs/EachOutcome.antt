@@ -1,13 +1,11 @@
 -- What planning answers for every destination of a source: one by one.
 use Prim.Native.Nat.{ℕ, _≤_, _<_}
-use native.Mathlib.Omega.{arith}
 use mathlib.Core.Path.{_≡_, refl, sym, ap, _∙_}
 use mathlib.Core.Bool.{Bool, true, false, cond}
 use mathlib.Core.List.{List}
 use lib.ListN.{getD, set, replicate}
 use lib.Dec.{ltb}
 use borrow.Author.Tests.{eq-eqb, ne-eqb}
-use Rattle.theory.specs.Machine.{sumBy}
 use Rattle.sheet.proofs.Fill as Fill
 use Rattle.sheet.proofs.Fill.{Filling}
 use Rattle.shape.specs.declared.shape.Shape.{Shape}
@@ -15,17 +13,13 @@ use Rattle.shape.specs.declared.shape.Coords.{Coords}
 use Rattle.shape.specs.declared.shape.Dim.the-variants.{X}
 use Rattle.shape.specs.Shape.{shapeError}
 use Rattle.shape.proofs.Shapes.{sound}
-use Rattle.machine.specs.declared.leg.Mode.the-variants.{Adaptive}
 use Rattle.machine.specs.Number.{nodeCount}
-use Rattle.machine.specs.ByCoords.{distanceAt}
 use Rattle.plan.specs.Layout.{shapeOf}
 use Rattle.plan.specs.Checks.{large, planError}
 use Rattle.dead.proofs.Table.{is-node}
-use Rattle.packet.specs.declared.route.Route.{Route}
 use Rattle.choice.specs.declared.outcome.Outcome.{Outcome}
-use Rattle.choice.specs.Outcome.{told, toldAs}
+use Rattle.choice.specs.Outcome.{told}
 use Rattle.choice.specs.Pair.{pair}
-use Rattle.rows.specs.Rows.{inRows}
 use Rattle.planner.specs.declared.outside.At.{At}
 use Rattle.planner.specs.Outside.{placeOf, Stands, Following}
 use Rattle.choice_number.specs.KeyNumber.{pickOutcome}
@@ -37,9 +31,6 @@ use Rattle.first_clear.proofs.Knowing.{shape-ok}
 use Rattle.first_clear.proofs.FirstSteps.{nodes-few}
 use Rattle.planned_sheet.proofs.Planning.{no-error}
 use Rattle.planner.proofs.Standing.{starts, stands-end, node-small}
-use Rattle.planned_sheet.proofs.Unlisted.{pair-direct}
-use Rattle.first_clear.proofs.Destination.{length-is, has-is}
-use Rattle.planner.proofs.Destination.{source-is, target-is}
 use Rattle.planner.proofs.Writing.{node-known}
 
 abbrev pub answer : List ℕ → ℕ → ℕ → Outcome
@@ -70,16 +61,6 @@ module _ (p : List ℕ) (s : Shape) (words : List ℕ) (count : ℕ) (dead ta td
 
   pub sound-shape : shapeError s ≡ 0
   sound-shape = rw same (shape-ok p accepted)
-
-  -- The direct adaptive leg is clear.
-  pub direct-given : (D : ℕ) (t : Coords) → IsAt p D t → (b : Bool) → b ≡ inRows fa 0 t → b ≡ true → (len : ℕ) → len ≡ distanceAt s a t → Outcome.Given (Route.Direct Adaptive) len ≡ told (shapeOf p) S (pair large p S D)
-  unfolding told toldAs sumBy
-  direct-given D t to b e y len q =
-      let source = source-is p s words count dead ta td work S a fa fd ready D t to in
-      let target = target-is p s words count dead ta td work S a fa fd ready D t to in
-      let c = sym (has-is p Adaptive fa S D t (ready .adaptive) to b e) ∙ y in
-      let d = length-is p s S D a t len same (ready .source) to q in
-      rw (pair-direct p S source D target c) (ap (Outcome.Given (Route.Direct Adaptive)) (omega arith))
 
   pub begun : Asking p s words count dead ta td work S a fa fd (replicate 4096 noOutcome) (record { node = 0; x = 0; y = 0; z = 0 })
   begun = record {

@@ -15,7 +15,7 @@ use Rattle.machine.specs.Node.{coordsAnswer}
 use Rattle.plan.specs.Layout.{shapeOf}
 use Rattle.plan.specs.Checks.{large, planError}
 use Rattle.dead.proofs.Table.{is-node}
-use Rattle.masks.specs.Masks.{gatherAt, Ended, Masked}
+use Rattle.masks.specs.Masks.{gatherAt, Masked}
 use Rattle.first_clear.specs.Known.{OfPlan, IsAt, BothTo, ToEnd}
 use Rattle.planner.specs.Known.{Filled}
 use Rattle.first_clear.specs.Rows.{Elsewhere}

@@ -1,12 +1,10 @@
 -- Planning a pair: its checks, and the answer.
-use Prim.Native.Nat.{ℕ, zero, suc, _+_, _≤_, _<_, min}
+use Prim.Native.Nat.{ℕ, zero, suc, _≤_, min}
 use native.Mathlib.Omega.{arith}
 use mathlib.Core.Path.{_≡_, refl, sym, ap, _∙_}
-use mathlib.Core.Bool.{Bool, true, false, cond, not, _&&_, _||_}
+use mathlib.Core.Bool.{Bool, true, false, not, _||_}
 use mathlib.Core.List.{List}
 use lib.ListN.{length}
-use lib.Dec.{eqb}
-use borrow.Author.Tests.{eq-eqb, ne-eqb, eqb-true}
 use Rattle.numbers.specs.Numbers.{nodeOutside, deadEnd}
 use Rattle.theory.specs.Checks.{declined, _then_}
 use Rattle.shape.specs.declared.shape.Shape.{Shape}
@@ -21,8 +19,7 @@ use Rattle.machine.specs.Node.{isNode, coordsAnswer}
 use Rattle.machine.proofs.Nodes.{node-of}
 use Rattle.plan.specs.Layout.{shapeOf, faultsOf}
 use Rattle.plan.specs.Checks.{large, planError}
-use Rattle.plan.specs.Reading.{isPlan}
-use Rattle.dead.specs.Dead.{deadNode, nodeAnswer}
+use Rattle.dead.specs.Dead.{deadNode}
 use Rattle.choice.specs.declared.outcome.Outcome.{Outcome}
 use Rattle.choice.specs.Answer.{answered}
 use Rattle.choice.specs.Outcome.{told, toldAs}

@@ -20,7 +20,6 @@ ghost use lib.ListN.{length};
 ghost use Rattle.machine.specs.declared.leg.Mode.the-variants.{Adaptive, Deterministic};
 ghost use Rattle.machine.specs.Number.{nodeCount};
 ghost use Rattle.plan.specs.Layout.{shapeOf};
-ghost use Rattle.plan.specs.Checks.{large};
 ghost use Rattle.masks.specs.Masks.{Masked};
 ghost use Rattle.planner.specs.Run.{runError, runOf, runAfter};
 ghost use Rattle.planner.specs.Known.{Prepared};

@@ -1,24 +1,25 @@
-// A destination to which the direct adaptive leg is not clear.
+// What planning answers for one destination.
 use choice::Outcome;
 use first_clear::dest::by_losses;
 use first_clear::dest::by_sets;
+use machine::hop::distance_at;
+use machine::leg::Mode;
 use numbers::DEAD_END;
+use packet::Route;
 use shape::Coords;
 use shape::Shape;
 ghost use mathlib.Core.Path.{_≡_};
-ghost use mathlib.Core.Bool.{false};
 ghost use Prim.Native.Nat.{_<_};
 ghost use lib.ListN.{length};
-ghost use Rattle.machine.specs.declared.leg.Mode.the-variants.{Adaptive};
 ghost use Rattle.plan.specs.Layout.{shapeOf};
 ghost use Rattle.plan.specs.Checks.{large};
 ghost use Rattle.choice.specs.Outcome.{told};
 ghost use Rattle.choice.specs.Pair.{pair};
 ghost use Rattle.rows.specs.Rows.{inRows};
-ghost use Rattle.first_clear.specs.Known.{isClear, IsAt, NearLosses, routeTold};
+ghost use Rattle.first_clear.specs.Known.{IsAt, NearLosses};
 ghost use Rattle.planner.specs.Known.{Ready};
 
-pub fn has(rows: &[u16; 256], c: Coords) -> bool
+fn has(rows: &[u16; 256], c: Coords) -> bool
     requires { ⌜ (c .x < 16) × (c .y < 16) × (c .z < 16) ⌝ }
     ensures { λ r. ⌜ r ≡ inRows (now (rows .entry)) 0 c ⌝ }
 {
@@ -26,52 +27,8 @@ pub fn has(rows: &[u16; 256], c: Coords) -> bool
     (rows[r] >> (c.x as u16)) % 2 == 1
 }
 
-// A destination that is sound: by the sets to all nodes where the run has them, else by the losses.
-fn route_to(
-    plan: &[u8],
-    shape: Shape,
-    words: &[u16; 256],
-    count: usize,
-    near: &[u16; 256],
-    nears: usize,
-    dead: &[u8; 4096],
-    ta: &[u16; 4608],
-    td: &[u16; 4608],
-    work: &[u16],
-    source: u16,
-    a: Coords,
-    fa: &[u16; 256],
-    fd: &[u16; 256],
-    dest: u16,
-    t: Coords,
-) -> Outcome
-    requires { ⌜ Ready (now plan) shape (now words) count (now dead) (now ta) (now td) (now work) source a (now fa) (now fd) ⌝ }
-    requires { ⌜ IsAt (now plan) dest t ⌝ }
-    requires { ⌜ (length (now work) ≡ 0 → NearLosses (now plan) source dest (now words) count (now near) nears) ⌝ }
-    requires { ⌜ isClear (now plan) Adaptive source dest ≡ false ⌝ }
-    ensures { λ r. ⌜ r ≡ routeTold (now (plan .entry)) source dest ⌝ }
-{
-    let straight = has(fd, t);
-    if work.len() == 0 {
-        return by_losses(
-            shape,
-            words,
-            count,
-            near,
-            nears,
-            ta,
-            td,
-            a,
-            t,
-            fa,
-            fd,
-            straight,
-        );
-    }
-    by_sets(shape, work, dest, a, t, fa, fd, straight)
-}
-
-// What planning the pair answers. `near`: losses that stand for all on the shortest ways; all of them do.
+// For a sound destination to which the direct adaptive leg is not clear: by the sets to all nodes where the run has them, else by the losses. `near`: losses that
+// stand for all on the shortest ways.
 pub fn outcome_to(
     plan: &[u8],
     shape: Shape,
@@ -93,29 +50,31 @@ pub fn outcome_to(
     requires { ⌜ Ready (now plan) shape (now words) count (now dead) (now ta) (now td) (now work) source a (now fa) (now fd) ⌝ }
     requires { ⌜ IsAt (now plan) dest t ⌝ }
     requires { ⌜ (length (now work) ≡ 0 → NearLosses (now plan) source dest (now words) count (now near) nears) ⌝ }
-    requires { ⌜ isClear (now plan) Adaptive source dest ≡ false ⌝ }
     ensures { λ r. ⌜ r ≡ told (shapeOf (now (plan .entry))) source (pair large (now (plan .entry)) source dest) ⌝ }
 {
+    if has(fa, t) {
+        return Outcome::Given(Route::Direct(Mode::Adaptive), distance_at(shape, a, t));
+    }
     let at = dest as usize;
     if dead[at] != 0 {
         return Outcome::Refused(DEAD_END);
     }
-    route_to(
-        plan,
-        shape,
-        words,
-        count,
-        near,
-        nears,
-        dead,
-        ta,
-        td,
-        work,
-        source,
-        a,
-        fa,
-        fd,
-        dest,
-        t,
-    )
+    let straight = has(fd, t);
+    if work.len() == 0 {
+        return by_losses(
+            shape,
+            words,
+            count,
+            near,
+            nears,
+            ta,
+            td,
+            a,
+            t,
+            fa,
+            fd,
+            straight,
+        );
+    }
+    by_sets(shape, work, dest, a, t, fa, fd, straight)
 }

@@ -2,6 +2,7 @@
 use crate::dest::outcome_to;
 use crate::outside::At;
 use crate::outside::next_outside;
+use crate::sifted::NO_ROW;
 use crate::sifted::renew;
 use crate::sifted::row_at;
 use first_clear::sets_of::from_masks;
@@ -20,9 +21,6 @@ ghost use Rattle.dead.specs.Dead.{deadNode};
 ghost use Rattle.masks.specs.Masks.{Ended};
 ghost use Rattle.first_clear.specs.Known.{IsAt};
 ghost use Rattle.planner.specs.Known.{Prepared, Ready, Listed};
-
-// No row of nodes: they are 256.
-const NO_ROW: u16 = 256;
 
 // The sets from the source, and what is known of the plan; the entries go to their places in the bytes of a sheet. Each destination is planned once, with the losses that can lie on the shortest ways to its row.
 fn list(

@@ -1,14 +1,15 @@
 // What planning answers for every destination of a source.
-use crate::dest::has;
 use crate::dest::outcome_to;
 use crate::outside::At;
 use crate::outside::following;
 use crate::sheets::source_error;
+use crate::sifted::NO_ROW;
+use crate::sifted::renew;
+use crate::sifted::row_at;
 use choice::Outcome;
 use dead::dead_nodes;
 use first_clear::sets_of::from_set;
 use losses::losses;
-use machine::hop::distance_at;
 use machine::leg::Mode;
 use machine::node::coords;
 use masks::table::table;
@@ -20,61 +21,15 @@ ghost use mathlib.Core.Path.{_≡_};
 ghost use mathlib.Core.Bool.{false};
 ghost use Prim.Native.Nat.{ℕ};
 ghost use lib.ListN.{getD};
-ghost use Rattle.plan.specs.Layout.{shapeOf, faultsOf};
+ghost use Rattle.plan.specs.Layout.{faultsOf};
 ghost use Rattle.plan.specs.Checks.{large};
 ghost use Rattle.dead.specs.Dead.{deadNode};
-ghost use Rattle.choice.specs.Outcome.{told};
-ghost use Rattle.choice.specs.Pair.{pair};
 ghost use Rattle.planned_sheet.specs.Sheet.{sourceError};
 ghost use Rattle.first_clear.specs.Known.{IsAt};
 ghost use Rattle.planner.specs.Known.{Prepared, Ready};
 ghost use Rattle.planner.specs.Outcomes.{noOutcome, outcomeAt};
 
-// One destination, also where the direct adaptive leg is clear.
-fn any_outcome(
-    plan: &[u8],
-    shape: Shape,
-    words: &[u16; 256],
-    count: usize,
-    dead: &[u8; 4096],
-    ta: &[u16; 4608],
-    td: &[u16; 4608],
-    work: &[u16],
-    source: u16,
-    a: Coords,
-    fa: &[u16; 256],
-    fd: &[u16; 256],
-    dest: u16,
-    t: Coords,
-) -> Outcome
-    requires { ⌜ Ready (now plan) shape (now words) count (now dead) (now ta) (now td) (now work) source a (now fa) (now fd) ⌝ }
-    requires { ⌜ IsAt (now plan) dest t ⌝ }
-    ensures { λ r. ⌜ r ≡ told (shapeOf (now (plan .entry))) source (pair large (now (plan .entry)) source dest) ⌝ }
-{
-    if has(fa, t) {
-        return Outcome::Given(Route::Direct(Mode::Adaptive), distance_at(shape, a, t));
-    }
-    outcome_to(
-        plan,
-        shape,
-        words,
-        count,
-        words,
-        count,
-        dead,
-        ta,
-        td,
-        work,
-        source,
-        a,
-        fa,
-        fd,
-        dest,
-        t,
-    )
-}
-
-// Each destination is planned once.
+// Each destination is planned once, with the losses that can lie on the shortest ways to its row.
 fn all_outcomes(
     plan: &[u8],
     shape: Shape,
@@ -93,6 +48,9 @@ fn all_outcomes(
     ensures { λ r. ⌜ ((d : ℕ) → getD r d noOutcome ≡ outcomeAt large (now (plan .entry)) source d) ⌝ }
 {
     let mut outcomes = [Outcome::Given(Route::Direct(Mode::Adaptive), 0); 4096];
+    let mut near = [0u16; 256];
+    let mut nears: usize = 0;
+    let mut row = NO_ROW;
     let mut at = At {
         node: 0,
         x: 0,
@@ -106,12 +64,16 @@ fn all_outcomes(
             y: at.y,
             z: at.z,
         };
+        nears = renew(shape, words, count, ta, work, a, t, &mut near, nears, row);
+        row = row_at(t);
         let i = dest as usize;
-        outcomes[i] = any_outcome(
+        outcomes[i] = outcome_to(
             plan,
             shape,
             words,
             count,
+            &near,
+            nears,
             dead,
             ta,
             td,

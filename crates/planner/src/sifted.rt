@@ -5,14 +5,13 @@ use sets::sift::sift;
 use shape::Coords;
 use shape::Shape;
 ghost use mathlib.Core.Path.{_≡_};
-ghost use mathlib.Core.Bool.{false};
 ghost use mathlib.Core.List.{List};
 ghost use Prim.Native.Nat.{ℕ, _+_, _*_};
 ghost use lib.ListN.{length};
-ghost use Rattle.machine.specs.declared.leg.Mode.the-variants.{Adaptive};
-ghost use Rattle.masks.specs.Masks.{Masked};
-ghost use Rattle.first_clear.specs.Known.{OfPlan, IsAt};
 ghost use Rattle.planner.specs.Known.{Sifting, NearRow};
+
+// No row of nodes: they are 256.
+pub const NO_ROW: u16 = 256;
 
 pub fn row_at(t: Coords) -> u16
     ensures { λ r. ⌜ r ≡ t .y + 16 * t .z ⌝ }

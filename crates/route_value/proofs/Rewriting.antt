@@ -10,7 +10,7 @@ use Rattle.sheet.proofs.Records.{word-below, from-length, array-first, array-fr
 use Rattle.sheet.proofs.Heads.{word-same, front-same}
 use Rattle.sheet.proofs.Forms.{records-same}
 use Rattle.plan.specs.Checks.{Limits}
-use Rattle.routes.specs.Layout.{Format, EntryFits, formatOf, formatBy, written, source, entryCount, entriesAt, entryForm, entrySize, entryAt, entriesOf, sizeAfter, noEntry, mostEntries}
+use Rattle.routes.specs.Layout.{Format, EntryFits, formatOf, formatBy, source, entryCount, entriesAt, entryForm, entrySize, entryAt, entriesOf, sizeAfter, noEntry, mostEntries}
 use Rattle.routes.specs.Checks.{sheetError}
 use Rattle.routes.proofs.Sheets.{Head, accepted}
 use Rattle.route_value.specs.Reading.{entryArray, routesOf}

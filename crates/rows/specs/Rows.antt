@@ -1,5 +1,5 @@
 -- A set of nodes as 256 rows of bits: bit x of row y + 16 × z is the node (x, y, z). So a plane is 16 rows side by side, and lower rows hold lower nodes.
-use Prim.Native.Nat.{ℕ, _+_, _*_, _/_, _%_}
+use Prim.Native.Nat.{ℕ, _+_, _*_}
 use mathlib.Core.Bool.{Bool, _&&_}
 use mathlib.Core.List.{List}
 use lib.ListN.{getD}

@@ -1,7 +1,6 @@
 // The least number of a via in one row.
 use rows::next::next_set;
 ghost use mathlib.Core.Path.{_≡_};
-ghost use mathlib.Core.Bool.{cond};
 ghost use Prim.Native.Nat.{ℕ, min, _≤_, _<_};
 ghost use lib.ListN.{getD};
 ghost use Rattle.rows.specs.Bits.{bit};

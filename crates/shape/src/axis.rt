@@ -5,7 +5,7 @@ use logic::pick;
 use logic::pick_bool;
 ghost use mathlib.Core.Bool.{true, false};
 ghost use mathlib.Core.Path.{_≡_};
-ghost use Prim.Native.Nat.{_≤_, _<_};
+ghost use Prim.Native.Nat.{_<_};
 ghost use Rattle.shape.specs.Axis.{gap, axisDistance, hasLink, place, axisUseful};
 ghost use Rattle.shape.specs.Steps.{ahead, ringUseful};
 

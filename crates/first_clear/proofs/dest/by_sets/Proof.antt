@@ -1,6 +1,5 @@
 use native.Mathlib.Omega.{arith}
 use Rattle.first_clear.proofs.Destination.{first-given, none-given, sets-nearing, sets-short, sets-faring}
-use borrow.Author.Needs.{needs}
 use Rattle.first_clear.proofs.dest.by_sets.Statement.{statement}
 use Rattle.first_clear.proofs.dest.by_sets.Tie as tie
 use Rattle.first_clear.proofs.dest.by_sets.Reads as reads

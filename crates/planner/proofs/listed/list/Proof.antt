@@ -1,4 +1,4 @@
-use Rattle.planner.proofs.Writing.{Going, ok, begun, is-at, unclear, roomy, places, after, turn, few, done}
+use Rattle.planner.proofs.Writing.{Going, ok, begun, is-at, roomy, places, after, turn, few, done}
 use Rattle.planner.proofs.Standing.{starts}
 use Rattle.planner.specs.Known.{NearRow}
 use Rattle.planner.proofs.Destination.{sifting-at}
@@ -34,7 +34,7 @@ outcome-to-requires c κs =
     let inv = both .0 in
     let to = is-at _ _ _ _ _ _ _ _ _ _ _ _ (inv .ready) _ _ _ inv (c .before .before .before .before .if1 .taken) _ refl in
     let row = c .before .before .renew .ensures _ _ _ (sifting-at _ _ _ _ _ _ _ _ _ _ _ _ (inv .ready) _ _ to) (both .1) in
-    (inv .ready, (to, (near-row _ _ _ _ _ _ _ _ row _ _ to refl, unclear _ _ _ _ _ _ _ _ _ _ _ _ (inv .ready) _ _ _ inv (c .before .before .before .before .if1 .taken))))
+    (inv .ready, (to, near-row _ _ _ _ _ _ _ _ row _ _ to refl))
 
 entry-for-requires : tie.Need-entry-for-requires Inv-loop μ-loop
 entry-for-requires c κs = tt

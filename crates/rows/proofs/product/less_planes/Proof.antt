@@ -1,5 +1,4 @@
 use native.Mathlib.Omega.{arith}
-use borrow.Author.Needs.{needs}
 use Rattle.rows.proofs.Taking.{product-begin, product-end}
 use Rattle.rows.proofs.product.less_planes.Statement.{statement}
 use Rattle.rows.proofs.product.less_planes.Tie as tie
