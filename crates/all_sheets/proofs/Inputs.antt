@@ -2,7 +2,7 @@
 use Prim.Native.Nat.{ℕ, _≤_}
 use native.Mathlib.Omega.{arith}
 use mathlib.Core.Path.{_≡_, sym, ap, _∙_}
-use mathlib.Core.Bool.{false}
+use mathlib.Core.Bool.{Bool, false}
 use mathlib.Core.List.{List}
 use lib.ListN.{length, take, length-take}
 use borrow.Author.Tests.{ne-eqb}
@@ -13,7 +13,8 @@ use Rattle.plan.specs.Checks.{large, planError}
 use Rattle.plan_input.proofs.Long.{long-declined, error-decided}
 use Rattle.planner.specs.declared.run.Answer.{Answer}
 use Rattle.planner.specs.declared.run.Answer.the-variants.{Refused}
-use Rattle.planner.specs.Run.{runError, runAnswer, passes, runOutput, RunWritten}
+use Rattle.planner.specs.Known.{Filled}
+use Rattle.planner.specs.Run.{runError, runAnswer, passes, runOutput, RunWritten, SetsMade}
 
 -- A declined plan decides the answer, and leaves the lent bytes.
 module _ (p : List ℕ) (from words : ℕ) (h : planError large p ≡ 0 → ⊥) where
@@ -66,3 +67,14 @@ module _ (plan p : List ℕ) (size from : ℕ) (w o : List ℕ) (r : Answer) (v 
           kept = λ e. k .kept (same (λ q. passes q from (length w)) (passes-decided from (length w)) whole i ∙ e);
         },
       )
+
+-- ---- with the sets to all boards
+pub sets-input : (p q w : List ℕ) (r : Bool) (v : List ℕ) → p ≡ q → SetsMade p w r v → SetsMade q w r v
+sets-input p q w r v read g = rw read at g
+
+pub of-sets :
+    (plan p : List ℕ) (size from : ℕ) (w o : List ℕ) (r : Answer) (t : List ℕ) → 778 ≤ length plan → p ≡ take size plan → (Filled p w → RunWritten p from w o r w t) →
+    (Filled (take size plan) w → RunWritten (take size plan) from w o r w t) × ((whole : List ℕ) → ReadInto whole plan size → Filled (take size plan) w → RunWritten whole from w o r w t)
+of-sets plan p size from w o r t buffer read g =
+    let run : Filled (take size plan) w → RunWritten p from w o r w t = λ f. g (rw read f) in
+    (λ f. of-input plan p size from w o r w t buffer read (run f) .0, λ whole i f. of-input plan p size from w o r w t buffer read (run f) .1 whole i)

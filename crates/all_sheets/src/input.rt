@@ -1,13 +1,15 @@
 // A run of a plan that a program reads: the first `size` bytes of a buffer, read from an input that may be longer.
 use plan_input::PLAN_BYTES;
 use planner::run::Answer;
-use planner::run::write_run;
+use planner::run::make_sets;
+use planner::run::write_more;
 use text::part::front;
 ghost use mathlib.Core.List.{List};
 ghost use Prim.Native.Nat.{ℕ};
 ghost use lib.ListN.{take};
 ghost use Rattle.sheet.specs.Input.{ReadInto};
-ghost use Rattle.planner.specs.Run.{RunWritten};
+ghost use Rattle.planner.specs.Known.{Filled};
+ghost use Rattle.planner.specs.Run.{RunWritten, SetsMade};
 
 // A workspace for every plan: one of 4,096 boards.
 pub const WORDS: usize = 2097152;
@@ -16,15 +18,23 @@ pub const WORDS: usize = 2097152;
 pub const ROOM: usize = 2097152;
 
 // A size above PLAN_BYTES counts as PLAN_BYTES.
+// The sets to all boards, for the runs of the plan.
+pub fn sets_of_input(plan: &[u8; PLAN_BYTES], size: usize, work: &mut [u16; WORDS]) -> bool
+    ensures { λ r. ⌜ SetsMade (take size (now (plan .entry))) (now (work .entry)) r (now (work .exit)) ⌝ }
+{
+    make_sets(front(plan, size), work)
+}
+
+// A run with them.
 pub fn run_of_input(
     plan: &[u8; PLAN_BYTES],
     size: usize,
     from: u16,
-    work: &mut [u16; WORDS],
+    work: &[u16; WORDS],
     out: &mut [u8; ROOM],
 ) -> Answer
-    ensures { λ r. ⌜ RunWritten (take size (now (plan .entry))) from (now (work .entry)) (now (out .entry)) r (now (work .exit)) (now (out .exit)) ⌝ }
-    ensures { λ r. ⌜ ((whole : List ℕ) → ReadInto whole (now (plan .entry)) size → RunWritten whole from (now (work .entry)) (now (out .entry)) r (now (work .exit)) (now (out .exit))) ⌝ }
+    ensures { λ r. ⌜ (Filled (take size (now (plan .entry))) (now (work .entry)) → RunWritten (take size (now (plan .entry))) from (now (work .entry)) (now (out .entry)) r (now (work .entry)) (now (out .exit))) ⌝ }
+    ensures { λ r. ⌜ ((whole : List ℕ) → ReadInto whole (now (plan .entry)) size → Filled (take size (now (plan .entry))) (now (work .entry)) → RunWritten whole from (now (work .entry)) (now (out .entry)) r (now (work .entry)) (now (out .exit))) ⌝ }
 {
-    write_run(front(plan, size), from, work, out)
+    write_more(front(plan, size), from, work, out)
 }

@@ -1,5 +1,5 @@
 -- A board's turn in a run.
-use Prim.Native.Nat.{ℕ, _≤_, _<_}
+use Prim.Native.Nat.{ℕ, _*_, _≤_, _<_}
 use native.Mathlib.Omega.{arith}
 use mathlib.Core.Path.{_≡_, refl, sym, ap, _∙_}
 use mathlib.Core.Logic.{inr}
@@ -17,7 +17,7 @@ use Rattle.machine.specs.declared.leg.Mode.the-variants.{Adaptive, Deterministi
 use Rattle.machine.specs.Number.{nodeCount}
 use Rattle.machine.specs.Node.{coordsAnswer}
 use Rattle.plan.specs.Layout.{shapeOf, faultsOf}
-use Rattle.plan.specs.Checks.{large}
+use Rattle.plan.specs.Checks.{large, planError}
 use Rattle.dead.specs.Dead.{deadNode, bitOf, nodeAnswer}
 use Rattle.dead.proofs.Table.{is-node}
 use Rattle.route_value.specs.Making.{PutMade}
@@ -25,9 +25,8 @@ use Rattle.losses.specs.OfPlan.{AreLosses}
 use Rattle.masks.specs.Masks.{gatherAt, Ended, Masked}
 use Rattle.planner.specs.declared.boards.Step.{Step}
 use Rattle.planned_sheet.specs.Sheet.{sourceError, plannedSheet}
-use Rattle.planner.specs.Run.{runError}
 use Rattle.first_clear.specs.Known.{OfPlan, IsAt}
-use Rattle.planner.specs.Known.{Filled, Prepared, Listed}
+use Rattle.planner.specs.Known.{Work, Prepared, Listed}
 use Rattle.planner.specs.Steps.{stepOf, Boarded}
 use Rattle.first_clear.proofs.Knowing.{shape-ok}
 use Rattle.planner.proofs.Destination.{dead-byte}
@@ -36,17 +35,21 @@ use Rattle.first_clear.proofs.Destination.{gathered-at}
 use Rattle.planner.proofs.Filling.{at-coords}
 use Rattle.planned_sheet.proofs.Planning.{Source, source-of, no-error}
 use Rattle.planned_sheet.proofs.Written.{put-is}
-use Rattle.planner.proofs.Checking.{accepted-run}
 
 -- What is made of a plan once a run.
-module _ (p : List ℕ) (from : ℕ) (s : Shape) (words : List ℕ) (count : ℕ) (h : runError p from ≡ 0) (es : s ≡ shapeOf p) (l : AreLosses p words count) where
-  pub run-plan : OfPlan p s words count
-  run-plan = record { plan = accepted-run p from h; shape = es; losses = l }
+pub run-plan : (p : List ℕ) (s : Shape) (words : List ℕ) (count : ℕ) → planError large p ≡ 0 → s ≡ shapeOf p → AreLosses p words count → OfPlan p s words count
+run-plan p s words count h es l = record { plan = h; shape = es; losses = l }
 
-  pub run-prepared :
-      (dead ta td work : List ℕ) → ((n : ℕ) → getD dead n 0 ≡ bitOf (nodeAnswer large p n)) → Masked Adaptive false s ta → Masked Deterministic false s td → Filled p work →
-      Prepared p s words count dead ta td work
-  run-prepared dead ta td work nodes ma md f = record { of-plan = run-plan; nodes = nodes; adaptive = ma; deterministic = md; sets = inr f }
+pub run-prepared :
+    (p : List ℕ) (s : Shape) (words : List ℕ) (count : ℕ) (dead ta td work : List ℕ) (all : ℕ) → OfPlan p s words count → ((n : ℕ) → getD dead n 0 ≡ bitOf (nodeAnswer large p n)) →
+    Masked Adaptive false s ta → Masked Deterministic false s td → (all ≡ nodeCount (shapeOf p)) × (512 * all ≤ length work) → Prepared p s words count dead ta td work
+run-prepared p s words count dead ta td work all k nodes ma md fits = record { of-plan = k; nodes = nodes; adaptive = ma; deterministic = md; room = inr (rw (fits .0) at (fits .1)) }
+
+-- The bytes of a step are lent ones.
+pub step-fits : (S n : ℕ) (made o : List ℕ) (w : Written) (t : List ℕ) → PutMade S n made o w t → (step : Step) → step ≡ stepOf w → step .size ≤ length o
+unfolding stepOf
+step-fits S n made o (Bytes k) t put step e = rw e (put .fits k refl)
+step-fits S n made o (Refused k) t put step e = rw e (omega arith)
 
 -- The sheet s of a sound source, which turns the lent bytes o into t.
 module _ (p : List ℕ) (S : ℕ) (sound : sourceError large p S ≡ 0) (o t : List ℕ) (w : Written) (made : (w ≡ written (roomError (sourceError large p S) (plannedSheet large p S) o) (plannedSheet large p S)) × (t ≡ outAfter (roomError (sourceError large p S) (plannedSheet large p S) o) (plannedSheet large p S) o)) where
@@ -104,7 +107,7 @@ module _ (p : List ℕ) (s : Shape) (words : List ℕ) (count : ℕ) (dead ta td
         (k, (at, (gathered-at p s S a sa adaptive h at Adaptive true (m .0) ga, (gathered-at p s S a sd deterministic h at Deterministic true (m .1) gd, source .alive))))
 
     pub board-written :
-        (n : ℕ) (made o t : List ℕ) (w : Written) → Listed p S made n → PutMade S n made o w t → (step : Step) → step ≡ stepOf w → Boarded p S o step t
-    board-written n made o t w listed put step e =
+        (n : ℕ) (made o t : List ℕ) (w : Written) → Listed p work S made n → Work p work → PutMade S n made o w t → (step : Step) → step ≡ stepOf w → Boarded p S o step t
+    board-written n made o t w listed sets put step e =
         let sound = no-error large p S source in
-        rw e (boarded p S sound o t w (put-is p S 0 n made o w t (sym sound) refl (listed .held) (listed .many) put))
+        rw e (boarded p S sound o t w (put-is p S 0 n made o w t (sym sound) refl (listed .held sets) (listed .many) put))

@@ -29,7 +29,7 @@ use Rattle.first_clear.specs.Known.{isClear, IsAt, NearLosses, routeTold, BySet
 use Rattle.first_clear.proofs.Knowing.{shape-ok}
 use Rattle.first_clear.proofs.FirstSteps.{nodes-few}
 use Rattle.first_clear.proofs.Destination.{length-is, has-is}
-use Rattle.planner.specs.Known.{Ready, Sifting}
+use Rattle.planner.specs.Known.{Work, Ready, Sifting}
 use Rattle.planned_sheet.proofs.Planning.{Source, pair-dead, pair-alive}
 use Rattle.planned_sheet.proofs.Unlisted.{pair-direct}
 
@@ -96,15 +96,15 @@ module _ (p : List ℕ) (s : Shape) (words : List ℕ) (count : ℕ) (dead ta td
       one = has-is p Deterministic fd S D t (g .deterministic) to straight es;
     }
 
-    pub by-sets : (length work ≡ 0 → ⊥) → BySets p s work S D a t fa fd straight
-    by-sets ne = record {
+    pub by-sets : Work p work → (length work ≡ 0 → ⊥) → BySets p s work S D a t fa fd straight
+    by-sets sets ne = record {
       plan = h;
       shape = g .prepared .of-plan .shape;
       source = g .source;
       target = to;
       adaptive = g .adaptive;
       deterministic = g .deterministic;
-      both = ⊎-elim (λ z. absurd (ne z)) (λ f. f .each D (to .node)) (g .prepared .sets);
+      both = ⊎-elim (λ z. absurd (ne z)) (λ f. f .each D (to .node)) sets;
       direct = direct;
       one = has-is p Deterministic fd S D t (g .deterministic) to straight es;
     }

@@ -11,7 +11,8 @@ use Rattle.plan.specs.Checks.{large}
 use Rattle.planned_sheet.specs.Sheet.{plannedSheet}
 use Rattle.planner.specs.declared.boards.Step.{Step}
 use Rattle.planner.specs.declared.run.Run.{Run}
-use Rattle.planner.specs.Run.{runSheets, runNext, joined, boards, runBytes, runOf, runAfter}
+use Rattle.planner.specs.Run.{runSheets, runNext, joined, boards, runBytes, runOf, runAfter, RunMade}
+use Rattle.planner.specs.Known.{Work}
 use Rattle.planner.specs.Steps.{Boarded}
 use Rattle.planner.proofs.ByBoard.{Dead, Fits, Full, by-board}
 
@@ -143,3 +144,37 @@ module _ (p : List ℕ) (from all : ℕ) (o : List ℕ) where
     pub all-done : all ≤ next → all ≡ boards p → (_≡_ {A = Run} (record { size = size; next = next }) (runOf p from (length o))) × (t ≡ runAfter p from o)
     unfolding joined runSheets runNext
     all-done l e = let z : all - next ≡ 0 = omega arith in ended e (rw z) (rw z)
+
+-- ---- what holds at a turn, whatever the workspace has
+pub record RunSoFar (p work : List ℕ) (from all : ℕ) (o t : List ℕ) (size next : ℕ) : Type 0 where
+  pub within : size ≤ length o
+  pub long : length t ≡ length o
+  pub running : Work p work → Running p from all o t size next
+
+module _ (p work : List ℕ) (from all : ℕ) (o : List ℕ) where
+  pub run-begin : RunSoFar p work from all o o 0 from
+  run-begin = record { within = omega arith; long = refl; running = λ _. begin p from all o }
+
+  module _ (t : List ℕ) (size next : ℕ) (g : RunSoFar p work from all o t size next) where
+    module _ (l : next < all) (r : Step) (u : List ℕ) (fits : r .size ≤ length (take (length t - size) (drop size t))) (same : length u ≡ length (take (length t - size) (drop size t)))
+        (b : Work p work → Boarded p next (take (length t - size) (drop size t)) r u) where
+      abbrev part : ℕ
+      part = length (take (length t - size) (drop size t))
+
+      part-is : part ≡ length o - size
+      part-is = omega (arith, ap length (take-all (length t - size) (drop size t) (omega (arith, length-drop size t))), length-drop size t, g .long)
+
+      pub run-long : length (take size t ++ (u ++ drop (length t - size) (drop size t))) ≡ length o
+      run-long =
+          let front : length (take size t) ≡ size = length-take-le size t (omega (arith, g .within, g .long)) in
+          let none : drop (length t - size) (drop size t) ≡ [] = drop-of-length-le (drop size t) {i = length t - size} (omega (arith, length-drop size t)) in
+          rw none (length-append (take size t) (u ++ []) ∙ omega (arith, front, ap length (append-nil u), same, part-is, g .within))
+
+      pub run-turned : r .full ≡ false → RunSoFar p work from all o (take size t ++ (u ++ drop (length t - size) (drop size t))) (size + r .size) (next + 1)
+      run-turned on = record { within = omega (arith, fits, part-is, g .within); long = run-long; running = λ w. turned p from all o t size next (g .running w) l r u (b w) on }
+
+      pub run-full : r .full ≡ true → all ≡ boards p → (Work p work → RunMade p from o (record { size = size; next = next }) (take size t ++ (u ++ drop (length t - size) (drop size t))))
+      run-full off e w = let k = stopped p from all o t size next (g .running w) l r u (b w) off e in record { run = k .0; bytes = k .1 }
+
+    pub run-done : all ≤ next → all ≡ boards p → (Work p work → RunMade p from o (record { size = size; next = next }) t)
+    run-done l e w = let k = all-done p from all o t size next (g .running w) l e in record { run = k .0; bytes = k .1 }

@@ -33,7 +33,7 @@ use Rattle.route_value.proofs.InPlace.{none-held}
 use Rattle.losses.specs.OfPlan.{AreLosses}
 use Rattle.masks.specs.Masks.{Masked}
 use Rattle.first_clear.specs.Known.{isClear, IsAt}
-use Rattle.planner.specs.Known.{Prepared, Ready, Listed}
+use Rattle.planner.specs.Known.{Work, Prepared, Ready, Listed}
 use Rattle.planned_sheet.specs.Sheet.{sourceError}
 use Rattle.first_clear.proofs.Knowing.{shape-ok}
 use Rattle.first_clear.proofs.FirstSteps.{nodes-few}
@@ -49,7 +49,7 @@ pub record Going (p : List ℕ) (s : Shape) (words : List ℕ) (count : ℕ) (de
   pub out : at .z < s .z → (at .x < s .x) × (inSet s fa 0 (at .node) ≡ false)
   pub entries : List Entry
   pub listing : Listing p S entries (at .node)
-  pub held : Holds entries bytes
+  pub held : Work p work → Holds entries bytes
   pub long : length entries ≡ listed
 
 module _ (p : List ℕ) (s : Shape) (words : List ℕ) (count : ℕ) (dead ta td work : List ℕ) (S : ℕ) (a : Coords) (fa fd : List ℕ) (ready : Ready p s words count dead ta td work S a fa fd) where
@@ -68,7 +68,7 @@ module _ (p : List ℕ) (s : Shape) (words : List ℕ) (count : ℕ) (dead ta td
   pub node-known : (at : At) → Stands s at → at .x < s .x → at .z < s .z → (t : Coords) → t ≡ placeOf at → IsAt p (at .node) t
   node-known at g hx hz t e = record { node = rw same at (stands-node s ok at g hx hz); at = e ∙ sym (stands-at s ok at g hx hz) ∙ ap (λ m. coordsOf m (at .node)) same }
 
-  module _ (bytes : List ℕ) (listed : ℕ) (from r : At) (stand : Stands s from) (next : NextOutside s fa from r) (entries : List Entry) (before : Listing p S entries (from .node)) (held : Holds entries bytes) (long : length entries ≡ listed) where
+  module _ (bytes : List ℕ) (listed : ℕ) (from r : At) (stand : Stands s from) (next : NextOutside s fa from r) (entries : List Entry) (before : Listing p S entries (from .node)) (held : Work p work → Holds entries bytes) (long : length entries ≡ listed) where
     found : Going p s words count dead ta td work S a fa fd bytes listed r
     found =
         let few = stands-below s ok r (next .stands) in
@@ -111,22 +111,26 @@ module _ (p : List ℕ) (s : Shape) (words : List ℕ) (count : ℕ) (dead ta td
       after = record { node = omega (arith, g .stands .node); x = omega (arith, g .out l .0); y = g .stands .y; z = g .stands .z; end = λ e. absurd (omega arith) }
 
       pub turn :
-          (o : Outcome) (e : Entry) (after-bytes : List ℕ) (r : At) → o ≡ told (shapeOf p) S (pair large p S (at .node)) → e ≡ entryFor (at .node) (heard (at .node) o) →
+          (o : Outcome) (e : Entry) (after-bytes : List ℕ) (r : At) → (Work p work → o ≡ told (shapeOf p) S (pair large p S (at .node))) → e ≡ entryFor (at .node) (heard (at .node) o) →
           Added bytes listed e after-bytes → NextOutside s fa (record { node = at .node + 1; x = at .x + 1; y = at .y; z = at .z }) r →
           Going p s words count dead ta td work S a fa fd after-bytes (listed + 1) r
       turn o e after-bytes r eo ee put next =
-          let n = entered p S source (g .entries) (at .node) (g .listing) (is-at (placeOf at) refl .node) unclear o e eo ee in
-          found after-bytes (listed + 1) _ r after next (g .entries ++ (e ∷ [])) (n .1) (put (g .entries) (g .held) (g .long) roomy) (omega (arith, length-append (g .entries) (e ∷ []), g .long))
+          let f : Outcome → Entry = λ x. entryFor (at .node) (heard (at .node) x) in
+          let is : Entry = f (told (shapeOf p) S (pair large p S (at .node))) in
+          let n = entered p S source (g .entries) (at .node) (g .listing) (is-at (placeOf at) refl .node) unclear _ is refl refl in
+          let long : length (g .entries ++ (is ∷ [])) ≡ listed + 1 = omega (arith, length-append (g .entries) (is ∷ []), g .long) in
+          found after-bytes (listed + 1) _ r after next (g .entries ++ (is ∷ [])) (n .1)
+          (λ w. let same : e ≡ is = ee ∙ ap f (eo w) in rw (← same) (put (g .entries) (g .held w) (g .long) roomy)) long
 
-    pub done : s .z ≤ at .z → Listed p S bytes listed
+    pub done : s .z ≤ at .z → Listed p work S bytes listed
     done m =
         let e = stands-end s ok at (g .stands) m in
         let n : nodeCount s ≡ nodeCount (shapeOf p) = ap nodeCount same in
         let all = ended p S (g .entries) (at .node) (g .listing) (omega arith) in
-        record { held = rw (← all) (g .held); many = sym (g .long) ∙ ap length all }
+        record { held = λ w. rw (← all) (g .held w); many = sym (g .long) ∙ ap length all }
 
   pub begun : (bytes : List ℕ) → 20482 ≤ length bytes → (r : At) → NextOutside s fa (record { node = 0; x = 0; y = 0; z = 0 }) r → Going p s words count dead ta td work S a fa fd bytes 0 r
-  begun bytes b r next = found bytes 0 _ r (starts s ok) next [] (begin p S) (none-held bytes b) refl
+  begun bytes b r next = found bytes 0 _ r (starts s ok) next [] (begin p S) (λ _. none-held bytes b) refl
 
 -- What is made of a plan for its sound source S, with no sets to its nodes.
 pub planned-known :
@@ -140,7 +144,7 @@ planned-known p S s words count dead ta td a h es l nodes ma md c =
         nodes = nodes;
         adaptive = ma;
         deterministic = md;
-        sets = inl refl;
+        room = inl refl;
       },
       (record { node = node-of (shapeOf p) S (k .node) .below; at = c ∙ rw (es, k .node) }, k .alive),
     )

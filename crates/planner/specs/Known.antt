@@ -1,5 +1,5 @@
 -- The code's own steps: what is known of an accepted plan p while the routes from S are planned.
-use Prim.Native.Nat.{ℕ, _+_, _*_, _<_}
+use Prim.Native.Nat.{ℕ, _+_, _*_, _≤_, _<_}
 use mathlib.Core.Path.{_≡_}
 use mathlib.Core.Logic.{_⊎_}
 use mathlib.Core.Bool.{false}
@@ -17,9 +17,13 @@ use Rattle.route_value.specs.Making.{Holds}
 use Rattle.planned_sheet.specs.Sheet.{entriesFrom}
 use Rattle.first_clear.specs.Known.{OfPlan, IsAt, FromSet, BothTo, NearLosses}
 
--- A run with both sets to each node, 512 rows a node; or an empty run.
+-- A run with both sets to each node, 512 rows a node.
 pub record Filled (p work : List ℕ) : Type 0 where
   pub each : (D : ℕ) → D < nodeCount (shapeOf p) → BothTo p D work (512 * D)
+
+-- An empty run, or one that has room for them; and where it has them.
+abbrev pub Roomy : List ℕ → List ℕ → Type 0
+Roomy p work = (length work ≡ 0) ⊎ (512 * nodeCount (shapeOf p) ≤ length work)
 
 abbrev pub Work : List ℕ → List ℕ → Type 0
 Work p work = (length work ≡ 0) ⊎ Filled p work
@@ -36,13 +40,13 @@ pub record NearRow (p work : List ℕ) (S : ℕ) (words : List ℕ) (count : ℕ
   pub long : length near ≡ 256
   pub each : length work ≡ 0 → (D : ℕ) → D < nodeCount (shapeOf p) → coordsOf (shapeOf p) D .y + 16 * coordsOf (shapeOf p) D .z ≡ row → NearLosses p S D words count near n
 
--- What depends on the plan alone: its shape, losses and dead nodes, the masks of all targets, and the sets to all nodes where the run has them.
+-- What depends on the plan alone: its shape, losses and dead nodes, the masks of all targets, and a run for the sets to all nodes.
 pub record Prepared (p : List ℕ) (s : Shape) (words : List ℕ) (count : ℕ) (dead ta td work : List ℕ) : Type 0 where
   pub of-plan : OfPlan p s words count
   pub nodes : (n : ℕ) → getD dead n 0 ≡ bitOf (nodeAnswer large p n)
   pub adaptive : Masked Adaptive false s ta
   pub deterministic : Masked Deterministic false s td
-  pub sets : Work p work
+  pub room : Roomy p work
 
 -- And on the source S, which is sound: the nodes with a clear leg from it.
 pub record Ready (p : List ℕ) (s : Shape) (words : List ℕ) (count : ℕ) (dead ta td work : List ℕ) (S : ℕ) (a : Coords) (fa fd : List ℕ) : Type 0 where
@@ -52,7 +56,7 @@ pub record Ready (p : List ℕ) (s : Shape) (words : List ℕ) (count : ℕ) (de
   pub adaptive : FromSet p Adaptive S fa
   pub deterministic : FromSet p Deterministic S fd
 
--- The bytes hold the entries of the sheet from S, which are so many.
-pub record Listed (p : List ℕ) (S : ℕ) (bytes : List ℕ) (count : ℕ) : Type 0 where
-  pub held : Holds (entriesFrom large p S 0 (nodeCount (shapeOf p))) bytes
+-- The entries of the sheet from S are so many; and the bytes hold them, if the run `work` is empty or has the sets to all nodes.
+pub record Listed (p work : List ℕ) (S : ℕ) (bytes : List ℕ) (count : ℕ) : Type 0 where
+  pub held : Work p work → Holds (entriesFrom large p S 0 (nodeCount (shapeOf p))) bytes
   pub many : count ≡ length (entriesFrom large p S 0 (nodeCount (shapeOf p)))

@@ -1,7 +1,7 @@
 -- Writing the sheets by runs: as many whole ones a call as the lent bytes take.
 use Prim.Native.Nat.{ℕ, zero, suc, _*_, _-_}
 use mathlib.Core.Path.{_≡_}
-use mathlib.Core.Bool.{Bool, false, not, cond, _&&_}
+use mathlib.Core.Bool.{Bool, true, false, not, cond, _&&_}
 use mathlib.Core.List.{List, [], _∷_, _++_}
 use lib.ListN.{length, drop}
 use lib.Dec.{ltb, eqb}
@@ -11,7 +11,9 @@ use Rattle.machine.specs.Number.{nodeCount}
 use Rattle.machine.specs.Node.{isNode}
 use Rattle.plan.specs.Layout.{shapeOf}
 use Rattle.plan.specs.Checks.{large, planError}
+use Rattle.plan.specs.Reading.{isPlan}
 use Rattle.planned_sheet.specs.Sheet.{sourceError, plannedSheet}
+use Rattle.planner.specs.Known.{Filled}
 use Rattle.planner.specs.declared.run.Run.{Run}
 use Rattle.planner.specs.declared.run.Answer.{Answer}
 use Rattle.planner.specs.declared.run.Answer.the-variants.{Written, Refused, FewWords}
@@ -53,6 +55,11 @@ runOf p from room = record { size = length (runBytes p from room); next = runNex
 unfoldable pub runAfter : List ℕ → ℕ → List ℕ → List ℕ
 runAfter p from o = runBytes p from (length o) ++ drop (length (runBytes p from (length o))) o
 
+-- A run from a board on, which turns the lent bytes o into t.
+pub record RunMade (p : List ℕ) (from : ℕ) (o : List ℕ) (r : Run) (t : List ℕ) : Type 0 where
+  pub run : r ≡ runOf p from (length o)
+  pub bytes : t ≡ runAfter p from o
+
 -- Checks 1 to 8 of the plan, then 9 of the board.
 unfoldable pub runError : List ℕ → ℕ → ℕ
 runError p from =
@@ -89,3 +96,10 @@ pub record RunWritten (p : List ℕ) (from : ℕ) (w o : List ℕ) (r : Answer) 
   pub output : t ≡ runOutput p from (length w) o
   -- What the workspace holds after a run that passes is left open.
   pub kept : passes p from (length w) ≡ false → v ≡ w
+
+-- Making the sets to all boards in the workspace w, which answers r and leaves it as v.
+pub record SetsMade (p w : List ℕ) (r : Bool) (v : List ℕ) : Type 0 where
+  pub answer : r ≡ (isPlan large p && not (fewWords p (length w)))
+  pub long : length v ≡ length w
+  pub made : r ≡ true → Filled p v
+  pub kept : r ≡ false → v ≡ w

@@ -14,15 +14,17 @@ use route_value::put_made;
 use shape::Shape;
 use sheet::output::Written;
 ghost use mathlib.Core.Path.{_≡_};
-ghost use mathlib.Core.Bool.{true};
+ghost use mathlib.Core.Bool.{true, false};
 ghost use Prim.Native.Nat.{_*_, _≤_, _<_};
 ghost use lib.ListN.{length};
 ghost use Rattle.machine.specs.declared.leg.Mode.the-variants.{Adaptive, Deterministic};
 ghost use Rattle.machine.specs.Number.{nodeCount};
 ghost use Rattle.plan.specs.Layout.{shapeOf};
+ghost use Rattle.plan.specs.Checks.{large, planError};
 ghost use Rattle.masks.specs.Masks.{Masked};
-ghost use Rattle.planner.specs.Run.{runError, runOf, runAfter};
-ghost use Rattle.planner.specs.Known.{Prepared};
+ghost use Rattle.first_clear.specs.Known.{OfPlan};
+ghost use Rattle.planner.specs.Run.{RunMade};
+ghost use Rattle.planner.specs.Known.{Filled, Work, Prepared};
 ghost use Rattle.planner.specs.Steps.{stepOf, Boarded};
 
 // The bytes of a board's sheet, none where it is dead; and whether the sheet does not fit.
@@ -64,7 +66,8 @@ fn write_board(
     requires { ⌜ Prepared (now plan) shape (now words) count (now dead) (now ta) (now td) (now work) ⌝ }
     requires { ⌜ (Masked Adaptive true shape (now sa)) × (Masked Deterministic true shape (now sd)) ⌝ }
     requires { ⌜ source < nodeCount (shapeOf (now plan)) ⌝ }
-    ensures { λ r. ⌜ Boarded (now (plan .entry)) source (now (out .entry)) r (now (out .exit)) ⌝ }
+    ensures { λ r. ⌜ r .size ≤ length (now (out .entry)) ⌝ }
+    ensures { λ r. ⌜ (Work (now (plan .entry)) (now (work .entry)) → Boarded (now (plan .entry)) source (now (out .entry)) r (now (out .exit))) ⌝ }
 {
     let at = source as usize;
     if dead[at] != 0 {
@@ -95,7 +98,7 @@ fn write_board(
     step_of(put_made(source, entries, &mut bytes, out))
 }
 
-// The run from a board on, with the sets to all nodes.
+// The run from a board on, where `work` has the sets to all nodes.
 fn boards_from(
     plan: &[u8],
     shape: Shape,
@@ -114,8 +117,7 @@ fn boards_from(
     requires { ⌜ Prepared (now plan) shape (now words) count (now dead) (now ta) (now td) (now work) ⌝ }
     requires { ⌜ (Masked Adaptive true shape (now sa)) × (Masked Deterministic true shape (now sd)) ⌝ }
     requires { ⌜ all ≡ nodeCount (shapeOf (now plan)) ⌝ }
-    ensures { λ r. ⌜ r ≡ runOf (now (plan .entry)) from (length (now (out .entry))) ⌝ }
-    ensures { λ _. ⌜ now (out .exit) ≡ runAfter (now (plan .entry)) from (now (out .entry)) ⌝ }
+    ensures { λ r. ⌜ (Work (now (plan .entry)) (now (work .entry)) → RunMade (now (plan .entry)) from (now (out .entry)) r (now (out .exit))) ⌝ }
 {
     let mut size: usize = 0;
     let mut next = from;
@@ -149,30 +151,36 @@ fn boards_from(
     }
 }
 
-// The run from a board on, of an accepted plan with `all` boards: the sets to all nodes are made once.
-pub fn write_boards(plan: &[u8], from: u16, all: u16, work: &mut [u16], out: &mut [u8]) -> Run
-    requires { ⌜ (runError (now plan) from ≡ 0) × (all ≡ nodeCount (shapeOf (now plan))) × (512 * all ≤ length (now work)) ⌝ }
-    ensures { λ r. ⌜ r ≡ runOf (now (plan .entry)) from (length (now (out .entry))) ⌝ }
-    ensures { λ _. ⌜ now (out .exit) ≡ runAfter (now (plan .entry)) from (now (out .entry)) ⌝ }
+// The same, by the masks of all targets.
+fn boards_by(
+    plan: &[u8],
+    shape: Shape,
+    words: &[u16; 256],
+    count: usize,
+    ta: &[u16; 4608],
+    td: &[u16; 4608],
+    work: &[u16],
+    from: u16,
+    all: u16,
+    out: &mut [u8],
+) -> Run
+    requires { ⌜ OfPlan (now plan) shape (now words) count ⌝ }
+    requires { ⌜ Masked Adaptive false shape (now ta) ⌝ }
+    requires { ⌜ Masked Deterministic false shape (now td) ⌝ }
+    requires { ⌜ (all ≡ nodeCount (shapeOf (now plan))) × (512 * all ≤ length (now work)) ⌝ }
+    ensures { λ r. ⌜ (Work (now (plan .entry)) (now (work .entry)) → RunMade (now (plan .entry)) from (now (out .entry)) r (now (out .exit))) ⌝ }
 {
-    let shape = shape_in(plan);
-    let lost = losses(plan);
-    let words = lost.words;
-    let count = lost.count as usize;
     let dead = dead_nodes(plan);
-    let ta = table(Mode::Adaptive, false, shape);
-    let td = table(Mode::Deterministic, false, shape);
     let sa = table(Mode::Adaptive, true, shape);
     let sd = table(Mode::Deterministic, true, shape);
-    fill(plan, shape, &words, count, &ta, &td, all, work);
     boards_from(
         plan,
         shape,
-        &words,
+        words,
         count,
         &dead,
-        &ta,
-        &td,
+        ta,
+        td,
         work,
         &sa,
         &sd,
@@ -180,4 +188,47 @@ pub fn write_boards(plan: &[u8], from: u16, all: u16, work: &mut [u16], out: &mu
         all,
         out,
     )
+}
+
+// The run from a board on, of an accepted plan with `all` boards, where `work` has the sets to all nodes.
+pub fn more_boards(plan: &[u8], from: u16, all: u16, work: &[u16], out: &mut [u8]) -> Run
+    requires { ⌜ (planError large (now plan) ≡ 0) × (all ≡ nodeCount (shapeOf (now plan))) × (512 * all ≤ length (now work)) ⌝ }
+    ensures { λ r. ⌜ (Filled (now (plan .entry)) (now (work .entry)) → RunMade (now (plan .entry)) from (now (out .entry)) r (now (out .exit))) ⌝ }
+{
+    let shape = shape_in(plan);
+    let lost = losses(plan);
+    let words = lost.words;
+    let count = lost.count as usize;
+    let ta = table(Mode::Adaptive, false, shape);
+    let td = table(Mode::Deterministic, false, shape);
+    boards_by(plan, shape, &words, count, &ta, &td, work, from, all, out)
+}
+
+// The sets to all nodes of such a plan.
+pub fn fill_boards(plan: &[u8], all: u16, work: &mut [u16])
+    requires { ⌜ (planError large (now plan) ≡ 0) × (all ≡ nodeCount (shapeOf (now plan))) × (512 * all ≤ length (now work)) ⌝ }
+    ensures { λ _. ⌜ Filled (now (plan .entry)) (now (work .exit)) ⌝ }
+{
+    let shape = shape_in(plan);
+    let lost = losses(plan);
+    let words = lost.words;
+    let count = lost.count as usize;
+    let ta = table(Mode::Adaptive, false, shape);
+    let td = table(Mode::Deterministic, false, shape);
+    fill(plan, shape, &words, count, &ta, &td, all, work);
+}
+
+// Both.
+pub fn write_boards(plan: &[u8], from: u16, all: u16, work: &mut [u16], out: &mut [u8]) -> Run
+    requires { ⌜ (planError large (now plan) ≡ 0) × (all ≡ nodeCount (shapeOf (now plan))) × (512 * all ≤ length (now work)) ⌝ }
+    ensures { λ r. ⌜ RunMade (now (plan .entry)) from (now (out .entry)) r (now (out .exit)) ⌝ }
+{
+    let shape = shape_in(plan);
+    let lost = losses(plan);
+    let words = lost.words;
+    let count = lost.count as usize;
+    let ta = table(Mode::Adaptive, false, shape);
+    let td = table(Mode::Deterministic, false, shape);
+    fill(plan, shape, &words, count, &ta, &td, all, work);
+    boards_by(plan, shape, &words, count, &ta, &td, work, from, all, out)
 }

@@ -17,7 +17,7 @@ ghost use Rattle.choice.specs.Outcome.{told};
 ghost use Rattle.choice.specs.Pair.{pair};
 ghost use Rattle.rows.specs.Rows.{inRows};
 ghost use Rattle.first_clear.specs.Known.{IsAt, NearLosses};
-ghost use Rattle.planner.specs.Known.{Ready};
+ghost use Rattle.planner.specs.Known.{Work, Ready};
 
 fn has(rows: &[u16; 256], c: Coords) -> bool
     requires { ⌜ (c .x < 16) × (c .y < 16) × (c .z < 16) ⌝ }
@@ -50,7 +50,7 @@ pub fn outcome_to(
     requires { ⌜ Ready (now plan) shape (now words) count (now dead) (now ta) (now td) (now work) source a (now fa) (now fd) ⌝ }
     requires { ⌜ IsAt (now plan) dest t ⌝ }
     requires { ⌜ (length (now work) ≡ 0 → NearLosses (now plan) source dest (now words) count (now near) nears) ⌝ }
-    ensures { λ r. ⌜ r ≡ told (shapeOf (now (plan .entry))) source (pair large (now (plan .entry)) source dest) ⌝ }
+    ensures { λ r. ⌜ (Work (now (plan .entry)) (now (work .entry)) → r ≡ told (shapeOf (now (plan .entry))) source (pair large (now (plan .entry)) source dest)) ⌝ }
 {
     if has(fa, t) {
         return Outcome::Given(Route::Direct(Mode::Adaptive), distance_at(shape, a, t));

@@ -40,7 +40,7 @@ fn list(
 ) -> u16
     requires { ⌜ Ready (now plan) shape (now words) count (now dead) (now ta) (now td) (now work) source a (now fa) (now fd) ⌝ }
     requires { ⌜ 20482 ≤ length (now bytes) ⌝ }
-    ensures { λ r. ⌜ Listed (now (plan .entry)) source (now (bytes .exit)) r ⌝ }
+    ensures { λ r. ⌜ Listed (now (plan .entry)) (now (work .entry)) source (now (bytes .exit)) r ⌝ }
 {
     let mut listed: usize = 0;
     let mut near = [0u16; 256];
@@ -121,7 +121,7 @@ pub fn routes_from(
     requires { ⌜ Ended Deterministic true shape a (now deterministic) ⌝ }
     requires { ⌜ deadNode (faultsOf (now plan)) source ≡ false ⌝ }
     requires { ⌜ 20482 ≤ length (now bytes) ⌝ }
-    ensures { λ r. ⌜ Listed (now (plan .entry)) source (now (bytes .exit)) r ⌝ }
+    ensures { λ r. ⌜ Listed (now (plan .entry)) (now (work .entry)) source (now (bytes .exit)) r ⌝ }
 {
     let fa = from_masks(words, count, adaptive);
     let fd = from_masks(words, count, deterministic);

@@ -26,7 +26,7 @@ ghost use Rattle.plan.specs.Checks.{large};
 ghost use Rattle.dead.specs.Dead.{deadNode};
 ghost use Rattle.planned_sheet.specs.Sheet.{sourceError};
 ghost use Rattle.first_clear.specs.Known.{IsAt};
-ghost use Rattle.planner.specs.Known.{Prepared, Ready};
+ghost use Rattle.planner.specs.Known.{Work, Prepared, Ready};
 ghost use Rattle.planner.specs.Outcomes.{noOutcome, outcomeAt};
 
 // Each destination is planned once, with the losses that can lie on the shortest ways to its row.
@@ -45,6 +45,7 @@ fn all_outcomes(
     fd: &[u16; 256],
 ) -> [Outcome; 4096]
     requires { ⌜ Ready (now plan) shape (now words) count (now dead) (now ta) (now td) (now work) source a (now fa) (now fd) ⌝ }
+    requires { ⌜ Work (now plan) (now work) ⌝ }
     ensures { λ r. ⌜ ((d : ℕ) → getD r d noOutcome ≡ outcomeAt large (now (plan .entry)) source d) ⌝ }
 {
     let mut outcomes = [Outcome::Given(Route::Direct(Mode::Adaptive), 0); 4096];
@@ -106,6 +107,7 @@ fn outcomes_by(
     requires { ⌜ Prepared (now plan) shape (now words) count (now dead) (now ta) (now td) (now work) ⌝ }
     requires { ⌜ IsAt (now plan) source a ⌝ }
     requires { ⌜ deadNode (faultsOf (now plan)) source ≡ false ⌝ }
+    requires { ⌜ Work (now plan) (now work) ⌝ }
     ensures { λ r. ⌜ ((d : ℕ) → getD r d noOutcome ≡ outcomeAt large (now (plan .entry)) source d) ⌝ }
 {
     let fa = from_set(Mode::Adaptive, shape, words, count, a);

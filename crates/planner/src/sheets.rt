@@ -14,6 +14,7 @@ use plan::layout::shape_in;
 use route_value::put_made;
 use sheet::output::Written;
 ghost use mathlib.Core.Path.{_≡_};
+ghost use mathlib.Core.List.{[]};
 ghost use Prim.Native.Nat.{_≤_};
 ghost use lib.ListN.{length};
 ghost use Rattle.sheet.specs.Output.{roomError, written, outAfter};
@@ -34,7 +35,7 @@ pub fn source_error(plan: &[u8], source: u16) -> u8
 fn planned(plan: &[u8], source: u16, bytes: &mut [u8]) -> u16
     requires { ⌜ sourceError large (now plan) source ≡ 0 ⌝ }
     requires { ⌜ 20482 ≤ length (now bytes) ⌝ }
-    ensures { λ r. ⌜ Listed (now (plan .entry)) source (now (bytes .exit)) r ⌝ }
+    ensures { λ r. ⌜ Listed (now (plan .entry)) [] source (now (bytes .exit)) r ⌝ }
 {
     let shape = shape_in(plan);
     let lost = losses(plan);

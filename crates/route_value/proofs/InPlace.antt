@@ -5,7 +5,9 @@ use mathlib.Core.Path.{_≡_, refl, sym, ap, _∙_}
 use mathlib.Core.List.{List, [], _∷_, _++_}
 use lib.ListN.{length, take, drop, set, length-append, length-drop}
 use lib.Seq.{sets, sets-eq, length-sets, take-at, take-add, length-take-le, drop-set-add}
-use Rattle.numbers.specs.Numbers.{wrongRouteSheet}
+use Rattle.numbers.specs.Numbers.{outputShort, wrongRouteSheet}
+use Rattle.theory.proofs.Cases.{by-le}
+use Rattle.sheet.proofs.Outputs.{room, no-room}
 use Rattle.sheet.specs.declared.output.Written.{Written}
 use Rattle.sheet.specs.declared.output.Written.the-variants.{Bytes, Refused}
 use Rattle.sheet.specs.Output as Output
@@ -75,12 +77,21 @@ left zero s o t w n put r =
     absurd (omega arith)
 left (suc k) s o t w n put r = put .1
 
+refused-bytes : {X : Type 0} (e n : ℕ) → Refused e ≡ Bytes n → X
+refused-bytes e n r = let z : _≡_ {A = ℕ} 0 1 = cc in absurd (omega arith)
+
+within : (s o : List ℕ) (w : Written) (n : ℕ) → w ≡ Output.written (roomError 0 s o) s → w ≡ Bytes n → n ≤ length o
+unfolding Output.written
+within s o w n put r = by-le (length s) (length o)
+    (λ l. let b : Bytes (length s) ≡ Bytes n = sym (rw (room 0 s o refl l) at put) ∙ r in let e : length s ≡ n = cc in omega arith)
+    (λ l. refused-bytes outputShort n (sym (rw (no-room 0 s o refl l) at put) ∙ r))
+
 module _ (S count : ℕ) (bytes o : List ℕ) where
   pub too-many : mostEntries < count → PutMade S count bytes o (Refused wrongRouteSheet) o
-  too-many h = record { many = λ _. (refl, refl); short = λ _. (refl, refl); refused = λ n r. refl; made = λ es g n m. absurd (omega arith) }
+  too-many h = record { many = λ _. (refl, refl); short = λ _. (refl, refl); refused = λ n r. refl; fits = λ n r. refused-bytes wrongRouteSheet n r; made = λ es g n m. absurd (omega arith) }
 
   pub too-short : length bytes < entriesAt + 5 * count → PutMade S count bytes o (Refused wrongRouteSheet) o
-  too-short h = record { many = λ _. (refl, refl); short = λ _. (refl, refl); refused = λ n r. refl; made = λ es g n m. absurd (omega (arith, g .room)) }
+  too-short h = record { many = λ _. (refl, refl); short = λ _. (refl, refl); refused = λ n r. refl; fits = λ n r. refused-bytes wrongRouteSheet n r; made = λ es g n m. absurd (omega (arith, g .room)) }
 
   module _ (head : List ℕ) (q : head ≡ putHead bytes S count) where
     front : (es : List Entry) → Holds es bytes → length es ≡ count → take (entriesAt + 5 * count) head ≡ sheetBytes written S es
@@ -99,5 +110,6 @@ module _ (S count : ℕ) (bytes o : List ℕ) where
       many = λ h. absurd (omega arith);
       short = λ h. absurd (omega arith);
       refused = λ n r. left (roomError 0 (take (entriesAt + 5 * count) head) o) (take (entriesAt + 5 * count) head) o t w n put r;
+      fits = λ n r. within (take (entriesAt + 5 * count) head) o w n (put .0) r;
       made = λ es g n _. rw (front es g n) at put;
     }

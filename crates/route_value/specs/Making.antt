@@ -5,7 +5,7 @@ use mathlib.Core.List.{List, [], _∷_, _++_}
 use lib.ListN.{length, take, drop}
 use Rattle.numbers.specs.Numbers.{wrongRouteSheet}
 use Rattle.sheet.specs.declared.output.Written.{Written}
-use Rattle.sheet.specs.declared.output.Written.the-variants.{Refused}
+use Rattle.sheet.specs.declared.output.Written.the-variants.{Bytes, Refused}
 use Rattle.sheet.specs.Output.{roomError, written, outAfter}
 use Rattle.sheet.specs.Records.{recordsBytes}
 use Rattle.routes.specs.declared.layout.Entry.{Entry}
@@ -27,6 +27,7 @@ pub record PutMade (S count : ℕ) (bytes o : List ℕ) (w : Written) (t : List 
   pub many : mostEntries < count → (w ≡ Refused wrongRouteSheet) × (t ≡ o)
   pub short : length bytes < entriesAt + entrySize Layout.written * count → (w ≡ Refused wrongRouteSheet) × (t ≡ o)
   pub refused : (n : ℕ) → w ≡ Refused n → t ≡ o
+  pub fits : (n : ℕ) → w ≡ Bytes n → n ≤ length o
   pub made :
       (es : List Entry) → Holds es bytes → length es ≡ count → count ≤ mostEntries →
       (w ≡ written (roomError 0 (sheetBytes Layout.written S es) o) (sheetBytes Layout.written S es)) × (t ≡ outAfter (roomError 0 (sheetBytes Layout.written S es) o) (sheetBytes Layout.written S es) o)

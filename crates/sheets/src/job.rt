@@ -9,6 +9,7 @@ use all_sheets::ROOM;
 use all_sheets::Run;
 use all_sheets::WORDS;
 use all_sheets::run_of_input;
+use all_sheets::sets_of_input;
 use logic::both;
 use machine::node::count;
 use plan::layout::shape_in;
@@ -17,8 +18,10 @@ use plan_input::plan_error;
 use text::part::front;
 use text::put;
 ghost use mathlib.Core.Path.{_≡_};
-ghost use mathlib.Core.Bool.{true};
+ghost use mathlib.Core.Bool.{true, false};
 ghost use Prim.Native.Nat.{_≤_, _<_};
+ghost use lib.ListN.{take};
+ghost use Rattle.planner.specs.Known.{Filled};
 
 // How far the job is: what was written, the board to go on with, whether one is left, and whether the file took all bytes.
 struct Progress {
@@ -42,6 +45,18 @@ fn write_out(run: Run, out: &[u8; ROOM], all: u16, file: i32, tally: Tally) -> P
     }
 }
 
+// Nothing was written.
+fn nothing(next: u16, tally: Tally) -> Progress
+    ensures { λ r. ⌜ (r .next ≡ next) × (r .more ≡ false) ⌝ }
+{
+    Progress {
+        tally: tally,
+        next: next,
+        more: false,
+        writable: false,
+    }
+}
+
 // The next run. None is refused: the plan is accepted, and a sheet fits.
 fn write_next(
     plan: &[u8; PLAN_BYTES],
@@ -50,30 +65,28 @@ fn write_next(
     all: u16,
     file: i32,
     tally: Tally,
-    work: &mut [u16; WORDS],
+    work: &[u16; WORDS],
     out: &mut [u8; ROOM],
 ) -> Progress
+    requires { ⌜ Filled (take size (now plan)) (now work) ⌝ }
     ensures { λ r. ⌜ (from ≤ r .next) × (r .more ≡ true → from < r .next) ⌝ }
 {
     let Answer::Written(run) = run_of_input(plan, size, from, work, out) else {
-        return Progress {
-            tally: tally,
-            next: from,
-            more: false,
-            writable: false,
-        };
+        return nothing(from, tally);
     };
     write_out(run, out, all, file, tally)
 }
 
-// All runs, in the same workspace and bytes.
+// All runs, with the same sets and bytes.
 fn write_runs(
     plan: &[u8; PLAN_BYTES],
     size: usize,
     file: i32,
-    work: &mut [u16; WORDS],
+    work: &[u16; WORDS],
     out: &mut [u8; ROOM],
-) -> Progress {
+) -> Progress
+    requires { ⌜ Filled (take size (now plan)) (now work) ⌝ }
+{
     let all = count(shape_in(front(plan, size)));
     let mut waiting = wait::begin();
     let mut progress = Progress {
@@ -99,10 +112,14 @@ fn write_runs(
     progress
 }
 
+// The sets are always made: the plan is accepted, and the words are enough for any.
 fn write_all(plan: &[u8; PLAN_BYTES], size: usize, file: i32) -> Progress {
     let mut work = [0u16; WORDS];
+    if !sets_of_input(plan, size, &mut work) {
+        return nothing(0, tally::none());
+    }
     let mut out = [0u8; ROOM];
-    write_runs(plan, size, file, &mut work, &mut out)
+    write_runs(plan, size, file, &work, &mut out)
 }
 
 fn part_name(out: &[u8], name: &mut [u8]) -> usize {

@@ -1,5 +1,5 @@
 use native.Mathlib.Omega.{arith}
-use Rattle.planner.proofs.Boarding.{board-small, dead-board, board-at, board-written}
+use Rattle.planner.proofs.Boarding.{board-small, dead-board, board-at, step-fits, board-written}
 use borrow.Author.Needs.{needs}
 use Rattle.planner.proofs.boards.write_board.Statement.{statement}
 use Rattle.planner.proofs.boards.write_board.Tie as tie
@@ -8,7 +8,7 @@ element-copy-out-if1 : tie.Need-element-copy-out-if1
 element-copy-out-if1 c = board-small _ _ _ _ _ _ _ _ (c .before .before .before .pre .0) _ (c .before .before .before .pre .1 .1)
 
 returns : tie.Need-returns
-returns c = dead-board _ _ _ _ _ _ _ _ (c .before .before .before .before .before .pre .0) _ (c .before .before .before .before .before .pre .1 .1) (c .if1 .taken) _
+returns c = (omega arith, λ _. dead-board _ _ _ _ _ _ _ _ (c .before .before .before .before .before .pre .0) _ (c .before .before .before .before .before .pre .1 .1) (c .if1 .taken) _)
 
 coords-requires : tie.Need-coords-requires
 coords-requires c κs = search needs
@@ -40,7 +40,7 @@ same-length : tie.Need-same-length
 same-length c = search needs
 
 returns-2 : tie.Need-returns-2
-returns-2 c = board-written _ _ _ _ _ _ _ _ (c .before .before .before .before .before .before .before .before .before .before .before .before .before .before .before .before .before .before .before .before .pre .0) _ (c .before .before .before .before .before .before .before .before .before .before .before .before .before .before .before .before .before .before .before .before .pre .1 .1) (c .before .before .before .before .before .before .before .before .before .before .before .before .before .before .before .if1 .left) _ _ _ _ _ (c .before .before .before .before .before .before .before .before .routes-from .ensures) (c .before .before .before .before .put-made .ensures) _ (c .step-of .ensures)
+returns-2 c = (step-fits _ _ _ _ _ _ (c .before .before .before .before .put-made .ensures) _ (c .step-of .ensures), λ sets. board-written _ _ _ _ _ _ _ _ (c .before .before .before .before .before .before .before .before .before .before .before .before .before .before .before .before .before .before .before .before .pre .0) _ (c .before .before .before .before .before .before .before .before .before .before .before .before .before .before .before .before .before .before .before .before .pre .1 .1) (c .before .before .before .before .before .before .before .before .before .before .before .before .before .before .before .if1 .left) _ _ _ _ _ (c .before .before .before .before .before .before .before .before .routes-from .ensures) sets (c .before .before .before .before .put-made .ensures) _ (c .step-of .ensures))
 
 pub write-board-spec : {M : Type 1} → statement M
 write-board-spec =

@@ -15,7 +15,7 @@ abbrev μ-loop : tie.MeasureT-loop
 μ-loop plan shape words count dead ta td work source a fa fd outcomes₀ near₀ nears₀ row₀ at₀ outcomes near nears row at = 4097 - at .node
 
 loop-holds : tie.Need-loop-holds Inv-loop μ-loop
-loop-holds c = let ready = c .before .before .pre in (begun _ _ _ _ _ _ _ _ _ _ _ _ ready, no-row _ _ _ _ _ _ (ready .prepared .of-plan .plan))
+loop-holds c = let ready = c .before .before .pre .0 in (begun _ _ _ _ _ _ _ _ _ _ _ _ ready, no-row _ _ _ _ _ _ (ready .prepared .of-plan .plan))
 
 renew-requires : tie.Need-renew-requires Inv-loop μ-loop
 renew-requires c κs = tt
@@ -53,7 +53,7 @@ loop-again c =
     let taken = c .before .before .before .before .before .before .if1 .taken in
     let to = is-at _ _ _ _ _ _ _ _ _ _ _ _ (inv .ready) _ _ inv taken _ refl in
     let row = c .before .before .before .before .renew .ensures _ _ _ (sifting-at _ _ _ _ _ _ _ _ _ _ _ _ (inv .ready) _ _ to) (both .1) in
-    (turn _ _ _ _ _ _ _ _ _ _ _ _ (inv .ready) _ _ inv taken _ _ (c .before .outcome-to .ensures) (c .following .ensures), same-row _ _ _ _ _ _ _ _ row _ (c .before .before .before .row-at .ensures))
+    (turn _ _ _ _ _ _ _ _ _ _ _ _ (inv .ready) _ _ inv taken _ _ (c .before .outcome-to .ensures (c .before .before .before .before .before .before .before .before .before .before .before .before .pre .1)) (c .following .ensures), same-row _ _ _ _ _ _ _ _ row _ (c .before .before .before .row-at .ensures))
 
 returns : tie.Need-returns Inv-loop μ-loop
 returns c = let inv = c .before .before .before .loop .inv .0 in done _ _ _ _ _ _ _ _ _ _ _ _ (inv .ready) _ _ inv (c .if1 .left)

@@ -12,14 +12,16 @@ from-set-requires-2 c κs = tt
 
 all-outcomes-requires : tie.Need-all-outcomes-requires
 all-outcomes-requires c κs =
-    let g = c .before .before .before .before .before .before .pre in
-    record {
-      prepared = g .0;
-      source = g .1 .0;
-      alive = g .1 .1;
-      adaptive = c .before .before .before .from-set .ensures _ _ (g .0 .of-plan) (g .1 .0);
-      deterministic = c .before .before .from-set2 .ensures _ _ (g .0 .of-plan) (g .1 .0);
-    }
+    let g = c .before .before .before .before .before .before .pre in (
+      record {
+        prepared = g .0;
+        source = g .1 .0;
+        alive = g .1 .1 .0;
+        adaptive = c .before .before .before .from-set .ensures _ _ (g .0 .of-plan) (g .1 .0);
+        deterministic = c .before .before .from-set2 .ensures _ _ (g .0 .of-plan) (g .1 .0);
+      },
+      g .1 .1 .1,
+    )
 
 returns : tie.Need-returns
 returns c = search needs

@@ -1,4 +1,6 @@
 use Rattle.planner.proofs.Writing.{planned-known}
+use mathlib.Core.Path.{refl}
+use mathlib.Core.Logic.{inl}
 use borrow.Author.Needs.{needs}
 use Rattle.planner.proofs.outcomes.outcomes_from.Statement.{statement}
 use Rattle.planner.proofs.outcomes.outcomes_from.Tie as tie
@@ -28,7 +30,7 @@ coords-requires : tie.Need-coords-requires
 coords-requires c κs = search needs
 
 outcomes-by-requires : tie.Need-outcomes-by-requires
-outcomes-by-requires c κs = planned-known _ _ _ _ _ _ _ _ _ (c .before .before .before .before .before .before .before .before .before .before .before .before .before .before .pre) (c .before .before .before .before .before .before .before .before .before .before .before .before .shape-in .ensures) (c .before .before .before .before .before .before .before .before .before .before .before .losses .ensures) (c .before .before .before .before .before .before .before .before .dead-nodes .ensures) (c .before .before .before .before .before .before .before .table .ensures) (c .before .before .before .before .before .before .table2 .ensures) (c .coords .ensures)
+outcomes-by-requires c κs = let k = planned-known _ _ _ _ _ _ _ _ _ (c .before .before .before .before .before .before .before .before .before .before .before .before .before .before .pre) (c .before .before .before .before .before .before .before .before .before .before .before .before .shape-in .ensures) (c .before .before .before .before .before .before .before .before .before .before .before .losses .ensures) (c .before .before .before .before .before .before .before .before .dead-nodes .ensures) (c .before .before .before .before .before .before .before .table .ensures) (c .before .before .before .before .before .before .table2 .ensures) (c .coords .ensures) in (k .0, (k .1 .0, (k .1 .1, inl refl)))
 
 returns : tie.Need-returns
 returns c = search needs

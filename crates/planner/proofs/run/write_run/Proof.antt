@@ -1,8 +1,7 @@
 use borrow.Author.Needs.{needs}
 use native.Mathlib.Omega.{arith}
 use mathlib.Core.Path.{sym, _∙_}
-use mathlib.Core.List.{[]}
-use Rattle.planner.proofs.Checking.{refused-run, all-boards, few-run, written-run}
+use Rattle.planner.proofs.Checking.{accepted-run, all-boards, refused-run, few-run, written-run}
 use Rattle.planner.proofs.run.write_run.Statement.{statement}
 use Rattle.planner.proofs.run.write_run.Tie as tie
 
@@ -25,10 +24,7 @@ returns-2 : tie.Need-returns-2
 returns-2 c = few-run _ _ _ _ (sym (c .before .before .before .before .before .run-error .ensures) ∙ c .before .before .before .before .if1 .left) _ _ _ (c .before .before .before .shape-in .ensures) (c .before .before .count .ensures) (c .before .words-for .ensures) (omega arith)
 
 write-boards-requires : tie.Need-write-boards-requires
-write-boards-requires c κs =
-    let ok = sym (c .before .before .before .before .before .before .before .run-error .ensures) ∙ c .before .before .before .before .before .before .if1 .left in
-    let all = all-boards _ _ [] [] (sym (c .before .before .before .before .before .before .before .run-error .ensures) ∙ c .before .before .before .before .before .before .if1 .left) _ _ _ (c .before .before .before .before .before .shape-in .ensures) (c .before .before .before .before .count .ensures) (c .before .before .before .words-for .ensures) in
-    (ok, all, omega (arith, c .before .before .before .words-for .ensures))
+write-boards-requires c κs = let ok = accepted-run _ _ (sym (c .before .before .before .before .before .before .before .run-error .ensures) ∙ c .before .before .before .before .before .before .if1 .left) in (ok, all-boards _ ok _ _ (c .before .before .before .before .before .shape-in .ensures) (c .before .before .before .before .count .ensures), omega (arith, c .before .before .before .words-for .ensures))
 
 ended-requires : tie.Need-ended-requires
 ended-requires c κs = search needs

@@ -1,4 +1,6 @@
 use Rattle.planned_sheet.proofs.Written.{refused-source, put-is}
+use mathlib.Core.Path.{refl}
+use mathlib.Core.Logic.{inl}
 use borrow.Author.Needs.{needs}
 use Rattle.planner.proofs.sheets.write_sheet.Statement.{statement}
 use Rattle.planner.proofs.sheets.write_sheet.Tie as tie
@@ -27,7 +29,7 @@ same-length c = search needs
 returns-2 : tie.Need-returns-2
 returns-2 c =
     let listed = c .before .before .before .before .before .before .before .planned .ensures in
-    put-is _ _ _ _ _ _ _ _ (c .before .before .before .before .before .before .before .before .before .before .source-error .ensures) (c .before .before .before .before .before .before .before .before .before .if1 .left) (listed .held) (listed .many) (c .before .before .before .put-made .ensures)
+    put-is _ _ _ _ _ _ _ _ (c .before .before .before .before .before .before .before .before .before .before .source-error .ensures) (c .before .before .before .before .before .before .before .before .before .if1 .left) (listed .held (inl refl)) (listed .many) (c .before .before .before .put-made .ensures)
 
 pub write-sheet-spec : {M : Type 1} → statement M
 write-sheet-spec =

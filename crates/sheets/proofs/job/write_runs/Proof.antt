@@ -6,10 +6,10 @@ use Rattle.sheets.proofs.job.write_runs.Statement.{statement}
 use Rattle.sheets.proofs.job.write_runs.Tie as tie
 
 abbrev Inv-loop : tie.InvT-loop
-Inv-loop plan size file work₀ out₀ all waiting₀ progress₀ work out waiting progress = Unit {0}
+Inv-loop plan size file work out₀ all waiting₀ progress₀ out waiting progress = Unit {0}
 
 abbrev μ-loop : tie.MeasureT-loop
-μ-loop plan size file work₀ out₀ all waiting₀ progress₀ work out waiting progress = 65536 - progress .next + cond (progress .more) 1 0
+μ-loop plan size file work out₀ all waiting₀ progress₀ out waiting progress = 65536 - progress .next + cond (progress .more) 1 0
 
 front-requires : tie.Need-front-requires Inv-loop μ-loop
 front-requires c κs = tt
@@ -30,13 +30,13 @@ loop-holds : tie.Need-loop-holds Inv-loop μ-loop
 loop-holds c = tt
 
 write-next-requires : tie.Need-write-next-requires Inv-loop μ-loop
-write-next-requires c κs = tt
+write-next-requires c κs = c .before .before .before .before .before .before .before .before .before .pre
 
 look-requires : tie.Need-look-requires Inv-loop μ-loop
 look-requires c κs = tt
 
 loop-less : tie.Need-loop-less Inv-loop μ-loop
-loop-less c = rw (c .before .before .before .before .loop-test .taken) (fewer (c .before .write-next .result .more) _ _ (omega arith) (c .before .write-next .ensures))
+loop-less c = rw (c .before .before .before .loop-test .taken) (fewer (c .before .write-next .result .more) _ _ (omega arith) (c .before .write-next .ensures))
 
 loop-again : tie.Need-loop-again Inv-loop μ-loop
 loop-again c = tt
