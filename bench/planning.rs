@@ -1,5 +1,5 @@
 //! Planning: the proved library and the program `sheets` against the two planners in plain Rust, on the same plans, in one run. It ends with a message where
-//! an answer differs. The words are the parts to measure, all of them where there is none: pair, sheet, all, calls, growth. It is started by `bench/run`.
+//! an answer differs. The words are the parts to measure, all of them where there is none: pair, sheet, sources, all, calls, growth. It is started by `bench/run`.
 mod plans;
 mod random;
 mod rivals;
@@ -145,6 +145,31 @@ fn sheet_times() {
     });
 }
 
+// ---- The sheet of each source
+
+/// The least seconds of each source's sheet. A round takes all sources one after the other, so that what disturbs the machine for a while spoils no source's every time.
+fn each_source(plan: &[u8], nodes: u64) -> Vec<f64> {
+    let mut out = vec![0; nafthurm::SHEET_BYTES];
+    let mut least = vec![f64::INFINITY; nodes as usize];
+    for _ in 0..5 {
+        for (source, least) in least.iter_mut().enumerate() {
+            *least = least.min(time::least(1, || _ = black_box(nafthurm::write_sheet(plan, source as u16, &mut out))));
+        }
+    }
+    least
+}
+
+fn source_times() {
+    head(&["machine", "dead links", "mean of all nodes", "the slowest", "its node", "shadows.rs for it", "ratio"]);
+    each_plan(|machine, links, plan| {
+        let times = each_source(plan, machine.nodes());
+        let mean = times.iter().sum::<f64>() / times.len() as f64;
+        let (node, &slowest) = times.iter().enumerate().max_by(|a, b| a.1.total_cmp(b.1)).unwrap();
+        let shadows = time::least(5, || _ = black_box(shadows::one_sheet(plan, node as u16)));
+        row(machine, links, &[time_of(mean), time_of(slowest), node.to_string(), time_of(shadows), ratio(slowest, shadows)]);
+    });
+}
+
 // ---- All sheets
 
 /// The hash of all sheets that a planner writes.
@@ -237,7 +262,8 @@ fn growth() {
 
 fn main() {
     let asked: Vec<String> = std::env::args().skip(1).collect();
-    let parts: [(&str, fn()); 5] = [("pair", pair_times), ("sheet", sheet_times), ("all", all_times), ("calls", call_times), ("growth", growth)];
+    let parts: [(&str, fn()); 6] =
+        [("pair", pair_times), ("sheet", sheet_times), ("sources", source_times), ("all", all_times), ("calls", call_times), ("growth", growth)];
     for (name, part) in parts {
         if asked.is_empty() || asked.iter().any(|word| word == name) {
             part();
