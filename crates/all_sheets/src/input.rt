@@ -17,8 +17,7 @@ pub const WORDS: usize = 2097152;
 // Bytes for a run of a program: 102 of the longest sheets.
 pub const ROOM: usize = 2097152;
 
-// A size above PLAN_BYTES counts as PLAN_BYTES.
-// The sets to all boards, for the runs of the plan.
+// The sets to all boards, for the runs of the plan. A size above PLAN_BYTES counts as PLAN_BYTES.
 pub fn sets_of_input(plan: &[u8; PLAN_BYTES], size: usize, work: &mut [u16; WORDS]) -> bool
     ensures { λ r. ⌜ SetsMade (take size (now (plan .entry))) (now (work .entry)) r (now (work .exit)) ⌝ }
 {

@@ -2,8 +2,8 @@
 use conform_fields::answers::unreadable;
 use conform_planning::listing_cases;
 use conform_planning::pair_cases;
-use conform_planning::run_cases;
 use conform_planning::sheet_cases;
+use conform_runs::run_cases;
 use conform_sheets::dead_cases;
 use conform_sheets::plan_cases;
 use conform_sheets::route_cases;
