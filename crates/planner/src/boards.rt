@@ -218,7 +218,7 @@ pub fn fill_boards(plan: &[u8], all: u16, work: &mut [u16])
     fill(plan, shape, &words, count, &ta, &td, all, work);
 }
 
-// Both.
+// A run whose sets are made first.
 pub fn write_boards(plan: &[u8], from: u16, all: u16, work: &mut [u16], out: &mut [u8]) -> Run
     requires { ⌜ (planError large (now plan) ≡ 0) × (all ≡ nodeCount (shapeOf (now plan))) × (512 * all ≤ length (now work)) ⌝ }
     ensures { λ r. ⌜ RunMade (now (plan .entry)) from (now (out .entry)) r (now (out .exit)) ⌝ }
