@@ -16,7 +16,7 @@ returns : tie.Need-returns
 returns c = tt
 
 write-runs-requires : tie.Need-write-runs-requires
-write-runs-requires c κs = c .before .before .before .sets-of-input .ensures .made (not-false _ (c .before .before .if1 .left))
+write-runs-requires c κs = c .before .before .before .sets-of-input .ensures .0 .made (not-false _ (c .before .before .if1 .left))
 
 returns-2 : tie.Need-returns-2
 returns-2 c = tt
