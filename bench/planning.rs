@@ -29,16 +29,28 @@ fn extent() -> u64 {
 }
 
 fn machines() -> [Machine; 2] {
-    [true, false].map(|torus| Machine { extent: extent(), torus })
+    [true, false].map(|torus| Machine { extent: extent(), torus, weights: None })
+}
+
+fn dead_links() -> Vec<u64> {
+    numbers("LINKS", &[0, 10, 40, 256])
 }
 
 /// Calls back with each machine and number of dead links, and a plan that has them.
 fn each_plan(mut f: impl FnMut(Machine, u64, &[u8])) {
     for machine in machines() {
-        for links in numbers("LINKS", &[0, 10, 40, 256]) {
+        for links in dead_links() {
             f(machine, links, &machine.plan(Faults { links, boards: 0 }));
         }
     }
+}
+
+/// The same, and with the last of these numbers a torus whose links in Z weigh 3.
+fn each_plan_and_weighed(mut f: impl FnMut(Machine, u64, &[u8])) {
+    each_plan(&mut f);
+    let machine = Machine { extent: extent(), torus: true, weights: Some([1, 1, 3]) };
+    let links = *dead_links().last().expect("LINKS");
+    f(machine, links, &machine.plan(Faults { links, boards: 0 }));
 }
 
 /// The head of a Markdown table.
@@ -104,7 +116,7 @@ fn as_in_a_sheet(route: nafthurm::Route) -> (u8, u16) {
 fn pair_times() {
     let mut random = Random(88172645463325252);
     head(&["machine", "dead links", "a pair", "fast.rs", "ratio", "shadows.rs", "ratio"]);
-    each_plan(|machine, links, plan| {
+    each_plan_and_weighed(|machine, links, plan| {
         let pairs = pairs_of(machine, &mut random);
         pairs.iter().for_each(|&(s, d)| check_pair(plan, s, d));
         let time = |f: &dyn Fn(u16, u16)| time::least(5, || pairs.iter().for_each(|&(s, d)| f(s, d))) / pairs.len() as f64;
@@ -124,7 +136,7 @@ fn write_sheet(plan: &[u8], source: u16, out: &mut [u8]) -> usize {
 fn sheet_times() {
     let mut out = vec![0; nafthurm::SHEET_BYTES];
     head(&["machine", "dead links", "the sheet of node 0", "fast.rs", "ratio", "shadows.rs", "ratio", "mean of 8 nodes", "shadows.rs", "ratio"]);
-    each_plan(|machine, links, plan| {
+    each_plan_and_weighed(|machine, links, plan| {
         let sources: Vec<u16> = (0..8).map(|i| (i * (machine.nodes() - 1) / 7) as u16).collect();
         for &source in &sources {
             let size = write_sheet(plan, source, &mut out);
@@ -185,15 +197,15 @@ fn is_same(ours: Hash, theirs: Hash, whose: &str) {
 
 fn all_times() {
     head(&["machine", "dead links", "the program `sheets`", "fast.rs", "ratio", "shadows.rs", "ratio"]);
-    each_plan(|machine, links, plan| {
+    each_plan_and_weighed(|machine, links, plan| {
         std::fs::write(PLAN, plan).unwrap();
         let ours = time::user_of_children(|| _ = rivals::output(SHEETS, &[PLAN, ROUTES], &[]));
         let hash = hash_of(|each| each(&std::fs::read(ROUTES).unwrap()));
         let mut fast_hash = Hash::new();
-        let fast = time::user_of_children(|| fast_hash = rivals::hash_in(&rivals::output(FAST, &["all"], plan)));
+        let fast = time::user_of_children(|| fast_hash = rivals::hash_in(&rivals::output(FAST, &["all", "--stage", rivals::STAGE], plan)));
         is_same(hash, fast_hash, "fast");
-        let shadows = time::user_of_children(|| _ = rivals::output(SHADOWS, &["all", "--stage", "base"], plan));
-        is_same(hash, rivals::hash_in(&rivals::output(SHADOWS, &["all", "--stage", "base", "--hash"], plan)), "shadows");
+        let shadows = time::user_of_children(|| _ = rivals::output(SHADOWS, &["all", "--stage", rivals::STAGE], plan));
+        is_same(hash, rivals::hash_in(&rivals::output(SHADOWS, &["all", "--stage", rivals::STAGE, "--hash"], plan)), "shadows");
         row(machine, links, &[time_of(ours), time_of(fast), ratio(ours, fast), time_of(shadows), ratio(ours, shadows)]);
     });
     _ = std::fs::remove_file(ROUTES);
@@ -255,9 +267,9 @@ fn growth() {
     head(&["machine"].into_iter().chain(columns.iter().map(String::as_str)).collect::<Vec<_>>());
     let faults: Vec<Faults> = links.iter().map(|&links| Faults { links, boards: 0 }).chain(boards.iter().map(|&boards| Faults { links: 0, boards })).collect();
     for extent in [4, 8, 12, 16].into_iter().filter(|&e| e <= extent()) {
-        growth_row(Machine { extent, torus: true }, &faults);
+        growth_row(Machine { extent, torus: true, weights: None }, &faults);
     }
-    growth_row(Machine { extent: extent(), torus: false }, &faults);
+    growth_row(Machine { extent: extent(), torus: false, weights: None }, &faults);
 }
 
 fn main() {

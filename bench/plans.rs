@@ -6,6 +6,8 @@ use std::collections::BTreeSet;
 pub struct Machine {
     pub extent: u64,
     pub torus: bool,
+    /// With weights its plan is of version 2.
+    pub weights: Option<[u8; 3]>,
 }
 
 /// How many links and boards are dead.
@@ -20,7 +22,8 @@ const DEAD_BOARD: u8 = 3;
 impl Machine {
     pub fn name(self) -> String {
         let e = self.extent;
-        format!("{e} × {e} × {e} {}", if self.torus { "torus" } else { "mesh" })
+        let weights = self.weights.map_or(String::new(), |[x, y, z]| format!(", weights {x} {y} {z}"));
+        format!("{e} × {e} × {e} {}{weights}", if self.torus { "torus" } else { "mesh" })
     }
 
     pub fn nodes(self) -> u64 {
@@ -55,14 +58,16 @@ impl Machine {
             listed.insert((random.below(self.nodes()) as u16, DEAD_BOARD));
         }
         let e = self.extent as u8;
-        let follows = 6 + 3 * listed.len() as u16;
-        let mut sheet = vec![1, 0, 0, e, e, e, if self.torus { 7 } else { 0 }, 0, 0];
-        sheet[1..3].copy_from_slice(&follows.to_be_bytes());
-        sheet[7..9].copy_from_slice(&(listed.len() as u16).to_be_bytes());
+        let version = if self.weights.is_some() { 2 } else { 1 };
+        let mut sheet = vec![version, 0, 0, e, e, e, if self.torus { 7 } else { 0 }];
+        sheet.extend(self.weights.iter().flatten());
+        sheet.extend((listed.len() as u16).to_be_bytes());
         for (node, kind) in listed {
             sheet.extend(node.to_be_bytes());
             sheet.push(kind);
         }
+        let follows = sheet.len() as u16 - 3;
+        sheet[1..3].copy_from_slice(&follows.to_be_bytes());
         sheet
     }
 }

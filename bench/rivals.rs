@@ -1,16 +1,20 @@
-//! The planners in plain Rust, `reference/fast.rs` and `reference/shadows.rs` under document 01's rules, called from here and as programs.
+//! The planners in plain Rust, `reference/fast.rs` and `reference/shadows.rs` under document 01's rules with weights, called from here and as programs.
 use std::io::Write;
 use std::process::{Command, Stdio};
+
+/// What the two call these rules.
+pub const STAGE: &str = "E1";
+const STAGE_NUMBER: u32 = 1;
 
 #[allow(warnings)]
 pub mod fast {
     include!("../reference/fast.rs");
 
-    const BASE: u32 = 0;
+    use super::STAGE_NUMBER;
 
     /// The length of the pair's first choice, where there is one.
     pub fn length(sheet: &[u8], source: u16, dest: u16) -> Option<u16> {
-        let p = Plan::parse(sheet, BASE).ok().unwrap();
+        let p = Plan::parse(sheet, STAGE_NUMBER).ok().unwrap();
         let t = tables(&p);
         let (source, dest) = (source as usize, dest as usize);
         let (mut bad, mut from, mut to) = (vec![0; p.n], [vec![FAR; p.n], vec![FAR; p.n]], [vec![FAR; p.n], vec![FAR; p.n]]);
@@ -28,9 +32,9 @@ pub mod fast {
     }
 
     pub fn one_sheet(plan: &[u8], source: u16) -> Vec<u8> {
-        let planner = Planner::new(Plan::parse(plan, BASE).ok().unwrap(), false);
+        let planner = Planner::new(Plan::parse(plan, STAGE_NUMBER).ok().unwrap(), false);
         let answers = planner.plan(&[source as usize]).pop().unwrap();
-        sheet(source as usize, &answers, BASE)
+        sheet(source as usize, &answers, STAGE_NUMBER)
     }
 }
 
@@ -38,7 +42,7 @@ pub mod fast {
 pub mod shadows {
     include!("../reference/shadows.rs");
 
-    const BASE: Rules = Rules { stage: 0 };
+    const RULES: Rules = Rules { stage: super::STAGE_NUMBER };
 
     fn shadows_of(plan: &[u8]) -> (Plan, Box<Geo>) {
         let p = parse(plan).ok().unwrap();
@@ -52,7 +56,7 @@ pub mod shadows {
             return (0, 0);
         }
         let (p, g) = shadows_of(plan);
-        let (kind, via, _) = pair_lean(&g, BASE, source as usize, dest as usize, &mut Work::new(p.n));
+        let (kind, via, _) = pair_lean(&g, RULES, source as usize, dest as usize, &mut Work::new(p.n));
         let kind = match kind {
             16 => 2,
             17 => 4,
@@ -67,7 +71,7 @@ pub mod shadows {
     pub fn one_sheet(plan: &[u8], source: u16) -> Vec<u8> {
         let (p, g) = shadows_of(plan);
         let mut out = Vec::with_capacity(7 * p.n + 8);
-        sheet_lean(&g, BASE, source as usize, &mut Work::new(p.n), &mut out);
+        sheet_lean(&g, RULES, source as usize, &mut Work::new(p.n), &mut out);
         out
     }
 
@@ -78,7 +82,7 @@ pub mod shadows {
         let mut work = Work::new(p.n);
         let mut out = Vec::with_capacity(7 * p.n + 8);
         for source in (0..p.n).filter(|&s| !p.dead[s]) {
-            sheet_tables(&g, &tables, BASE, source, &mut work, &mut out);
+            sheet_tables(&g, &tables, RULES, source, &mut work, &mut out);
             each(&out);
         }
     }

@@ -13,8 +13,10 @@
  * A call uses at most NAFTHURM_STACK bytes of stack; nafthurm_pair NAFTHURM_STACK_PAIR, nafthurm_write_sheet NAFTHURM_STACK_SHEET,
  * nafthurm_all_sheets NAFTHURM_STACK_ALL and nafthurm_listing NAFTHURM_STACK_LISTING.
  *
- * A field or result `number` is 0, or the number of a refusal, 1 to 15: docs/NUMBERS.md. A call that is refused writes no lent byte, but to a
+ * A field or result `number` is 0, or the number of a refusal, 1 to 16: docs/NUMBERS.md. A call that is refused writes no lent byte, but to a
  * workspace.
+ *
+ * The checks of a plan are 1 to 6, 16, and then 7 and 8 fault by fault, in this order.
  *
  * Directions are 0 X+, 1 X-, 2 Y+, 3 Y-, 4 Z+, 5 Z-. Kinds of routes, as in a route sheet and in the listing:
  *   0 direct adaptive, 1 direct deterministic, and by a via 2 both legs adaptive, 3 adaptive then deterministic, 4 deterministic then adaptive,
@@ -32,9 +34,9 @@ extern "C" {
 #endif
 
 /* The largest plan sheet has 256 faults, the largest route sheet 4,095 entries. An output of as many bytes as the largest is never refused with 12. */
-#define NAFTHURM_PLAN_BYTES 777
+#define NAFTHURM_PLAN_BYTES 780
 #define NAFTHURM_SHEET_BYTES 20482
-#define NAFTHURM_LISTING_BYTES 61454
+#define NAFTHURM_LISTING_BYTES 65550
 
 /* The workspace of nafthurm_all_sheets: so many words of 16 bits a board of the plan; the largest plan has 4,096 boards. */
 #define NAFTHURM_ALL_WORDS_A_BOARD 512
@@ -55,6 +57,11 @@ typedef struct {
     uint8_t x, y, z;
     uint8_t wrap;
 } nafthurm_shape;
+
+/* Weights of the dimensions X, Y, Z, each 1 to 8: what a hop there adds to a distance or a length. */
+typedef struct {
+    uint8_t x, y, z;
+} nafthurm_weights;
 
 /* What writing gives: the bytes written, or the number, with size 0. */
 typedef struct {
@@ -85,7 +92,7 @@ typedef struct {
     uint16_t via;
 } nafthurm_route;
 
-/* A planned route and its length in hops, 0 where it is refused. */
+/* A planned route and its length, the sum of the weights of its hops, at most 720; 0 where it is refused. */
 typedef struct {
     nafthurm_route route;
     uint16_t length;
@@ -131,30 +138,33 @@ typedef struct {
 
 /* ---- Plan sheets ---- */
 
-/* Checks 1 to 8: the number of the first that declines the sheet, or 0. */
+/* The number of the first check of a plan that declines the sheet, or 0. */
 uint8_t nafthurm_plan_check(const uint8_t *plan, size_t plan_size);
 
 /* Extents and wrap; zeros where a check declines the sheet. */
 nafthurm_shape nafthurm_plan_shape(const uint8_t *plan, size_t plan_size);
 
+/* Weights, of a version 1 sheet 1, 1, 1; zeros where a check declines the sheet. */
+nafthurm_weights nafthurm_plan_weights(const uint8_t *plan, size_t plan_size);
+
 /* Whether the node, or the link that leaves the node in the direction, is dead; no where a check declines the sheet or there is none. */
 bool nafthurm_dead_node(const uint8_t *plan, size_t plan_size, uint16_t node);
 bool nafthurm_dead_link(const uint8_t *plan, size_t plan_size, uint16_t node, uint8_t direction);
 
-/* The sheet as it is, into out: checks 1 to 8, then 12. Bytes of out past the sheet are untouched. */
+/* The sheet as it is, in its own version, into out: the checks of a plan, then 12. Bytes of out past the sheet are untouched. */
 nafthurm_written nafthurm_plan_write_back(const uint8_t *plan, size_t plan_size, uint8_t *out, size_t out_size);
 
 /* ---- Planning ---- */
 
-/* The route from the source to the destination: checks 1 to 8, then 9, 10, 11. */
+/* The route from the source to the destination: the checks of a plan, then 9, 10, 11. */
 nafthurm_planned nafthurm_pair(const uint8_t *plan, size_t plan_size, uint16_t source, uint16_t destination);
 
-/* The route sheet of every destination from the source, into out: checks 1 to 8, then 9, 10, 12. Bytes of out past the sheet are untouched. */
+/* The route sheet of every destination from the source, into out: the checks of a plan, then 9, 10, 12. Bytes of out past the sheet are untouched. */
 nafthurm_written nafthurm_write_sheet(const uint8_t *plan, size_t plan_size, uint16_t source, uint8_t *out, size_t out_size);
 
 /*
  * The route sheets of the sound boards from board `from` on, in rising order and one behind the other, into out: as many whole ones as it takes. Bytes 1 and 2
- * of a sheet say how many bytes follow them; a dead board has none. Checks 1 to 8, then 9 for `from`, then NAFTHURM_FEW_WORDS for fewer words than
+ * of a sheet say how many bytes follow them; a dead board has none. The checks of a plan, then 9 for `from`, then NAFTHURM_FEW_WORDS for fewer words than
  * NAFTHURM_ALL_WORDS_A_BOARD a board of the plan, then 12 where not even the first sheet fits. Bytes of out past the sheets are untouched. What work holds before the
  * call does not matter, and what it holds afterwards means nothing; it changes only where the number is 0 or 12.
  *
@@ -175,14 +185,14 @@ nafthurm_run nafthurm_all_sheets(const uint8_t *plan, size_t plan_size, uint16_t
 
 /*
  * The listing of a two-byte source and a plan sheet, as text in lines: source, node count, fault count; then of each node destination, kind, via or `-`,
- * length or `-`. Where the checks 1 to 8, 9, 10 decline the input, the text is the line `refused` and the number. So the number that this call gives is
+ * length or `-`. Where the checks of a plan, 9 or 10 decline the input, the text is the line `refused` and the number. So the number that this call gives is
  * 12 or 0. No zero byte ends the text. Bytes of out past it are untouched.
  */
 nafthurm_written nafthurm_listing(const uint8_t *input, size_t input_size, uint8_t *out, size_t out_size);
 
 /* ---- Route sheets; they answer from the sheet alone and never judge its routes against the plan's faults ---- */
 
-/* Checks 1 to 8 of the plan, then 13 of the sheet: the number of the first that declines, or 0. */
+/* The checks of the plan, then 13 of the sheet: the number of the first that declines, or 0. */
 uint8_t nafthurm_sheet_check(const uint8_t *plan, size_t plan_size, const uint8_t *sheet, size_t sheet_size);
 
 /* The sheet as it is, into out: the same checks, then 12. Bytes of out past the sheet are untouched. */
@@ -191,7 +201,7 @@ nafthurm_written nafthurm_sheet_write_back(const uint8_t *plan, size_t plan_size
 /* The five bytes of the destination's entry. Empty, at the sheet's start, if the destination is not listed or the lookup is declined. */
 nafthurm_part nafthurm_lookup(const uint8_t *plan, size_t plan_size, const uint8_t *sheet, size_t sheet_size, uint16_t destination);
 
-/* The destination's route: checks 1 to 8, 13, then 9; 10 or 11 for an entry of that kind. A destination that is not listed is direct and adaptive. */
+/* The destination's route: the checks of a plan, 13, then 9; 10 or 11 for an entry of that kind. A destination that is not listed is direct and adaptive. */
 nafthurm_route nafthurm_lookup_route(const uint8_t *plan, size_t plan_size, const uint8_t *sheet, size_t sheet_size, uint16_t destination);
 
 /* ---- Packets ---- */

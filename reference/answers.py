@@ -1,8 +1,15 @@
-"""The reference planner's answers to lines `op k=v ..`: the operations of vectors.py at the base stage, and planwrite, dead and masks of the program conform."""
+"""The reference planner's answers to lines `op k=v ..`: the operations of vectors.py, and those that only the program conform has:
+
+  planwrite version= extents= wrap= weights= faults= room= => number= size= out=
+            a plan sheet written from the plan's value; weights of version 1 are neither judged nor written
+  weights   plan= => weights=                        0,0,0 where a check declines the sheet
+  dead      plan= node= direction= => node= link=    1 for dead
+  masks     plan= => masks=                          a byte a node, with a bit for each direction whose link is dead
+"""
 import reference as ref
 import vectors
 
-BASE = 0                       # the stage with no change request
+STAGE = ref.E1                 # the last change request that has landed
 SHEET_BYTES = 20482            # the largest route sheet
 
 
@@ -10,8 +17,8 @@ def raw(text):
     return bytes.fromhex(text.replace('-', ''))
 
 
-def extents_in(text):
-    return [int(extent) for extent in text.split(',')]
+def numbers_in(text):
+    return [int(number) for number in text.split(',')]
 
 
 def legs_in(text):
@@ -33,56 +40,59 @@ def calls_in(text):
 # ---- The stepper
 
 def step(extents, wrap, packet, direction):
-    number, after = ref.step(BASE, extents_in(extents), int(wrap), packet_in(packet), int(direction))
+    number, after = ref.step(STAGE, numbers_in(extents), int(wrap), packet_in(packet), int(direction))
     return {'number': number, 'packet': vectors.packet_text(after)}
 
 
 def walk(extents, wrap, packet, run):
-    walked = ref.walk(BASE, extents_in(extents), int(wrap), packet_in(packet), raw(run))
+    walked = ref.walk(STAGE, numbers_in(extents), int(wrap), packet_in(packet), raw(run))
     return {'number': walked.number, 'packet': vectors.packet_text(walked.packet), 'hops': walked.hops, 'ending': walked.ending}
 
 
 def run_fields(shape, source, legs, calls):
     """The calls on the new packet of a route; what it does is held to document 01's own account of a run."""
-    packet, answers = ref.new_packet(BASE, source, legs), []
+    packet, answers = ref.new_packet(STAGE, source, legs), []
     for name, offered in calls:
         if name == 'step':
-            number, packet = ref.step(BASE, shape.extents, shape.wrap, packet, offered)
+            number, packet = ref.step(STAGE, shape.extents, shape.wrap, packet, offered)
             answers.append('%d' % number)
         else:
-            walked = ref.walk(BASE, shape.extents, shape.wrap, packet, offered)
+            walked = ref.walk(STAGE, shape.extents, shape.wrap, packet, offered)
             packet = walked.packet
             answers.append('%d+%s' % (walked.hops, walked.ending))
-    assert ref.run_of(BASE, shape, source, legs, calls).place == packet.node
+    assert ref.run_of(STAGE, shape, source, legs, calls).place == packet.node
     return {'legs': vectors.legs_text(legs), 'answers': ','.join(answers) or '-', 'packet': vectors.packet_text(packet)}
 
 
 # ---- Plan sheets
 
 def plan(plan):
-    return vectors.read_answer(BASE, raw(plan), ref.LARGE)
+    return vectors.read_answer(STAGE, raw(plan), ref.LARGE)
 
 
 def planback(plan, room):
-    return vectors.planback_answer(BASE, raw(plan), int(room), ref.LARGE)
+    return vectors.planback_answer(STAGE, raw(plan), int(room), ref.LARGE)
 
 
-def planwrite(extents, wrap, faults, room):
+def planwrite(version, extents, wrap, weights, faults, room):
     """A value that no check accepts is refused with the number of the sheet that it would be."""
     pairs = [tuple(map(int, fault.split(':'))) for fault in faults.split(',') if fault != '-']
-    if len(pairs) > 256:
-        return {'number': 3, 'size': 0, 'out': vectors.hex_text([vectors.FILL] * int(room))}
-    sheet = vectors.plan_bytes(1, extents_in(extents), int(wrap), None, pairs)
-    return vectors.planback_answer(BASE, sheet, int(room), ref.LARGE)
+    sheet = vectors.plan_bytes(int(version), numbers_in(extents), int(wrap), numbers_in(weights), pairs)
+    return vectors.planback_answer(STAGE, sheet, int(room), ref.LARGE)
+
+
+def weights(plan):
+    number, read = ref.read_plan(STAGE, raw(plan))
+    return {'weights': numbers_text((0, 0, 0) if number else read.weights)}
 
 
 def dead(plan, node, direction):
-    number, read = ref.read_plan(BASE, raw(plan))
+    number, read = ref.read_plan(STAGE, raw(plan))
     return {'node': int(not number and int(node) in read.dead), 'link': int(not number and (int(node), int(direction)) in read.lost)}
 
 
 def masks(plan):
-    number, read = ref.read_plan(BASE, raw(plan))
+    number, read = ref.read_plan(STAGE, raw(plan))
     nodes = 0 if number else read.nodes
     return {'masks': vectors.hex_text(sum(1 << d for d in range(6) if (node, d) in read.lost) for node in range(nodes))}
 
@@ -90,47 +100,51 @@ def masks(plan):
 # ---- Planning and route sheets
 
 def pair(plan, source, destination):
-    return vectors.pair_answer(BASE, raw(plan), int(source), int(destination), ref.LARGE)
+    return vectors.pair_answer(STAGE, raw(plan), int(source), int(destination), ref.LARGE)
 
 
 def sheet(plan, source, room):
-    return vectors.sheet_answer(BASE, raw(plan), int(source), int(room), ref.LARGE)
+    return vectors.sheet_answer(STAGE, raw(plan), int(source), int(room), ref.LARGE)
 
 
 def listing(input):
-    return {'text': vectors.listing_text(ref.listing(BASE, raw(input)))}
+    return {'text': vectors.listing_text(ref.listing(STAGE, raw(input)))}
 
 
 def lookup(plan, sheet, destination):
-    return vectors.lookup_answer(BASE, raw(plan), raw(sheet), int(destination), ref.LARGE)
+    return vectors.lookup_answer(STAGE, raw(plan), raw(sheet), int(destination), ref.LARGE)
 
 
 def back(plan, sheet, room):
-    return vectors.back_answer(BASE, raw(plan), raw(sheet), int(room), ref.LARGE)
+    return vectors.back_answer(STAGE, raw(plan), raw(sheet), int(room), ref.LARGE)
 
 
 def run(plan, source, destination, calls):
-    number, route = ref.plan_pair(BASE, raw(plan), int(source), int(destination))
+    number, route = ref.plan_pair(STAGE, raw(plan), int(source), int(destination))
     if number:
         return {'number': number}
-    return run_fields(ref.read_plan(BASE, raw(plan))[1].shape, int(source), route.legs, calls_in(calls))
+    return run_fields(ref.read_plan(STAGE, raw(plan))[1].shape, int(source), route.legs, calls_in(calls))
 
 
 def sheetrun(plan, source, destination, calls):
     out = bytearray(SHEET_BYTES)
-    number, size = ref.write_sheet(BASE, raw(plan), int(source), out)
+    number, size = ref.write_sheet(STAGE, raw(plan), int(source), out)
     if number:
         return {'number': number}
     routes = bytes(out[:size])
-    number, _, legs = ref.lookup_route(BASE, raw(plan), routes, int(destination))
+    number, _, legs = ref.lookup_route(STAGE, raw(plan), routes, int(destination))
     if number:
         return {'number': number}
-    start, end = ref.lookup_entry(BASE, raw(plan), routes, int(destination))
-    shape = ref.read_plan(BASE, raw(plan))[1].shape
+    start, end = ref.lookup_entry(STAGE, raw(plan), routes, int(destination))
+    shape = ref.read_plan(STAGE, raw(plan))[1].shape
     return {'number': 0, 'size': size, 'entry': vectors.hex_text(routes[start:end]), **run_fields(shape, int(source), legs, calls_in(calls))}
 
 
-OPERATIONS = {call.__name__: call for call in (step, walk, plan, planback, planwrite, dead, masks, pair, sheet, listing, lookup, back, run, sheetrun)}
+OPERATIONS = {call.__name__: call for call in (step, walk, plan, planback, planwrite, weights, dead, masks, pair, sheet, listing, lookup, back, run, sheetrun)}
+
+
+def numbers_text(numbers):
+    return ','.join(map(str, numbers))
 
 
 def text(fields):

@@ -15,29 +15,17 @@ sys.dont_write_bytecode = True
 import answers
 import reference as ref
 import vectors
+import weighed
+from answers import STAGE
+from lines import line, plan_of, plan_write, routes_of
 
-BASE = answers.BASE
 SEED = '1'
-VECTORS = {'step': 400, 'walk': 400, 'plan': 300, 'planback': 200, 'pair': 500, 'sheet': 200, 'lookup': 350, 'back': 200, 'run': 300, 'sheetrun': 250,
+VECTORS = {'step': 400, 'walk': 400, 'plan': 500, 'planback': 300, 'pair': 500, 'sheet': 200, 'lookup': 350, 'back': 200, 'run': 300, 'sheetrun': 250,
            'listing': 150}
-PLANS = 80                     # plan sheets for dead, masks and planwrite
+PLANS = 80                     # plan sheets for dead, masks, weights and planwrite
 RARE = 30                      # pairs whose route is of a kind that the vectors seldom have
 LARGE = 36                     # machines of more nodes than the vectors plan on
 LINE_BYTES = 131072            # conform's line buffer
-
-
-def plan_of(extents, wrap, *faults):
-    return vectors.plan_bytes(1, extents, wrap, None, faults)
-
-
-def routes_of(source, *entries):
-    """A route sheet; an entry is (destination, kind, via)."""
-    return ref.sheet_bytes(1, source, [ref.entry_bytes(1, destination, kind, [via]) for destination, kind, via in entries])
-
-
-def line(operation, **fields):
-    """Bytes as hexadecimal digits."""
-    return '%s %s' % (operation, answers.text({key: vectors.hex_text(value) if isinstance(value, bytes) else value for key, value in fields.items()}))
 
 
 # ---- What the document says: (line, answer)
@@ -106,22 +94,23 @@ def many_legs():
 
 
 def plan_cases():
-    """What is dead, and sheets written from a plan's value."""
+    """What is dead, the weights, and sheets written from a plan's value."""
     for i in range(PLANS):
         rng = random.Random('plan/%s/%d' % (SEED, i))
-        sheet = vectors.plan_for_reading(rng, BASE)
-        number, plan = ref.read_plan(BASE, sheet)
+        sheet = vectors.plan_for_reading(rng, STAGE)
+        number, plan = ref.read_plan(STAGE, sheet)
         lost = [] if number else sorted(plan.lost)
         node, direction = rng.choice(lost + [(vectors.a_node(rng, vectors.nodes_in(sheet)), rng.randint(0, 6))] * (1 + len(lost)))
         yield line('dead', plan=sheet, node=node, direction=direction)
         if len(sheet) < 100 and vectors.small_enough(sheet, 256):
             yield line('masks', plan=sheet)
+        yield line('weights', plan=sheet)
         if not number:
-            yield plan_write(rng, plan)
+            yield value_written(rng, plan)
     for count in 255, 256, 257, 300:
-        yield line('planwrite', extents='16,16,16', wrap=7, faults=vectors.faults_text([(n, 0) for n in range(count)]), room=9 + 3 * 256)
-    yield line('planwrite', extents='17,1,1', wrap=0, faults='-', room=9)
-    yield line('planwrite', extents='2,1,1', wrap=1, faults='-', room=9)
+        yield plan_write(1, [16, 16, 16], 7, [1, 1, 1], [(n, 0) for n in range(count)], 9 + 3 * 256)
+    yield plan_write(1, [17, 1, 1], 0, [1, 1, 1], [], 9)
+    yield plan_write(1, [2, 1, 1], 1, [1, 1, 1], [], 9)
 
 
 def links():
@@ -134,21 +123,21 @@ def links():
             yield line('planback', plan=plan_of(extents, wrap, (last, dim)), room=12)
 
 
-def plan_write(rng, plan):
+def value_written(rng, plan):
     """A plan's value, sometimes with faults out of order or one that does not exist."""
     faults = list(plan.faults)
     if rng.random() < 0.3:
         rng.shuffle(faults)
     if rng.random() < 0.2:
         faults.append((rng.randint(0, 70), rng.randint(0, 5)))
-    room = max(0, 9 + 3 * len(faults) + rng.choice([0, 0, 2, -1]))
-    return line('planwrite', extents=','.join(map(str, plan.shape.extents)), wrap=plan.shape.wrap, faults=vectors.faults_text(faults), room=room)
+    room = max(0, (9 if plan.version == 1 else 12) + 3 * len(faults) + rng.choice([0, 0, 2, -1]))
+    return plan_write(plan.version, plan.shape.extents, plan.shape.wrap, plan.weights, faults, room)
 
 
 def declined_plans():
-    """A sheet declined by each of the checks 1 to 8."""
+    """A version 1 sheet declined by each of the checks 1 to 8."""
     yield W[:8]
-    yield b'\2' + W[1:]
+    yield b'\3' + W[1:]
     yield W[:7] + ref.two(257) + W[9:]
     yield W + b'\0'
     yield plan_of([17, 4, 1], 2)
@@ -159,7 +148,7 @@ def declined_plans():
 
 def refusals():
     """Each call that takes a plan, declined by each check of it, where a later check would decline too; and runs that are refused."""
-    for plan in declined_plans():
+    for plan in *declined_plans(), *weighed.declined_plans():
         for source, destination in (65535, 0), (0, 65535):
             yield line('pair', plan=plan, source=source, destination=destination)
             yield line('run', plan=plan, source=source, destination=destination, calls='s00')
@@ -170,6 +159,8 @@ def refusals():
         yield line('back', plan=plan, sheet=W_ROUTES[:-1], room=0)
     for plan, source, destination in ((W, 0, 16), (W, 16, 0), (plan_of([4, 1, 1], 1, (0, 0)), 0, 1), (plan_of([4, 1, 1], 1, (1, 3)), 0, 1)):
         yield line('run', plan=plan, source=source, destination=destination, calls='s00,w')
+    for size in 0, 1, 2, 10:
+        yield line('listing', input=(ref.two(0) + W)[:size])
 
 
 def alike():
@@ -179,26 +170,33 @@ def alike():
         yield line('lookup', plan=plan, sheet=routes, destination=destination)
 
 
+def just_outside():
+    """Route sheets whose source, destination or via is the first number that is no node."""
+    for routes in routes_of(16, (5, 1, 0)), routes_of(0, (16, 1, 0)), routes_of(0, (5, 2, 16)):
+        yield line('lookup', plan=W, sheet=routes, destination=5)
+        yield line('back', plan=W, sheet=routes, room=12)
+
+
 def rare():
     """Pairs with a direct deterministic route, or with two deterministic legs."""
     rng = random.Random('rare/%s' % SEED)
     found = {'D': 0, 'DD': 0}
     while sum(found.values()) < RARE:
-        sheet = vectors.random_plan(rng, BASE, 20)
-        plan = ref.read_plan(BASE, sheet)[1]
+        sheet = vectors.random_plan(rng, STAGE, 20)
+        plan = ref.read_plan(STAGE, sheet)[1]
         if len(plan.faults) < 3:
             continue
-        source, destination = vectors.two_nodes(rng, BASE, sheet)
+        source, destination = vectors.two_nodes(rng, STAGE, sheet)
         if max(source, destination) >= plan.nodes:
             continue
-        route = ref.pair_in(BASE, plan, source, destination)[1]
+        route = ref.pair_in(STAGE, plan, source, destination)[1]
         modes = ''.join(mode for _, mode in route.legs) if route else ''
         if modes in found and found[modes] < RARE // 2:
             found[modes] += 1
             yield line('pair', plan=sheet, source=source, destination=destination)
 
 
-def large_machine(rng):
+def large_machine(rng, weights):
     """A plan of 1,152 to 4,096 nodes and two of its nodes, with faults on a way between the two, and sometimes as many elsewhere as can be."""
     extents = rng.choice([[16, 16, 16], [16, 16, 9], [16, 15, 16], [8, 16, 9], [15, 16, 8]])
     rng.shuffle(extents)
@@ -207,7 +205,8 @@ def large_machine(rng):
     faults = set(any_faults(rng, shape, 256) if rng.random() < 0.3 else [])
     for _ in range(rng.choice([2, 2, 3, 4])):
         faults |= faults_between(rng, shape, source, destination)
-    return plan_of(extents, shape.wrap, *sorted(faults - {(source, 3), (destination, 3)})[:256]), shape, source, destination
+    faults = sorted(faults - {(source, 3), (destination, 3)})[:256]
+    return plan_of(extents, shape.wrap, *faults, weights=weights), shape, source, destination
 
 
 def ends_apart(rng, shape):
@@ -241,10 +240,10 @@ def large_pairs():
     """Pairs and runs on machines of more than 1,024 nodes."""
     for i in range(LARGE):
         rng = random.Random('large/%s/%d' % (SEED, i))
-        plan, shape, source, destination = large_machine(rng)
+        plan, shape, source, destination = large_machine(rng, vectors.random_weights(rng) if i % 2 else None)
         yield line('pair', plan=plan, source=source, destination=destination)
-        number, route = ref.plan_pair(BASE, plan, source, destination)
-        run = b'' if number else vectors.whole_run(rng, BASE, shape, ref.new_packet(BASE, source, route.legs))
+        number, route = ref.plan_pair(STAGE, plan, source, destination)
+        run = b'' if number else vectors.whole_run(rng, STAGE, shape, ref.new_packet(STAGE, source, route.legs))
         yield line('run', plan=plan, source=source, destination=destination, calls='w%s,w,s00' % run.hex())
 
 
@@ -258,7 +257,7 @@ def large_sheets():
     yield line('listing', input=ref.two(1000) + plan_of([16, 9, 8], 0, (999, 0)))
 
 
-LACKING = (many_legs, links, plan_cases, refusals, alike, rare, large_pairs, large_sheets)
+LACKING = (many_legs, links, plan_cases, refusals, alike, just_outside, rare, large_pairs, large_sheets) + weighed.LACKING
 
 
 # ---- Lines that no call can be made of
@@ -294,7 +293,7 @@ def unreadable():
 
 def unreadable_plans():
     good = 'plan=' + W.hex()
-    for operation in 'plan', 'masks':
+    for operation in 'plan', 'masks', 'weights':
         yield operation
         yield operation + ' plan='
         yield operation + ' plan=0'
@@ -303,10 +302,12 @@ def unreadable_plans():
         yield 'planback %s %s' % (good, rest)
     yield 'planback room=12'
     for faults in '', '0', '0:', ':0', '0:0,', ',0:0', '0:0,,1:0', '0:256', '65536:0', '0:0;1:0':
-        yield 'planwrite extents=4,4,1 wrap=3 faults=%s room=20' % faults
-    yield 'planwrite extents=4,4 wrap=3 faults=- room=20'
-    yield 'planwrite extents=4,4,1 faults=- room=20'
-    yield 'planwrite extents=4,4,1 wrap=3 faults=-'
+        yield 'planwrite version=2 extents=4,4,1 wrap=3 weights=1,1,1 faults=%s room=20' % faults
+    value = {'version': '2', 'extents': '4,4,1', 'wrap': '3', 'weights': '1,1,1', 'faults': '-', 'room': '20'}
+    for field in value:
+        yield 'planwrite ' + answers.text({key: text for key, text in value.items() if key != field})
+    for field, bad in (('version', ''), ('version', '256'), ('version', '1,2'), ('extents', '4,4'), ('weights', ''), ('weights', '1,1'), ('weights', '1,1,256'), ('weights', '1,1,1,1')):
+        yield 'planwrite ' + answers.text({**value, field: bad})
     yield 'dead %s node=0' % good
     yield 'dead %s direction=0' % good
     yield 'dead %s node=65536 direction=0' % good
@@ -351,7 +352,7 @@ def long():
         yield answered('step extents=3,3,3 wrap=7 packet=0;13:A direction=4')
     yield padded(2 * LINE_BYTES), 'unreadable'
     cube = plan_of([16, 16, 16], 7)
-    full = vectors.random_route_sheet(random.Random(SEED), BASE, ref.Shape([16, 16, 16], 7), 1, 4096)
+    full = vectors.random_route_sheet(random.Random(SEED), STAGE, ref.Shape([16, 16, 16], 7), 1, 4096)
     for room in 20481, 20482, 20544:
         yield answered(line('back', plan=cube, sheet=full, room=room))
     for destination in 0, ref.word(full, 3), 2048, 4095, 4096:
@@ -365,7 +366,7 @@ def answered(case):
 
 
 def vectors_of(operation):
-    return [(line(name, **given), answers.text(wanted)) for name, given, wanted in vectors.make(BASE, SEED, VECTORS[operation], operation)]
+    return [(line(name, **given), answers.text(wanted)) for name, given, wanted in vectors.make(STAGE, SEED, VECTORS[operation], operation)]
 
 
 def lacked_by(group):

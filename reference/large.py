@@ -14,13 +14,14 @@ sys.dont_write_bytecode = True
 import answers
 import reference as ref
 import vectors
+from answers import STAGE
+from lines import plan_of
 
-BASE = answers.BASE
 SOURCES = 4
 
 
 def large_plan(rng):
-    """Few faults, as many as can be, or those round one node."""
+    """Few faults, as many as can be, or those round one node; of either version."""
     while True:
         extents = rng.choice([[16, 16, 16], [rng.randint(1, 16) for _ in range(3)], [rng.choice([4, 8, 12, 16]) for _ in range(3)]])
         shape = ref.Shape(extents, vectors.random_wrap(rng, extents, rng.choice([0, 0.5, 1, 1])))
@@ -33,13 +34,14 @@ def large_plan(rng):
         kind = rng.choice([0, 0, 1, 1, 2, 2, 3])
         if ref.fault_exists(shape, 1, node, kind, False):
             faults.add((node, kind))
-    return vectors.plan_bytes(1, extents, shape.wrap, None, sorted(rng.sample(sorted(faults), min(256, len(faults)))))
+    faults = sorted(rng.sample(sorted(faults), min(256, len(faults))))
+    return plan_of(extents, shape.wrap, *faults, weights=[rng.randint(1, 8) for _ in range(3)] if rng.random() < 0.6 else None)
 
 
 def all_sheets(shadows, plan):
     """The sheet of each source that is not dead."""
     with tempfile.NamedTemporaryFile() as out:
-        subprocess.run([shadows, 'all', '--stage', 'base', '--out', out.name], input=plan, stdout=subprocess.DEVNULL, check=True)
+        subprocess.run([shadows, 'all', '--stage', ref.STAGES[STAGE], '--out', out.name], input=plan, stdout=subprocess.DEVNULL, check=True)
         data = out.read()
     sheets, at = {}, 0
     while at < len(data):
@@ -67,15 +69,15 @@ def of_sheet(rng, given, plan, sheet):
     listed = [ref.word(sheet, at) for at in range(7, len(sheet), 5)]
     destination = rng.choice(listed) if listed and rng.random() < 0.8 else rng.randrange(plan.nodes)
     yield 'sheet', {'plan': given.hex(), 'source': source, 'room': len(sheet)}, {'number': 0, 'size': len(sheet), 'out': sheet.hex()}
-    number, _, legs = ref.lookup_route(BASE, given, sheet, destination)
+    number, _, legs = ref.lookup_route(STAGE, given, sheet, destination)
     ends = {'plan': given.hex(), 'source': source, 'destination': destination}
     if number:
         yield 'pair', ends, {'number': number}
         yield 'sheetrun', dict(ends, calls='-'), {'number': number}
         return
     yield 'pair', ends, {'number': 0, 'legs': vectors.legs_text(legs), 'length': ref.length_of(plan, source, legs)}
-    calls = 'w%s,s00' % vectors.whole_run(rng, BASE, plan.shape, ref.new_packet(BASE, source, legs)).hex()
-    start, end = ref.lookup_entry(BASE, given, sheet, destination)
+    calls = 'w%s,s00' % vectors.whole_run(rng, STAGE, plan.shape, ref.new_packet(STAGE, source, legs)).hex()
+    start, end = ref.lookup_entry(STAGE, given, sheet, destination)
     yield 'sheetrun', dict(ends, calls=calls), {'number': 0, 'size': len(sheet), 'entry': vectors.hex_text(sheet[start:end]),
                                                 **answers.run_fields(plan.shape, source, legs, answers.calls_in(calls))}
     if rng.random() < 0.1:
@@ -91,7 +93,7 @@ def main():
     for i in range(options.count):
         rng = random.Random('large/%s/%d' % (options.seed, i))
         given = large_plan(rng)
-        plan = ref.read_plan(BASE, given)[1]
+        plan = ref.read_plan(STAGE, given)[1]
         sheets = all_sheets(options.shadows, given)
         for source in rng.sample(sorted(sheets), min(SOURCES, len(sheets))):
             for vector in of_sheet(rng, given, plan, sheets[source]):

@@ -29,6 +29,10 @@ LINK = '    return shape.neighbour(node, 2 * dim) is not None'
 ENDS = '    if source >= plan.nodes or destination >= plan.nodes:\n        return 9, None\n'
 DEAD = '    if source in plan.dead or destination in plan.dead:\n        return 10, None\n'
 SOURCE = '    if source >= plan.nodes:\n        return 9, 0\n    if source in plan.dead:\n        return 10, 0\n'
+WEIGHTS = '    if any(not 1 <= w <= 8 for w in weights):\n        return 16, None\n'
+OF_VERSION = '    weights = (1, 1, 1) if version == 1 else tuple(sheet[7:10])\n'
+SHAPE = '    extents, wrap = tuple(sheet[3:6]), sheet[6]\n    number = check_shape(extents, wrap, rack)\n    if number:\n        return number, None\n'
+WEIGHED = 'self.weights[dim] * self.shape.hops_in'
 ORDER = "    return (length_of(plan, source, legs), modes.count('D'), len(vias), vias, modes)"
 LAST_LEG = "            if keep(here, (destination, mode)):\n                yield done + ((destination, mode),)"
 ENTRY = '    return two(destination) + bytes([kind])'
@@ -76,7 +80,8 @@ SLIPS = [
     ('plans: 8 bytes are enough', '    if len(sheet) < 9:', '    if len(sheet) < 8:'),
     ('plans: 2 before 1', '    if len(sheet) < 9:\n', '    if sheet and sheet[0] != 1:\n        return 2, None\n    if len(sheet) < 9:\n'),
     ('plans: version 0 is accepted', '    if version not in known:', '    if version and version not in known:'),
-    ('plans: version 2 is accepted', '    known = [1] +', '    known = [1, 2] +'),
+    ('plans: version 3 is accepted', '    known = [1] +', '    known = [1, 3] +'),
+    ('plans: version 2 is not accepted', '    known = [1] + ([2]', '    known = [1] + ([]'),
     ('plans: 3 after 4', '        return 3, None\n', '        return 3 if word(sheet, 1) == len(sheet) - 3 == head + 3 * count else 4, None\n'),
     ('plans: 257 faults are accepted', '    if count > 256:', '    if count > 257:'),
     ('plans: 256 faults are 3', '    if count > 256:', '    if count > 255:'),
@@ -92,9 +97,9 @@ SLIPS = [
     ('plans: spare bits are accepted', '    if wrap >= 8:', '    if wrap >= 256:'),
     ('plans: the last spare bit is accepted', '    if wrap >= 8:', '    if wrap & 127 >= 8:'),
     ('plans: 8 before 7 at one fault', FAULT, ''.join(FAULT.splitlines(True)[2:] + FAULT.splitlines(True)[:2])),
-    ('plans: 7 of all faults before 8', FAULTS, '    if not all(fault_exists(shape, version, word(sheet, at), sheet[at + 2], rack) for at in range(9, len(sheet), 3)):\n'
+    ('plans: 7 of all faults before 8', FAULTS, '    if not all(fault_exists(shape, version, word(sheet, at), sheet[at + 2], rack) for at in range(3 + head, len(sheet), 3)):\n'
      '        return 7, None\n' + FAULTS),
-    ('plans: 8 of all faults before 7', FAULTS, '    if any(sheet[at:at + 3] <= sheet[at - 3:at] for at in range(12, len(sheet), 3)):\n        return 8, None\n' + FAULTS),
+    ('plans: 8 of all faults before 7', FAULTS, '    if any(sheet[at:at + 3] <= sheet[at - 3:at] for at in range(6 + head, len(sheet), 3)):\n        return 8, None\n' + FAULTS),
     ('plans: an equal fault is accepted', RISES, RISES.replace('> faults', '>= faults')),
     ('plans: faults rise by node alone', RISES, '        if faults and not node >= faults[-1][0]:'),
     ('plans: the first two faults are not compared', RISES, RISES.replace('if faults', 'if len(faults) > 1')),
@@ -107,6 +112,35 @@ SLIPS = [
     ('plans: links to a dead node are sound', '                    lose(there, direction ^ 1)', '                    pass'),
     ('plans: links of a dead node are sound', '                    lose(node, direction)\n                    lose(there, direction ^ 1)', '                    pass'),
     ('plans: a dead link is sound the other way', '                lose(there, plus + 1)', '                pass'),
+    ('weights: 11 bytes are enough', 'len(sheet) < 12:', 'len(sheet) < 11:'),
+    ('weights: 12 bytes are too few', 'len(sheet) < 12:', 'len(sheet) < 13:'),
+    ('weights: 12 bytes are asked of version 1', '    if version in (2, 3) and version in known', '    if version in known'),
+    ('weights: 12 bytes are asked of unknown versions', '    if version in (2, 3) and version in known', '    if version != 1'),
+    ('weights: the count where version 1 has it', '    count = word(sheet, 1 + head)', '    count = word(sheet, 7)'),
+    ('weights: the length field of version 1', LENGTH, LENGTH.replace('head', '6')),
+    ('weights: 0 is accepted', WEIGHTS, WEIGHTS.replace('1 <=', '0 <=')),
+    ('weights: 9 is accepted', WEIGHTS, WEIGHTS.replace('8', '9')),
+    ('weights: 8 is 16', WEIGHTS, WEIGHTS.replace('8', '7')),
+    ('weights: 255 is accepted', WEIGHTS, WEIGHTS.replace('8 for', '8 and w < 255 for')),
+    ('weights: that of Z is not checked', WEIGHTS, WEIGHTS.replace('in weights', 'in weights[:2]')),
+    ('weights: those of absent dimensions are not checked', WEIGHTS, WEIGHTS.replace('w in weights', 'w, e in zip(weights, extents) if e > 1')),
+    ('weights: 16 before 6', SHAPE, SHAPE.replace('    if number:', OF_VERSION + WEIGHTS.replace('    if any', '    if number != 5 and any') + '    if number:')),
+    ('weights: 16 before 5', SHAPE, OF_VERSION.replace('version == 1', 'version == 1 or len(sheet) < 12') + WEIGHTS + SHAPE),
+    ('weights: 16 after 7', WEIGHTS, WEIGHTS.replace('16,', '16 if all(fault_exists(shape_of(extents, wrap), version, word(sheet, at), sheet[at + 2], rack) '
+                                                            'for at in range(3 + head, len(sheet), 3)) else 7,')),
+    ('weights: 16 after 8', WEIGHTS, WEIGHTS.replace('16,', '8 if any(sheet[at:at + 3] <= sheet[at - 3:at] for at in range(6 + head, len(sheet), 3)) else 16,')),
+    ('weights: read one byte late', OF_VERSION, OF_VERSION.replace('7:10', '8:11')),
+    ('weights: X and Z exchanged', OF_VERSION, OF_VERSION.replace('7:10]', '7:10][::-1]')),
+    ('weights: Y and Z exchanged', OF_VERSION, OF_VERSION.replace('tuple(sheet[7:10])', '(sheet[7], sheet[9], sheet[8])')),
+    ('weights: those of version 1 are read too', OF_VERSION, '    weights = tuple(sheet[7:10])\n'),
+    ('weights: the distance by hops', WEIGHED, 'self.shape.hops_in'),
+    ('weights: the order by hops', ORDER, ORDER.replace('length_of(plan, source, legs)', 'sum(plan.shape.hops(start, leg[0]) for start, leg in zip(starts(source, legs), legs))')),
+    ('weights: Z alone counts', WEIGHED, '(self.weights[dim] if dim == 2 else 1) * self.shape.hops_in'),
+    ('weights: the length in one byte', '    return 0, Route(source, legs, length_of(plan, source, legs))', '    return 0, Route(source, legs, length_of(plan, source, legs) % 256)'),
+    ('weights: the order by one byte', ORDER, ORDER.replace('legs),', 'legs) % 256,')),
+    ('weights: a length of at most 511', '    return 0, Route(source, legs, length_of(plan, source, legs))', '    return 0, Route(source, legs, length_of(plan, source, legs) % 512)'),
+    ('weights: distances above 255 are 255', '        return self._distance[m, n]', '        return min(255, self._distance[m, n])'),
+    ('listing: lengths of two digits', 'str(route.length)', 'str(route.length % 100)'),
     ('pairs: a node just outside is accepted', ENDS, ENDS.replace('>=', '>') + '    if plan.nodes in (source, destination):\n        return 11, None\n'),
     ('pairs: 9 from 4,096 on', ENDS, ENDS.replace('plan.nodes', '4096') + '    if max(source, destination) >= plan.nodes:\n        return 11, None\n'),
     ('pairs: 10 before 9', ENDS + DEAD, DEAD + ENDS),

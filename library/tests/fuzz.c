@@ -3,8 +3,8 @@
  *
  * Hands every call of the library made, damaged and random input, and holds it to what is claimed of every input: no byte outside the lent parts is
  * touched, a refusal changes nothing and has the number that the model says, an accepted sheet is written back as the same bytes, each hop and walk is
- * the model's, a planned route is the model's on small plans, and its packet, by whatever hops are allowed, arrives after the length of the route
- * without crossing a dead link.
+ * the model's, a planned route is the model's on small plans, its length is the weight of its hops, and its packet, by whatever hops are allowed, arrives after
+ * the route's hops without crossing a dead link.
  * --lines prints cases with the library's answers instead, for against-reference.
  */
 #include "lent.h"
@@ -21,7 +21,7 @@
 enum { MODEL_NODES = 64 };
 
 static lent plan, sheet, out, work, directions;
-static uint64_t inputs, calls, refused, hops_taken, arrivals, longest;
+static uint64_t inputs, calls, refused, hops_taken, arrivals, longest, heaviest;
 
 /* What the model says of the lent plan: the number, and the plan where that is 0. */
 static uint8_t plan_refused;
@@ -107,9 +107,10 @@ static void one_packet(void) {
     try_packet(s, packet);
 }
 
-static int length_of(nafthurm_shape s, nafthurm_packet packet) {
+/* The sum of the legs' distances: in hops under weights of 1. */
+static int length_of(nafthurm_shape s, nafthurm_weights w, nafthurm_packet packet) {
     int sum = 0, at = packet.node;
-    for (int leg = 2 - packet.left; leg < 2; leg++) sum += distance(s, at, packet.legs[leg].target), at = packet.legs[leg].target;
+    for (int leg = 2 - packet.left; leg < 2; leg++) sum += distance(s, w, at, packet.legs[leg].target), at = packet.legs[leg].target;
     return sum;
 }
 
@@ -146,18 +147,17 @@ static void walk_again(nafthurm_shape s, nafthurm_packet first, nafthurm_packet 
 }
 
 /* By allowed hops at random to the end. */
-static void travel(nafthurm_shape s, nafthurm_packet first, uint16_t destination, int length, int sound) {
+static void travel(nafthurm_shape s, nafthurm_packet first, uint16_t destination, int sound) {
     uint8_t taken[128];
-    int hops = 0;
+    int count = 0, wanted = length_of(s, (nafthurm_weights){1, 1, 1}, first);
     nafthurm_packet packet = first;
     HOLD(nafthurm_packet_check(s, packet) == 0);
-    HOLD(length_of(s, packet) == length);
-    for (; travel_on(s, &packet, taken + hops, sound); hops++) HOLD(hops < length);
+    for (; travel_on(s, &packet, taken + count, sound); count++) HOLD(count < wanted);
     HOLD(packet.node == destination);
-    HOLD(hops == length);
-    hops_taken += (uint64_t)hops, arrivals++;
-    if (longest < (uint64_t)hops) longest = (uint64_t)hops;
-    walk_again(s, first, packet, taken, (size_t)hops);
+    HOLD(count == wanted);
+    hops_taken += (uint64_t)count, arrivals++;
+    if (longest < (uint64_t)count) longest = (uint64_t)count;
+    walk_again(s, first, packet, taken, (size_t)count);
 }
 
 /* ---- Plan sheets ---- */
@@ -171,9 +171,11 @@ static void try_dead(uint16_t node, uint8_t direction) {
 
 static void try_plan(void) {
     nafthurm_shape s = nafthurm_plan_shape(plan.bytes, plan.size);
-    calls += 2;
+    nafthurm_weights w = nafthurm_plan_weights(plan.bytes, plan.size);
+    calls += 3;
     HOLD(nafthurm_plan_check(plan.bytes, plan.size) == plan_refused);
     HOLD(s.x == model.shape.x && s.y == model.shape.y && s.z == model.shape.z && s.wrap == model.shape.wrap);
+    HOLD(w.x == model.weights.x && w.y == model.weights.y && w.z == model.weights.z);
     for (int i = 0; i < 4; i++) try_dead(plan_node(), (uint8_t)below(8));
     lend_out(some_room(plan.size));
     check_written(nafthurm_plan_write_back(plan.bytes, plan.size, out.bytes, out.size), plan_refused, plan.copy, plan.size);
@@ -212,7 +214,10 @@ static nafthurm_planned try_pair(uint16_t source, uint16_t destination) {
     }
     HOLD(p.route.kind <= 5);
     HOLD(p.route.kind >= 2 ? p.route.via != source && p.route.via != destination && p.route.via < plan_nodes() : p.route.via == 0);
-    travel(model.shape, nafthurm_new_packet(source, destination, p.route), destination, p.length, 1);
+    nafthurm_packet first = nafthurm_new_packet(source, destination, p.route);
+    HOLD(p.length == length_of(model.shape, model.weights, first));
+    if (heaviest < p.length) heaviest = p.length;
+    travel(model.shape, first, destination, 1);
     return p;
 }
 
@@ -261,7 +266,7 @@ static void try_sheet(void) {
         nafthurm_route r = try_lookup(number, destination);
         if (r.number != 0) continue;
         nafthurm_packet first = nafthurm_new_packet((uint16_t)word(sheet.bytes + 3), destination, r);
-        travel(model.shape, first, destination, length_of(model.shape, first), 0);
+        travel(model.shape, first, destination, 0);
     }
 }
 
@@ -388,7 +393,7 @@ static void try_listing(uint16_t source) {
     static uint8_t input[2 + BYTES_MOST];
     static char text[NAFTHURM_LISTING_BYTES];
     uint8_t number = source_number(source);
-    int size = number ? sprintf(text, "refused %d\n", number) : sprintf(text, "%d %d %zu\n", source, plan_nodes(), word(plan.bytes + 7));
+    int size = number ? sprintf(text, "refused %d\n", number) : sprintf(text, "%d %d %zu\n", source, plan_nodes(), word(plan.bytes + head_size(plan.bytes[0]) - 2));
     for (int d = 0; number == 0 && d < plan_nodes(); d++) {
         nafthurm_planned p = nafthurm_pair(plan.bytes, plan.size, source, (uint16_t)d);
         size += sprintf(text + size, "%d %d ", d, p.route.kind);
@@ -448,6 +453,22 @@ static void one_pair(void) {
     try_pair(e.source, e.destination);
 }
 
+/* Long ways: from end to end of a large machine, or there and back. */
+static void one_long_pair(void) {
+    if (chance(50)) {
+        nafthurm_shape s = {16, 16, 16, 0};
+        make_plan(s, (int)below(3));
+        lend_both();
+        uint16_t source = corner(s), destination = corner(s);
+        try_pair(source, destination);
+        return;
+    }
+    nafthurm_shape s = make_far_via();
+    lend_both();
+    nafthurm_planned p = try_pair(0, s.x);
+    HOLD(p.route.kind == 5 && p.route.via == nodes_of(s) - 1);
+}
+
 static void one_written_sheet(void) {
     any_plan(ONE_OF(12, 32, 48), 10);
     lend_both();
@@ -474,7 +495,8 @@ static void one_input(uint64_t i) {
     if (i % 4096 == 4095) one_largest();
     else if (way < 8) one_random();
     else if (way < 28) one_plan();
-    else if (way < 48) one_pair();
+    else if (way < 46) one_pair();
+    else if (way < 48) one_long_pair();
     else if (way < 51) one_written_sheet();
     else if (way < 70) one_sheet();
     else one_packet(), inputs++;
@@ -499,6 +521,6 @@ int main(int words, char **word_at) {
     lend_both(), inputs = 0;
     for (uint64_t i = 0; i < count; i++) one_input(i);
     printf("seed %" PRIu64 ": %" PRIu64 " inputs, %" PRIu64 " calls, %" PRIu64 " refusals, %" PRIu64 " packets brought to their destination in %" PRIu64
-           " hops, at most %" PRIu64 "\n", seed, inputs, calls, refused, arrivals, hops_taken, longest);
+           " hops, at most %" PRIu64 ", by routes of at most length %" PRIu64 "\n", seed, inputs, calls, refused, arrivals, hops_taken, longest, heaviest);
     return 0;
 }

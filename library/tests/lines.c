@@ -147,9 +147,15 @@ static void op_plan(const char *line) {
     put("number=%d", refused);
     if (refused != 0) return;
     put(" extents=%d,%d,%d wrap=%d faults=", shape.x, shape.y, shape.z, shape.wrap);
-    const uint8_t *fault = plan.bytes + 9, *end = plan.bytes + plan.size;
-    if (fault == end) put("-");
-    for (; fault < end; fault += 3) put("%s%d:%d", fault == plan.bytes + 9 ? "" : ",", fault[0] * 256 + fault[1], fault[2]);
+    const uint8_t *first = plan.bytes + (plan.bytes[0] == 2 ? 12 : 9), *end = plan.bytes + plan.size;
+    if (first == end) put("-");
+    for (const uint8_t *fault = first; fault < end; fault += 3) put("%s%d:%d", fault == first ? "" : ",", fault[0] * 256 + fault[1], fault[2]);
+}
+
+static void op_weights(const char *line) {
+    lend_field(&plan, line, "plan");
+    nafthurm_weights weights = nafthurm_plan_weights(plan.bytes, plan.size);
+    put("weights=%d,%d,%d", weights.x, weights.y, weights.z);
 }
 
 static void op_planback(const char *line) {
@@ -295,8 +301,8 @@ int answer_line(const char *line, char answer[ANSWER_MOST]) {
     static const struct {
         const char *name;
         void (*op)(const char *line);
-    } ops[] = {{"step", op_step}, {"walk", op_walk}, {"plan", op_plan}, {"planback", op_planback}, {"dead", op_dead}, {"masks", op_masks},
-               {"pair", op_pair}, {"sheet", op_sheet}, {"listing", op_listing}, {"lookup", op_lookup}, {"back", op_back}, {"run", op_run},
+    } ops[] = {{"step", op_step}, {"walk", op_walk}, {"plan", op_plan}, {"planback", op_planback}, {"weights", op_weights}, {"dead", op_dead},
+               {"masks", op_masks}, {"pair", op_pair}, {"sheet", op_sheet}, {"listing", op_listing}, {"lookup", op_lookup}, {"back", op_back}, {"run", op_run},
                {"sheetrun", op_sheetrun}};
     size_t name = text_size(line);
     for (size_t i = 0; i < sizeof ops / sizeof *ops; i++) {

@@ -104,7 +104,7 @@ void put_word(bytes *b, size_t at, size_t value) { b->at[at] = (uint8_t)(value >
 
 void random_bytes(bytes *b, size_t size) {
     for (size_t i = 0; i < size; i++) b->at[i] = chance(40) ? (uint8_t)below(6) : any_byte();
-    if (size > 0 && chance(70)) b->at[0] = 1;
+    if (size > 0 && chance(70)) b->at[0] = (uint8_t)ONE_OF(1, 1, 2);
     if (size > 2 && chance(70)) put_word(b, 1, size - 3);
     b->size = size;
 }
@@ -115,9 +115,19 @@ typedef struct {
 
 enum { FAULTS_MOST = 272 };
 
-/* The faults of the plan that is being made. */
+/* The plan that is being made. Weights of version 1 are not written. */
+static int version;
+static nafthurm_weights weights;
 static fault faults[FAULTS_MOST];
 static int fault_count;
+
+static uint8_t some_weight(void) { return (uint8_t)(chance(50) ? ONE_OF(1, 8) : 1 + (int)below(8)); }
+
+static void begin_plan(void) {
+    version = ONE_OF(1, 2, 2);
+    weights = chance(20) ? (nafthurm_weights){8, 8, 8} : (nafthurm_weights){some_weight(), some_weight(), some_weight()};
+    fault_count = 0;
+}
 
 static int rising(const void *a, const void *b) {
     const fault *f = a, *g = b;
@@ -144,7 +154,7 @@ static void insert_fault(int at, fault f) {
 }
 
 static void random_faults(nafthurm_shape s, int tries, uint32_t dead_nodes) {
-    fault_count = 0;
+    begin_plan();
     for (int i = 0; i < tries; i++) {
         fault f = {(int)below((uint32_t)nodes_of(s)), chance(dead_nodes) ? 3 : (int)below(3)};
         if (fault_exists(s, (size_t)f.node, f.kind)) add_fault(f.node, f.kind);
@@ -154,14 +164,14 @@ static void random_faults(nafthurm_shape s, int tries, uint32_t dead_nodes) {
 
 /* The first so many links there are. */
 static void first_faults(nafthurm_shape s, int count) {
-    fault_count = 0;
+    begin_plan();
     for (int key = 0; key < 3 * nodes_of(s) && fault_count < count; key++)
         if (fault_exists(s, (size_t)key / 3, key % 3)) add_fault(key / 3, key % 3);
 }
 
 /* Links and nodes anywhere, until they are so many, where the machine has them. */
 static void exact_faults(nafthurm_shape s, int count) {
-    fault_count = 0;
+    begin_plan();
     for (int tries = 0; fault_count < count && tries < 2000; tries++) {
         fault f = {(int)below((uint32_t)nodes_of(s)), (int)below(4)};
         if (fault_exists(s, (size_t)f.node, f.kind)) add_fault(f.node, f.kind), sort_faults();
@@ -169,14 +179,15 @@ static void exact_faults(nafthurm_shape s, int count) {
 }
 
 static void write_plan(nafthurm_shape s) {
-    const uint8_t head[] = {1, 0, 0, s.x, s.y, s.z, s.wrap};
+    const uint8_t head[] = {(uint8_t)version, 0, 0, s.x, s.y, s.z, s.wrap, weights.x, weights.y, weights.z};
+    size_t at = head_size(version);
     memcpy(a_plan.at, head, sizeof head);
-    a_plan.size = 9 + 3 * (size_t)fault_count;
+    a_plan.size = at + 3 * (size_t)fault_count;
     put_word(&a_plan, 1, a_plan.size - 3);
-    put_word(&a_plan, 7, (size_t)fault_count);
-    for (int i = 0; i < fault_count; i++) {
-        put_word(&a_plan, 9 + 3 * (size_t)i, (size_t)faults[i].node);
-        a_plan.at[11 + 3 * i] = (uint8_t)faults[i].kind;
+    put_word(&a_plan, at - 2, (size_t)fault_count);
+    for (int i = 0; i < fault_count; i++, at += 3) {
+        put_word(&a_plan, at, (size_t)faults[i].node);
+        a_plan.at[at + 2] = (uint8_t)faults[i].kind;
     }
 }
 
@@ -196,7 +207,7 @@ nafthurm_shape make_snake(int most) {
     nafthurm_shape s = {1, 1, 1, 0};
     set_extent(&s, along, length * rows > most ? most / rows : length);
     set_extent(&s, across, rows);
-    fault_count = 0;
+    begin_plan();
     int turn = (int)below(2);
     for (int row = 0; row + 1 < rows; row++) part_rows(s, along, across, row, (row + turn) % 2 ? 0 : extent(s, along) - 1);
     sort_faults();
@@ -210,6 +221,22 @@ nafthurm_shape make_limit_plan(void) {
     int count = ONE_OF(255, 256, 256);
     if (chance(50)) first_faults(s, count);
     else exact_faults(s, count);
+    write_plan(s);
+    return s;
+}
+
+/*
+ * Node 0 is left by X+ alone, its row at its end alone, and the column there at its end alone. The destination is entered from above alone; of the rows above the
+ * row where the column ends, the highest alone goes back.
+ */
+nafthurm_shape make_far_via(void) {
+    nafthurm_shape s = {(uint8_t)ONE_OF(4, 16, 16, 16), (uint8_t)ONE_OF(4, 16, 16, 16), (uint8_t)ONE_OF(4, 16, 16, 16), 0};
+    begin_plan();
+    for (int x = 0; x < s.x - 1; x++) add_fault(x, 1), add_fault(x, 2);
+    for (int y = 0; y < s.y - 1; y++) add_fault(s.x - 1 + y * stride(s, 1), 2);
+    for (int z = 1; z < s.z - 1; z++) add_fault(s.x - 2 + (s.y - 1) * stride(s, 1) + z * stride(s, 2), 0);
+    add_fault(s.x, 0), add_fault(s.x, 1);
+    sort_faults();
     write_plan(s);
     return s;
 }
@@ -250,7 +277,7 @@ static void hurt_faults(nafthurm_shape s) {
 }
 
 /* What the plan's checks look at, in their order. */
-enum { SHORT, VERSION, COUNT, LENGTH, EXTENT, WRAP, FAULTS, CHECKS };
+enum { SHORT, VERSION, COUNT, LENGTH, EXTENT, WRAP, WEIGHT, FAULTS, CHECKS };
 
 /* One check, two neighbouring ones, or two or three. */
 static unsigned hurt_checks(void) {
@@ -276,17 +303,24 @@ static void hurt_length(void) {
     }
 }
 
+/* One weight outside 1 to 8, of a dimension that is there or of one that is not. */
+static void hurt_weights(void) {
+    version = 2;
+    *(uint8_t *[]){&weights.x, &weights.y, &weights.z}[below(3)] = (uint8_t)ONE_OF(0, 9, 9, 10, 128, 255);
+}
+
 /* Hurts the plan whose faults are in the list in one to three checks at once. */
 static void hurt_plan(nafthurm_shape s) {
     unsigned checks = hurt_checks();
     if (checks >> FAULTS & 1) hurt_faults(s);
+    if (checks >> WEIGHT & 1) hurt_weights();
     write_plan(s);
     if (checks >> EXTENT & 1) a_plan.at[3 + below(3)] = (uint8_t)ONE_OF(0, 17, 17, 18, 32, 255);
     if (checks >> WRAP & 1) a_plan.at[6] |= (uint8_t)(1 << below(8));
     if (checks >> LENGTH & 1) hurt_length();
-    if (checks >> COUNT & 1) put_word(&a_plan, 7, (size_t)ONE_OF(257, 257, 258, 300, 512, 65535));
-    if (checks >> VERSION & 1) a_plan.at[0] = (uint8_t)ONE_OF(0, 2, 3, 255);
-    if (checks >> SHORT & 1) a_plan.size = (size_t)ONE_OF(0, 1, 7, 8, 8, 9, 9);
+    if (checks >> COUNT & 1) put_word(&a_plan, head_size(version) - 2, (size_t)ONE_OF(257, 257, 258, 300, 512, 65535));
+    if (checks >> VERSION & 1) a_plan.at[0] = (uint8_t)ONE_OF(0, 3 - version, 3, 255);
+    if (checks >> SHORT & 1) a_plan.size = (size_t)ONE_OF(0, 1, 7, 8, 8, 9, 9, 10, 11, 11, 12);
 }
 
 /* One edit; each record has this many bytes, from byte `from` on, and their count stands before them. */
@@ -298,7 +332,7 @@ static void damage(bytes *b, size_t from, size_t record) {
     case 2: b->at[0] = (uint8_t)ONE_OF(0, 1, 2, 3, 255); break;
     case 3: put_word(b, from - 2, (size_t)ONE_OF(0, 1, 255, 256, 257, 300, 4095, 4096, 65535)); break;
     case 4: b->at[1 + below(2)] ^= (uint8_t)(1 << below(8)); break;
-    case 5: b->at[3 + below(4)] = (uint8_t)ONE_OF(0, 1, 2, 3, 7, 8, 16, 17, 255); break;
+    case 5: b->at[3 + below((uint32_t)from - 5)] = (uint8_t)ONE_OF(0, 1, 2, 3, 7, 8, 9, 16, 17, 255); break;
     case 6: if (records) b->at[at + 2] = (uint8_t)ONE_OF(0, 1, 2, 3, 4, 5, 6, 9, 10, 11, 12, 255); break;
     case 7: if (records) put_word(b, at + (record == 5 && chance(50) ? 3 : 0), (size_t)ONE_OF(0, 1, 5, 60, 4095, 4096, 65535)); break;
     case 8: if (records) memcpy(b->at + at, b->at + from + record * below((uint32_t)records), record); break;
@@ -326,7 +360,7 @@ static void hurt_or_damage(nafthurm_shape s) {
         hurt_plan(s);
         return;
     }
-    for (uint32_t n = 1 + below(3); n > 0; n--) damage(&a_plan, 9, 3);
+    for (uint32_t n = 1 + below(3); n > 0; n--) damage(&a_plan, head_size(version), 3);
 }
 
 nafthurm_shape any_plan(int most, uint32_t damaged) {
@@ -347,18 +381,17 @@ nafthurm_shape plan_for_reading(void) {
     return s;
 }
 
-/* At an end of the machine in each dimension. */
-static uint16_t corner(nafthurm_shape s) {
+uint16_t corner(nafthurm_shape s) {
     int node = 0;
     for (int dim = 0; dim < 3; dim++) node += chance(50) ? (extent(s, dim) - 1) * stride(s, dim) : 0;
     return (uint16_t)node;
 }
 
 ends some_ends(nafthurm_shape s) {
-    size_t count = a_plan.size > 9 ? (a_plan.size - 9) / 3 : 0;
+    size_t head = head_size(a_plan.at[0]), count = a_plan.size > head ? (a_plan.size - head) / 3 : 0;
     uint16_t one = (uint16_t)below((uint32_t)nodes_of(s)), other = some_node(s, one);
     if (count > 0 && chance(50)) { /* over a fault's link, or from its node */
-        const uint8_t *at = a_plan.at + 9 + 3 * below((uint32_t)count);
+        const uint8_t *at = a_plan.at + head + 3 * below((uint32_t)count);
         int node = (int)word(at) % nodes_of(s), to = at[2] < 3 ? over(s, node, 2 * at[2]) : -1;
         one = (uint16_t)node, other = to >= 0 && chance(40) ? (uint16_t)to : some_node(s, one);
     }

@@ -46,10 +46,14 @@ extern bytes a_plan, a_sheet;
 void put_word(bytes *b, size_t at, size_t value);
 void random_bytes(bytes *b, size_t size);
 
-/* An accepted plan sheet in a_plan: of the shape, with about this many faults; a snake, two or three long rows joined at one end; on the edge of a limit. */
+/*
+ * An accepted plan sheet in a_plan, of either version: of the shape, with about this many faults; a snake, two or three long rows joined at one end; on the edge
+ * of a limit; a mesh of which the one route from node 0 to the next one in Y is by the last node, with both legs deterministic.
+ */
 void make_plan(nafthurm_shape s, int faults);
 nafthurm_shape make_snake(int most);
 nafthurm_shape make_limit_plan(void);
+nafthurm_shape make_far_via(void);
 
 /* Some accepted plan of at most so many nodes, then damaged with `damaged` %; the shape is that before the damage. */
 nafthurm_shape any_plan(int most, uint32_t damaged);
@@ -63,6 +67,9 @@ typedef struct {
 } ends;
 
 ends some_ends(nafthurm_shape s);
+
+/* At an end of the machine in each dimension. */
+uint16_t corner(nafthurm_shape s);
 
 /* A route sheet in a_sheet with routes that nobody planned, `listed` % of the destinations; any_sheet: then damaged. */
 void make_sheet(nafthurm_shape s, uint32_t listed);

@@ -23,18 +23,20 @@ int over(nafthurm_shape s, int node, int direction) {
     return node + (q - p) * stride(s, dim);
 }
 
-int distance(nafthurm_shape s, int from, int to) {
-    int sum = 0;
-    for (int dim = 0; dim < 3; dim++) {
-        int d = abs(place(s, from, dim) - place(s, to, dim)), round = extent(s, dim) - d;
-        sum += wrapped(s, dim) && round < d ? round : d;
-    }
-    return sum;
+static int hops_along(nafthurm_shape s, int dim, int from, int to) {
+    int d = abs(place(s, from, dim) - place(s, to, dim)), round = extent(s, dim) - d;
+    return wrapped(s, dim) && round < d ? round : d;
+}
+
+int hops(nafthurm_shape s, int from, int to) { return hops_along(s, 0, from, to) + hops_along(s, 1, from, to) + hops_along(s, 2, from, to); }
+
+int distance(nafthurm_shape s, nafthurm_weights w, int from, int to) {
+    return w.x * hops_along(s, 0, from, to) + w.y * hops_along(s, 1, from, to) + w.z * hops_along(s, 2, from, to);
 }
 
 static int useful(nafthurm_shape s, int node, int target, int direction) {
     int to = over(s, node, direction);
-    return to >= 0 && distance(s, to, target) + 1 == distance(s, node, target);
+    return to >= 0 && hops(s, to, target) + 1 == hops(s, node, target);
 }
 
 int leg_allows(nafthurm_shape s, int node, int target, int mode, int direction) {
@@ -53,6 +55,8 @@ uint8_t shape_number(nafthurm_shape s) {
         if (wrapped(s, dim) && extent(s, dim) < 3) return 6;
     return s.wrap > 7 ? 6 : 0;
 }
+
+static uint8_t weights_number(nafthurm_weights w) { return w.x < 1 || w.x > 8 || w.y < 1 || w.y > 8 || w.z < 1 || w.z > 8 ? 16 : 0; }
 
 uint8_t packet_number(nafthurm_shape s, nafthurm_packet packet) {
     uint8_t number = shape_number(s);
@@ -79,14 +83,22 @@ static uint8_t faults_number(nafthurm_shape s, const uint8_t *fault, const uint8
 
 static nafthurm_shape shape_in(const uint8_t *plan) { return (nafthurm_shape){plan[3], plan[4], plan[5], plan[6]}; }
 
+static nafthurm_weights weights_in(const uint8_t *plan) {
+    return plan[0] == 2 ? (nafthurm_weights){plan[7], plan[8], plan[9]} : (nafthurm_weights){1, 1, 1};
+}
+
+size_t head_size(int version) { return version == 2 ? 12 : 9; }
+
+/* The fault count stands before the faults. */
 uint8_t plan_number(const uint8_t *plan, size_t size) {
-    if (size < 9) return 1;
-    if (plan[0] != 1) return 2;
-    size_t count = word(plan + 7);
+    if (size < 9 || size < head_size(plan[0])) return 1;
+    if (plan[0] != 1 && plan[0] != 2) return 2;
+    size_t head = head_size(plan[0]), count = word(plan + head - 2);
     if (count > 256) return 3;
-    if (word(plan + 1) != size - 3 || word(plan + 1) != 6 + 3 * count) return 4;
+    if (word(plan + 1) != size - 3 || word(plan + 1) != head - 3 + 3 * count) return 4;
     uint8_t number = shape_number(shape_in(plan));
-    return number != 0 ? number : faults_number(shape_in(plan), plan + 9, plan + size);
+    if (number == 0) number = weights_number(weights_in(plan));
+    return number != 0 ? number : faults_number(shape_in(plan), plan + head, plan + size);
 }
 
 static int entry_good(nafthurm_shape s, size_t source, const uint8_t *entry) {
@@ -169,9 +181,12 @@ static void lose_fault(model_plan *plan, int node, int kind) {
 }
 
 void read_plan(model_plan *plan, const uint8_t *bytes) {
-    *plan = (model_plan){.shape = shape_in(bytes)};
-    for (size_t i = 0; i < word(bytes + 7); i++) lose_fault(plan, (int)word(bytes + 9 + 3 * i), bytes[11 + 3 * i]);
+    size_t head = head_size(bytes[0]);
+    *plan = (model_plan){.shape = shape_in(bytes), .weights = weights_in(bytes)};
+    for (size_t i = 0; i < word(bytes + head - 2); i++) lose_fault(plan, (int)word(bytes + head + 3 * i), bytes[head + 2 + 3 * i]);
 }
+
+int apart(const model_plan *plan, int from, int to) { return distance(plan->shape, plan->weights, from, to); }
 
 /* Puts the nodes that the leg can come to next; false where a dead link leads there. */
 static int go_on(const model_plan *plan, int node, int target, int mode, uint8_t *seen, int *todo, int *count) {
@@ -217,19 +232,32 @@ static void try_via(const model_plan *plan, int source, int via, int destination
     }
 }
 
+static int by_via(const model_plan *plan, int source, int via, int destination) { return apart(plan, source, via) + apart(plan, via, destination); }
+
 static choice first_of_length(const model_plan *plan, int source, int destination, int length) {
     choice best = {0, -1, 0};
-    if (distance(plan->shape, source, destination) == length) try_direct(plan, source, destination, &best);
+    if (apart(plan, source, destination) == length) try_direct(plan, source, destination, &best);
     if (best.kind == 0) return best; /* no choice of this length is earlier */
     for (int via = 0; via < nodes_of(plan->shape); via++)
-        if (via != source && via != destination && distance(plan->shape, source, via) + distance(plan->shape, via, destination) == length)
-            try_via(plan, source, via, destination, &best);
+        if (via != source && via != destination && by_via(plan, source, via, destination) == length) try_via(plan, source, via, destination, &best);
     return best;
+}
+
+enum { LENGTH_MOST = 720 };
+
+/* The next length that a choice has, above this one. */
+static int next_length(const model_plan *plan, int source, int destination, int length) {
+    int next = LENGTH_MOST + 1;
+    for (int via = 0; via < nodes_of(plan->shape); via++) {
+        int longer = by_via(plan, source, via, destination);
+        if (longer > length && longer < next) next = longer;
+    }
+    return next;
 }
 
 nafthurm_planned first_choice(const model_plan *plan, int source, int destination) {
     if (source == destination) return (nafthurm_planned){{0, 0, 0}, 0};
-    for (int length = distance(plan->shape, source, destination); length <= 90; length++) {
+    for (int length = apart(plan, source, destination); length <= LENGTH_MOST; length = next_length(plan, source, destination, length)) {
         choice found = first_of_length(plan, source, destination, length);
         if (found.kind >= 0) return (nafthurm_planned){{0, (uint8_t)found.kind, (uint16_t)found.via}, (uint16_t)length};
     }

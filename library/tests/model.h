@@ -1,4 +1,4 @@
-/* What document 01 says, told plainly and from the bytes alone: the tests hold the library to it. Slow, and meant to be read. */
+/* What document 01 says, with weights, told plainly and from the bytes alone: the tests hold the library to it. Slow, and meant to be read. */
 #ifndef MODEL_H
 #define MODEL_H
 
@@ -17,7 +17,9 @@ int stride(nafthurm_shape s, int dim);
 /* The node over the link, or -1 where there is none. */
 int over(nafthurm_shape s, int node, int direction);
 
-int distance(nafthurm_shape s, int from, int to);
+/* By hops, as a useful hop and half a ring are judged; and by weights, as lengths and the order are. */
+int hops(nafthurm_shape s, int from, int to);
+int distance(nafthurm_shape s, nafthurm_weights w, int from, int to);
 
 /* Whether a leg to the target, deterministic if `mode` is not 0, may take the direction. */
 int leg_allows(nafthurm_shape s, int node, int target, int mode, int direction);
@@ -26,6 +28,9 @@ int leg_allows(nafthurm_shape s, int node, int target, int mode, int direction);
 
 uint8_t shape_number(nafthurm_shape s);
 uint8_t packet_number(nafthurm_shape s, nafthurm_packet packet);
+
+/* Where the first fault stands in a plan sheet of this version; 9 also for versions that there are not. */
+size_t head_size(int version);
 
 int fault_exists(nafthurm_shape s, size_t node, int kind);
 uint8_t plan_number(const uint8_t *plan, size_t size);
@@ -51,11 +56,15 @@ nafthurm_walked model_walk(nafthurm_shape s, nafthurm_packet packet, const uint8
 /* An accepted plan: bit d of lost[n] for a dead link that leaves node n in direction d. */
 typedef struct {
     nafthurm_shape shape;
+    nafthurm_weights weights;
     uint8_t dead[4096];
     uint8_t lost[4096];
 } model_plan;
 
 void read_plan(model_plan *plan, const uint8_t *bytes);
+
+/* The distance of two nodes of the plan. */
+int apart(const model_plan *plan, int from, int to);
 
 /* Whether no walk that the leg's mode allows crosses a dead link. */
 int leg_clear(const model_plan *plan, int from, int target, int mode);

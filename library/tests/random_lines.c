@@ -145,7 +145,7 @@ static void listing_line(void) {
 
 static void plan_line(void) {
     nafthurm_shape s = plan_for_reading();
-    switch (below(5)) {
+    switch (below(6)) {
     case 0:
         say("masks"), say_plan();
         break;
@@ -156,6 +156,9 @@ static void plan_line(void) {
     case 2:
         say("dead"), say_plan();
         say(" node=%d direction=%d", any_node(nodes_of(s)), ONE_OF(0, 1, 2, 3, 4, 5, 6));
+        break;
+    case 3:
+        say("weights"), say_plan();
         break;
     default: say("plan"), say_plan(); break;
     }

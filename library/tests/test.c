@@ -1,4 +1,4 @@
-/* Document 01's worked machine W and its edges, through the C interface; sizes of the forms, and the stack that each call uses. */
+/* Document 01's worked machine W and its edges, and a machine with weights, through the C interface; sizes of the forms, and the stack that each call uses. */
 #include "lent.h"
 #include "nafthurm.h"
 
@@ -11,6 +11,9 @@ static const uint8_t W_SHEET[] = {
     0x01, 0x00, 0x2C, 0x00, 0x00, 0x00, 0x08,
     0x00, 0x01, 0x03, 0x00, 0x04, 0x00, 0x02, 0x02, 0x00, 0x03, 0x00, 0x05, 0x02, 0x00, 0x04, 0x00, 0x06, 0x02, 0x00, 0x03,
     0x00, 0x09, 0x02, 0x00, 0x04, 0x00, 0x0A, 0x02, 0x00, 0x03, 0x00, 0x0D, 0x02, 0x00, 0x0C, 0x00, 0x0E, 0x02, 0x00, 0x03};
+
+/* W with another dead link, 3 X+, and of version 2: X weighs 3. */
+static const uint8_t WEIGHED[] = {0x02, 0x00, 0x0C, 0x04, 0x04, 0x01, 0x03, 0x03, 0x01, 0x01, 0x00, 0x01, 0x00, 0x03, 0x00};
 
 static lent plan, sheet, out, work, directions;
 
@@ -44,6 +47,7 @@ static uint8_t plan_check(const uint8_t *bytes, size_t size) {
 
 static void forms(void) {
     HOLD(sizeof(nafthurm_shape) == 4);
+    HOLD(sizeof(nafthurm_weights) == 3);
     HOLD(sizeof(nafthurm_leg) == 4);
     HOLD(sizeof(nafthurm_packet) == 12);
     HOLD(sizeof(nafthurm_route) == 4);
@@ -72,6 +76,89 @@ static void worked_pairs(void) {
     is_refused(pair(one, sizeof one, 0, 0), 10);
 }
 
+/* By hops the route from 0 to 3 is by 1; with weights it is by 4. */
+static void weighed_pairs(void) {
+    const uint8_t by_hops[] = {1, 0, 9, 4, 4, 1, 3, 0, 1, 0, 3, 0};
+    is_route(pair(by_hops, sizeof by_hops, 0, 3), 3, 1, 3);
+    is_route(pair(WEIGHED, sizeof WEIGHED, 0, 3), 3, 4, 5);
+    is_route(pair(WEIGHED, sizeof WEIGHED, 0, 1), 0, 0, 3);
+    is_route(pair(WEIGHED, sizeof WEIGHED, 0, 0), 0, 0, 0);
+    is_refused(pair(WEIGHED, sizeof WEIGHED, 0, 16), 9);
+    is_refused(pair(WEIGHED, 11, 0, 1), 1);
+
+    uint8_t far[] = {2, 0, 9, 16, 16, 16, 0, 8, 8, 8, 0, 0};
+    is_route(pair(far, sizeof far, 0, 4095), 0, 0, 360);
+    far[9] = 9;
+    is_refused(pair(far, sizeof far, 0, 4095), 16);
+}
+
+static int are_weights(const uint8_t *bytes, size_t size, int x, int y, int z) {
+    lend(&plan, bytes, size);
+    nafthurm_weights w = nafthurm_plan_weights(plan.bytes, plan.size);
+    check_kept(&plan);
+    return w.x == x && w.y == y && w.z == z;
+}
+
+/* Each weight at its edges, also that of the absent dimension Z; 16 after 6 and before 7; sheets of 9 to 12 bytes. */
+static void weighed_plans(void) {
+    HOLD(plan_check(WEIGHED, sizeof WEIGHED) == 0);
+    HOLD(are_weights(WEIGHED, sizeof WEIGHED, 3, 1, 1));
+    HOLD(are_weights(W, sizeof W, 1, 1, 1));
+    HOLD(are_weights(W, sizeof W - 1, 0, 0, 0));
+    uint8_t bytes[sizeof WEIGHED];
+    for (int dim = 0; dim < 3; dim++)
+        for (int weight = 0; weight < 256; weight++) {
+            memcpy(bytes, WEIGHED, sizeof bytes);
+            bytes[7 + dim] = (uint8_t)weight;
+            HOLD(plan_check(bytes, sizeof bytes) == (weight >= 1 && weight <= 8 ? 0 : 16));
+            HOLD(are_weights(bytes, sizeof bytes, 0, 0, 0) == (weight < 1 || weight > 8));
+        }
+    bytes[12] = 255;
+    HOLD(plan_check(bytes, sizeof bytes) == 16);
+    bytes[9] = 8;
+    HOLD(plan_check(bytes, sizeof bytes) == 7);
+    bytes[6] = 4, bytes[9] = 9;
+    HOLD(plan_check(bytes, sizeof bytes) == 6);
+    uint8_t small[] = {2, 0, 9, 4, 4, 1, 3, 1, 1, 1, 0, 0};
+    HOLD(plan_check(small, 12) == 0 && plan_check(small, 11) == 1 && plan_check(small, 9) == 1);
+    small[0] = 3;
+    HOLD(plan_check(small, 12) == 2 && plan_check(small, 11) == 2 && plan_check(small, 9) == 2 && plan_check(small, 8) == 1);
+}
+
+/* 256 faults are accepted and 257 are not, in a sheet of either version. */
+static void many_faults(uint8_t version) {
+    size_t head = version == 2 ? 12 : 9;
+    uint8_t many[NAFTHURM_PLAN_BYTES + 3] = {version, 0, 0, 16, 16, 16, 7, 1, 2, 3};
+    for (size_t count = 256; count <= 257; count++) {
+        size_t size = head + 3 * count;
+        many[1] = (uint8_t)((size - 3) >> 8), many[2] = (uint8_t)(size - 3);
+        many[head - 2] = (uint8_t)(count >> 8), many[head - 1] = (uint8_t)count;
+        for (size_t i = 0; i < count; i++) {
+            uint8_t *fault = many + head + 3 * i;
+            fault[0] = (uint8_t)(i >> 8), fault[1] = (uint8_t)i, fault[2] = 0;
+        }
+        HOLD(plan_check(many, size) == (count == 256 ? 0 : 3));
+    }
+}
+
+/* The sheet written back into outputs of every length. */
+static void written_back(const uint8_t *bytes, size_t size) {
+    lend(&plan, bytes, size);
+    for (size_t room = 0; room < size + 8; room++) {
+        lend_filled(&out, 0xEE, room);
+        nafthurm_written w = nafthurm_plan_write_back(plan.bytes, plan.size, out.bytes, out.size);
+        if (room < size) {
+            HOLD(w.number == 12 && w.size == 0);
+            check_kept(&out);
+            continue;
+        }
+        HOLD(w.number == 0 && w.size == size && memcmp(out.bytes, bytes, size) == 0);
+        for (size_t i = size; i < room; i++) HOLD(out.bytes[i] == 0xEE);
+        check_around(&out);
+    }
+    check_kept(&plan);
+}
+
 static void worked_plans(void) {
     HOLD(plan_check(W, sizeof W) == 0);
     HOLD(plan_check(W, 0) == 1);
@@ -84,13 +171,10 @@ static void worked_plans(void) {
     none[3] = 2;
     HOLD(plan_check(none, sizeof none) == 6);
 
-    uint8_t many[NAFTHURM_PLAN_BYTES + 3] = {1, 0, 0, 16, 16, 16, 7};
-    for (int count = 256; count <= 257; count++) {
-        many[1] = (uint8_t)((6 + 3 * count) >> 8), many[2] = (uint8_t)(6 + 3 * count);
-        many[7] = (uint8_t)(count >> 8), many[8] = (uint8_t)count;
-        for (int i = 0; i < count; i++) many[9 + 3 * i] = (uint8_t)(i >> 8), many[10 + 3 * i] = (uint8_t)i, many[11 + 3 * i] = 0;
-        HOLD(plan_check(many, (size_t)(9 + 3 * count)) == (count == 256 ? 0 : 3));
-    }
+    many_faults(1);
+    many_faults(2);
+    written_back(W, sizeof W);
+    written_back(WEIGHED, sizeof WEIGHED);
 
     lend(&plan, W, sizeof W);
     nafthurm_shape shape = nafthurm_plan_shape(plan.bytes, plan.size);
@@ -99,18 +183,6 @@ static void worked_plans(void) {
         HOLD(!nafthurm_dead_node(plan.bytes, plan.size, node));
         for (uint8_t d = 0; d < 8; d++)
             HOLD(nafthurm_dead_link(plan.bytes, plan.size, node, d) == ((node == 0 && d == 0) || (node == 1 && d == 1)));
-    }
-    for (size_t room = 0; room < 20; room++) {
-        lend_filled(&out, 0xEE, room);
-        nafthurm_written w = nafthurm_plan_write_back(plan.bytes, plan.size, out.bytes, out.size);
-        if (room < sizeof W) {
-            HOLD(w.number == 12 && w.size == 0);
-            check_kept(&out);
-            continue;
-        }
-        HOLD(w.number == 0 && w.size == sizeof W && memcmp(out.bytes, W, sizeof W) == 0);
-        for (size_t i = sizeof W; i < room; i++) HOLD(out.bytes[i] == 0xEE);
-        check_around(&out);
     }
     check_kept(&plan);
 }
@@ -236,6 +308,7 @@ static void all_sheets_of(const uint8_t *bytes, size_t size) {
 
 static void worked_all_sheets(void) {
     all_sheets_of(W, sizeof W);
+    all_sheets_of(WEIGHED, sizeof WEIGHED);
     const uint8_t sound[] = {1, 0, 6, 3, 2, 1, 1, 0, 0}, ends_dead[] = {1, 0, 15, 3, 3, 1, 2, 0, 3, 0, 0, 3, 0, 4, 0, 0, 8, 3};
     all_sheets_of(sound, sizeof sound);
     all_sheets_of(ends_dead, sizeof ends_dead);
@@ -267,6 +340,12 @@ static void worked_listing(void) {
     memcpy(input + 2, W, sizeof W);
     is_listing(input, sizeof input,
                "0 16 1\n0 0 - 0\n1 3 4 3\n2 2 3 2\n3 0 - 1\n4 0 - 1\n5 2 4 2\n6 2 3 3\n7 0 - 2\n8 0 - 2\n9 2 4 3\n10 2 3 4\n11 0 - 3\n12 0 - 1\n13 2 12 2\n14 2 3 3\n15 0 - 2\n");
+    uint8_t weighed[2 + sizeof WEIGHED] = {0, 0};
+    memcpy(weighed + 2, WEIGHED, sizeof WEIGHED);
+    is_listing(weighed, sizeof weighed,
+               "0 16 1\n0 0 - 0\n1 0 - 3\n2 2 1 6\n3 3 4 5\n4 0 - 1\n5 0 - 4\n6 2 1 7\n7 2 4 4\n8 0 - 2\n9 0 - 5\n10 2 1 8\n11 2 4 5\n12 0 - 1\n13 0 - 4\n14 2 1 7\n15 2 12 4\n");
+    weighed[9] = 9;
+    is_listing(weighed, sizeof weighed, "refused 16\n");
     is_listing(input, 1, "refused 1\n");
     is_listing(input, 9, "refused 1\n");
     is_listing(input, sizeof input - 1, "refused 4\n");
@@ -326,37 +405,50 @@ static int same_packet(nafthurm_packet a, nafthurm_packet b) {
     return a.node == b.node && a.left == b.left;
 }
 
-/* From the source to each destination, step by step, by the lowest and by the highest direction allowed. */
-static void worked_packets(void) {
-    lend(&plan, W, sizeof W);
-    nafthurm_shape shape = nafthurm_plan_shape(plan.bytes, plan.size);
-    for (uint16_t d = 0; d < 16; d++)
-        for (int highest = 0; highest < 2; highest++) {
-            nafthurm_planned p = nafthurm_pair(plan.bytes, plan.size, 0, d);
-            nafthurm_packet packet = nafthurm_new_packet(0, d, p.route), first = packet;
-            HOLD(nafthurm_packet_check(shape, packet) == 0);
-            uint8_t taken[50];
-            size_t hops = 0;
-            for (int tried = 0; tried < 6;) {
-                uint8_t direction = (uint8_t)(highest ? 5 - tried : tried);
-                nafthurm_stepped s = nafthurm_step(shape, packet, direction);
-                if (s.number == 15) {
-                    HOLD(same_packet(s.packet, packet));
-                    tried++;
-                    continue;
-                }
-                HOLD(s.number == 0);
-                HOLD(!nafthurm_dead_link(plan.bytes, plan.size, packet.node, direction));
-                packet = s.packet, taken[hops++] = direction, tried = 0;
-                HOLD(hops <= p.length);
-            }
-            HOLD(packet.node == d && hops == p.length);
-            lend(&directions, taken, hops);
-            nafthurm_walked w = nafthurm_walk(shape, first, directions.bytes, directions.size);
-            HOLD(w.number == 0 && w.ending == NAFTHURM_ARRIVED && w.hops == hops);
-            HOLD(same_packet(w.packet, hops == 0 ? first : packet));
-            check_kept(&directions);
+static size_t weight_of(uint8_t direction) {
+    nafthurm_weights w = nafthurm_plan_weights(plan.bytes, plan.size);
+    return direction < 2 ? w.x : direction < 4 ? w.y : w.z;
+}
+
+/* Under the lent plan from 0 to the destination, step by step, by the lowest or by the highest direction allowed: its hops weigh the route's length. */
+static void packet_to(nafthurm_shape shape, uint16_t destination, int highest) {
+    nafthurm_planned p = nafthurm_pair(plan.bytes, plan.size, 0, destination);
+    nafthurm_packet packet = nafthurm_new_packet(0, destination, p.route), first = packet;
+    HOLD(nafthurm_packet_check(shape, packet) == 0);
+    uint8_t taken[50];
+    size_t hops = 0, length = 0;
+    for (int tried = 0; tried < 6;) {
+        uint8_t direction = (uint8_t)(highest ? 5 - tried : tried);
+        nafthurm_stepped s = nafthurm_step(shape, packet, direction);
+        if (s.number == 15) {
+            HOLD(same_packet(s.packet, packet));
+            tried++;
+            continue;
         }
+        HOLD(s.number == 0);
+        HOLD(!nafthurm_dead_link(plan.bytes, plan.size, packet.node, direction));
+        packet = s.packet, taken[hops++] = direction, tried = 0;
+        length += weight_of(direction);
+        HOLD(length <= p.length);
+    }
+    HOLD(packet.node == destination && length == p.length);
+    lend(&directions, taken, hops);
+    nafthurm_walked w = nafthurm_walk(shape, first, directions.bytes, directions.size);
+    HOLD(w.number == 0 && w.ending == NAFTHURM_ARRIVED && w.hops == hops);
+    HOLD(same_packet(w.packet, hops == 0 ? first : packet));
+    check_kept(&directions);
+}
+
+static void packets_of(const uint8_t *bytes, size_t size) {
+    lend(&plan, bytes, size);
+    for (uint16_t d = 0; d < 16; d++)
+        for (int highest = 0; highest < 2; highest++) packet_to(nafthurm_plan_shape(plan.bytes, plan.size), d, highest);
+}
+
+static void worked_packets(void) {
+    packets_of(WEIGHED, sizeof WEIGHED);
+    packets_of(W, sizeof W);
+    nafthurm_shape shape = nafthurm_plan_shape(plan.bytes, plan.size);
     /* Endings and refusals of a walk from 0 by 3 to 2. */
     nafthurm_packet packet = {0, {{3, 0}, {2, 0}}, 2};
     const uint8_t run[] = {1, 1, 1};
@@ -402,6 +494,7 @@ static const nafthurm_packet TWO_LEGS = {0, {{7, 0}, {9, 1}}, 2};
 static void no_call(void) { answer = 0; }
 static void calls_plan_check(void) { answer = nafthurm_plan_check(big_plan, NAFTHURM_PLAN_BYTES); }
 static void calls_plan_shape(void) { answer = nafthurm_plan_shape(big_plan, NAFTHURM_PLAN_BYTES).x; }
+static void calls_plan_weights(void) { answer = nafthurm_plan_weights(big_plan, NAFTHURM_PLAN_BYTES).x; }
 static void calls_dead_node(void) { answer = nafthurm_dead_node(big_plan, NAFTHURM_PLAN_BYTES, 9); }
 static void calls_dead_link(void) { answer = nafthurm_dead_link(big_plan, NAFTHURM_PLAN_BYTES, 9, 3); }
 static void calls_plan_write_back(void) { answer = nafthurm_plan_write_back(big_plan, NAFTHURM_PLAN_BYTES, big_out, sizeof big_out).size; }
@@ -437,11 +530,12 @@ static size_t stack_of(void (*call)(void)) {
 
 /* The largest plan: every fault a dead link, no two of one node. */
 static void make_big(void) {
-    const uint8_t head[] = {1, 3, 6, 16, 16, 16, 7, 1, 0};
+    const uint8_t head[] = {2, 3, 9, 16, 16, 16, 7, 1, 1, 3, 1, 0};
     memcpy(big_plan, head, sizeof head);
     for (int i = 0; i < 256; i++) {
+        uint8_t *fault = big_plan + sizeof head + 3 * i;
         int node = 16 * i + i % 16;
-        big_plan[9 + 3 * i] = (uint8_t)(node >> 8), big_plan[10 + 3 * i] = (uint8_t)node, big_plan[11 + 3 * i] = (uint8_t)(i % 3);
+        fault[0] = (uint8_t)(node >> 8), fault[1] = (uint8_t)node, fault[2] = (uint8_t)(i % 3);
     }
     nafthurm_written w = nafthurm_write_sheet(big_plan, NAFTHURM_PLAN_BYTES, 1, big_sheet, sizeof big_sheet);
     HOLD(w.number == 0);
@@ -449,8 +543,8 @@ static void make_big(void) {
 }
 
 static void stack_use(void) {
-    void (*small[])(void) = {calls_plan_check, calls_plan_shape, calls_dead_node, calls_dead_link, calls_plan_write_back, calls_sheet_check,
-                             calls_sheet_write_back, calls_lookup, calls_lookup_route, calls_packet_check, calls_step, calls_walk};
+    void (*small[])(void) = {calls_plan_check, calls_plan_shape, calls_plan_weights, calls_dead_node, calls_dead_link, calls_plan_write_back,
+                             calls_sheet_check, calls_sheet_write_back, calls_lookup, calls_lookup_route, calls_packet_check, calls_step, calls_walk};
     make_big();
     size_t without = stack_of(no_call), most = 0;
     for (size_t i = 0; i < sizeof small / sizeof *small; i++) {
@@ -473,12 +567,14 @@ int main(int count, char **words) {
     if (count > 1 && strcmp(words[1], "--stack") == 0) return stack_use(), 0;
     forms();
     worked_pairs();
+    weighed_pairs();
     worked_plans();
+    weighed_plans();
     worked_sheet();
     worked_all_sheets();
     worked_listing();
     worked_lookups();
     worked_packets();
-    puts("W and its edges are as document 01 has them");
+    puts("W and its edges are as document 01 has them, and a machine with weights goes by weight");
     return 0;
 }

@@ -1,8 +1,11 @@
-//! Document 01's worked machine W and its edges.
+//! Document 01's worked machine W and its edges, and a machine with weights.
 use nafthurm::Mode::{Adaptive, Deterministic};
 use nafthurm::*;
 
 const W: [u8; 12] = [1, 0, 9, 4, 4, 1, 3, 0, 1, 0, 0, 0];
+
+/// W with another dead link, 3 X+, and of version 2: X weighs 3.
+const WEIGHED: [u8; 15] = [2, 0, 12, 4, 4, 1, 3, 3, 1, 1, 0, 1, 0, 3, 0];
 
 fn sheet_of_w() -> Vec<u8> {
     let mut out = [0xEE; 60];
@@ -26,6 +29,21 @@ fn pairs() {
     assert_eq!(route(&[1, 0, 9, 5, 1, 1, 1, 0, 1, 0, 0, 0], 0, 1), Ok((Route::Via(3, Adaptive, Adaptive), 4)));
     assert_eq!(route(&[1, 0, 9, 2, 1, 1, 0, 0, 1, 0, 0, 0], 0, 1), Err(Refused(11)));
     assert_eq!(route(&[1, 0, 9, 1, 1, 1, 0, 0, 1, 0, 0, 3], 0, 0), Err(Refused(10)));
+}
+
+#[test]
+fn weights() {
+    assert_eq!(route(&[1, 0, 9, 4, 4, 1, 3, 0, 1, 0, 3, 0], 0, 3), Ok((Route::Via(1, Adaptive, Deterministic), 3)));
+    assert_eq!(route(&WEIGHED, 0, 3), Ok((Route::Via(4, Adaptive, Deterministic), 5)));
+    assert_eq!(route(&[2, 0, 9, 16, 16, 16, 0, 8, 8, 8, 0, 0], 0, 4095), Ok((Route::Direct(Adaptive), 360)));
+    assert_eq!(route(&[2, 0, 9, 16, 16, 16, 0, 8, 8, 9, 0, 0], 0, 4095), Err(Refused(16)));
+    assert_eq!(plan_weights(&WEIGHED), Weights { x: 3, y: 1, z: 1 });
+    assert_eq!(plan_weights(&W), Weights { x: 1, y: 1, z: 1 });
+    assert_eq!(plan_weights(&WEIGHED[..11]), Weights { x: 0, y: 0, z: 0 });
+    assert_eq!(plan_check(&WEIGHED[..11]), Err(Refused(1)));
+    let mut out = [0xEE; 16];
+    assert_eq!(plan_write_back(&WEIGHED, &mut out), Ok(15));
+    assert_eq!((&out[..15], out[15]), (&WEIGHED[..], 0xEE));
 }
 
 #[test]

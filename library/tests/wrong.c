@@ -23,12 +23,21 @@ static int count_of(const uint8_t *plan, size_t plan_size) { return nodes_of(naf
 
 /* ---- Plan sheets ---- */
 
-static int rises(const uint8_t *plan, size_t at) { return at == 9 || memcmp(plan + at - 3, plan + at, 3) < 0; }
+static int rises(const uint8_t *plan, size_t at) { return at == head_size(plan[0]) || memcmp(plan + at - 3, plan + at, 3) < 0; }
+
+static size_t fault_count(const uint8_t *plan) { return word(plan + head_size(plan[0]) - 2); }
+
+/* Whether a weight of a dimension of at least this extent is outside 1 to `most`. */
+static int bad_weight(const uint8_t *plan, int extent, int most) {
+    for (int dim = 0; plan[0] == 2 && dim < 3; dim++)
+        if (plan[3 + dim] >= extent && (plan[7 + dim] < 1 || plan[7 + dim] > most)) return 1;
+    return 0;
+}
 
 /* Where the first fault stands that does not exist; the size where there is none. */
 static size_t absent_at(const uint8_t *plan, size_t plan_size) {
     nafthurm_shape s = {plan[3], plan[4], plan[5], plan[6]};
-    size_t at = 9;
+    size_t at = head_size(plan[0]);
     while (at < plan_size && fault_exists(s, word(plan + at), plan[at + 2])) at += 3;
     return at;
 }
@@ -37,14 +46,27 @@ AROUND(uint8_t, nafthurm_plan_check, const uint8_t *plan, size_t plan_size) {
     uint8_t number = __real_nafthurm_plan_check(plan, plan_size);
     if (wrong(1) && number == 8 && absent_at(plan, plan_size) < plan_size) return 7;       /* 7 of any fault before 8 of any */
     if (wrong(2) && number == 7 && !rises(plan, absent_at(plan, plan_size))) return 8;     /* 8 before 7 at one fault */
-    if (wrong(3) && number == 0 && word(plan + 7) == 256) return 3;                        /* 256 faults are too many */
-    if (wrong(4) && number == 3 && word(plan + 7) == 257) return 8;                        /* and 257 are not */
+    if (wrong(3) && number == 0 && fault_count(plan) == 256) return 3;                     /* 256 faults are too many */
+    if (wrong(4) && number == 3 && fault_count(plan) == 257) return 8;                     /* and 257 are not */
     if (wrong(5) && number == 3 && word(plan + 1) != plan_size - 3) return 4;              /* 4 before 3 */
-    if (wrong(6) && number == 1 && plan_size > 0 && plan[0] != 1) return 2;                /* 2 before 1 */
+    if (wrong(6) && number == 1 && plan_size > 0 && plan[0] != 1 && plan[0] != 2) return 2; /* 2 before 1 */
     if (wrong(7) && number == 5 && plan[6] > 7) return 6;                                  /* 6 before 5 */
-    if (wrong(8) && number == 4 && plan_size == 9 + 3 * word(plan + 7)) return 0;          /* the length field is not looked at */
+    if (wrong(8) && number == 4 && plan_size == head_size(plan[0]) + 3 * fault_count(plan)) return 0; /* the length field is not looked at */
     if (wrong(9) && number == 6 && (plan[6] & 127) < 8) return 0;                          /* the last spare bit may be set */
+    if (wrong(66) && number == 16 && !bad_weight(plan, 0, 9)) return 0;                    /* 9 is accepted as a weight */
+    if (wrong(67) && number == 16 && !bad_weight(plan, 2, 8)) return 0;                    /* weights of absent dimensions are not judged */
+    if (wrong(68) && number == 16 && absent_at(plan, plan_size) < plan_size) return 7;     /* 16 after 7 */
+    if (wrong(69) && number == 6 && bad_weight(plan, 0, 8)) return 16;                     /* 16 before 6 */
+    if (wrong(70) && number == 1 && plan_size == 11 && plan[0] == 2) return 4;             /* 11 bytes are enough for version 2 */
+    if (wrong(71) && number == 2 && plan_size < 12) return 1;                              /* 12 bytes are asked of any version */
     return number;
+}
+
+AROUND(nafthurm_weights, nafthurm_plan_weights, const uint8_t *plan, size_t plan_size) {
+    nafthurm_weights w = __real_nafthurm_plan_weights(plan, plan_size);
+    if (wrong(72)) return (nafthurm_weights){w.x, w.z, w.y};
+    if (wrong(73) && w.x == 0) return (nafthurm_weights){1, 1, 1}; /* of a sheet that is declined */
+    return w;
 }
 
 AROUND(bool, nafthurm_dead_link, const uint8_t *plan, size_t plan_size, uint16_t node, uint8_t direction) {
@@ -68,7 +90,11 @@ AROUND(nafthurm_written, nafthurm_plan_write_back, const uint8_t *plan, size_t p
 static int deterministic_would_do(const uint8_t *plan, uint16_t source, uint16_t destination, int length) {
     static model_plan model;
     read_plan(&model, plan);
-    return distance(model.shape, source, destination) == length && leg_clear(&model, source, destination, 1);
+    return apart(&model, source, destination) == length && leg_clear(&model, source, destination, 1);
+}
+
+static int route_hops(nafthurm_shape s, nafthurm_route route, uint16_t source, uint16_t destination) {
+    return route.kind < 2 ? hops(s, source, destination) : hops(s, source, route.via) + hops(s, route.via, destination);
 }
 
 AROUND(nafthurm_planned, nafthurm_pair, const uint8_t *plan, size_t plan_size, uint16_t source, uint16_t destination) {
@@ -84,6 +110,9 @@ AROUND(nafthurm_planned, nafthurm_pair, const uint8_t *plan, size_t plan_size, u
     if (wrong(19) && p.length > 30) return (nafthurm_planned){{11, 11, 0}, 0};
     if (wrong(20) && p.route.kind == 2 && deterministic_would_do(plan, source, destination, p.length)) p.route.kind = 1, p.route.via = 0; /* vias before modes */
     if (wrong(21) && p.route.kind == 2 && p.route.via == 0) p.route.kind = 0; /* via 0 taken for none */
+    if (wrong(74)) p.length = (uint16_t)route_hops(nafthurm_plan_shape(plan, plan_size), p.route, source, destination);
+    if (wrong(75)) p.length &= 255;
+    if (wrong(76) && p.length > 511) p.length = 511;
     return p;
 }
 

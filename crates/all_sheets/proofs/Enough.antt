@@ -39,7 +39,7 @@ always-run p from w o r v t l h g ok k = g .answer ∙ always-written p ok (leng
 
 -- A run of a plan that was read into a buffer, with the sets to all boards.
 pub input-run :
-    (plan p : List ℕ) (size from : ℕ) (w o : List ℕ) (r : Answer) (t : List ℕ) → 778 ≤ length plan → 2097152 ≤ length w → 20482 ≤ length o → p ≡ take size plan →
+    (plan p : List ℕ) (size from : ℕ) (w o : List ℕ) (r : Answer) (t : List ℕ) → 781 ≤ length plan → 2097152 ≤ length w → 20482 ≤ length o → p ≡ take size plan →
     (Filled p w → RunWritten p from w o r w t) →
     (Filled (take size plan) w → RunWritten (take size plan) from w o r w t) × (((whole : List ℕ) → ReadInto whole plan size → Filled (take size plan) w → RunWritten whole from w o r w t)
     × (Filled (take size plan) w → planError large (take size plan) ≡ 0 → from < boards (take size plan) → r ≡ Written (runOf (take size plan) from (length o))))

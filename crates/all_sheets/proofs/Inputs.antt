@@ -34,26 +34,26 @@ module _ (p : List ℕ) (from words : ℕ) (h : planError large p ≡ 0 → ⊥)
   unfolding runOutput
   declined-output o = rw declined-passes
 
--- So the first 778 bytes of an input, one more than the longest plan sheet, decide both.
+-- So the first 781 bytes of an input, one more than the longest plan sheet, decide both.
 module _ (from words : ℕ) where
-  long : (k : ℕ) (p : List ℕ) → 778 ≤ k → k ≤ length p → planError large (take k p) ≡ 0 → ⊥
+  long : (k : ℕ) (p : List ℕ) → 781 ≤ k → k ≤ length p → planError large (take k p) ≡ 0 → ⊥
   long k p h l = long-declined large (take k p) (omega (arith, length-take k p))
 
-  answer-decided : (room : ℕ) → DecidedBy 778 (λ p. runAnswer p from words room)
+  answer-decided : (room : ℕ) → DecidedBy 781 (λ p. runAnswer p from words room)
   answer-decided room k p h l =
       declined-answer (take k p) from words (long k p h l) room
       ∙ ap Refused (error-decided large k p h l)
       ∙ sym (declined-answer p from words (long-declined large p (omega arith)) room)
 
-  output-decided : (o : List ℕ) → DecidedBy 778 (λ p. runOutput p from words o)
+  output-decided : (o : List ℕ) → DecidedBy 781 (λ p. runOutput p from words o)
   output-decided o k p h l = declined-output (take k p) from words (long k p h l) o ∙ sym (declined-output p from words (long-declined large p (omega arith)) o)
 
-  passes-decided : DecidedBy 778 (λ p. passes p from words)
+  passes-decided : DecidedBy 781 (λ p. passes p from words)
   passes-decided k p h l = declined-passes (take k p) from words (long k p h l) ∙ sym (declined-passes p from words (long-declined large p (omega arith)))
 
-module _ (plan p : List ℕ) (size from : ℕ) (w o : List ℕ) (r : Answer) (v t : List ℕ) (buffer : 778 ≤ length plan) (read : p ≡ take size plan) where
-  same : {A : Type 0} (f : List ℕ → A) → DecidedBy 778 f → (whole : List ℕ) → ReadInto whole plan size → f (take size plan) ≡ f whole
-  same f d whole i = read-whole 778 f d whole plan size buffer i
+module _ (plan p : List ℕ) (size from : ℕ) (w o : List ℕ) (r : Answer) (v t : List ℕ) (buffer : 781 ≤ length plan) (read : p ≡ take size plan) where
+  same : {A : Type 0} (f : List ℕ → A) → DecidedBy 781 f → (whole : List ℕ) → ReadInto whole plan size → f (take size plan) ≡ f whole
+  same f d whole i = read-whole 781 f d whole plan size buffer i
 
   pub of-input :
       RunWritten p from w o r v t →
@@ -73,7 +73,7 @@ pub sets-input : (p q w : List ℕ) (r : Bool) (v : List ℕ) → p ≡ q → Se
 sets-input p q w r v read g = rw read at g
 
 pub of-sets :
-    (plan p : List ℕ) (size from : ℕ) (w o : List ℕ) (r : Answer) (t : List ℕ) → 778 ≤ length plan → p ≡ take size plan → (Filled p w → RunWritten p from w o r w t) →
+    (plan p : List ℕ) (size from : ℕ) (w o : List ℕ) (r : Answer) (t : List ℕ) → 781 ≤ length plan → p ≡ take size plan → (Filled p w → RunWritten p from w o r w t) →
     (Filled (take size plan) w → RunWritten (take size plan) from w o r w t) × ((whole : List ℕ) → ReadInto whole plan size → Filled (take size plan) w → RunWritten whole from w o r w t)
 of-sets plan p size from w o r t buffer read g =
     let run : Filled (take size plan) w → RunWritten p from w o r w t = λ f. g (rw read f) in

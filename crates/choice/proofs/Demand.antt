@@ -7,7 +7,7 @@ use mathlib.Core.List.{List, [], _∷_}
 use mathlib.Core.Option.{Option, none, some}
 use lib.ListN.{length}
 use Rattle.numbers.specs.Numbers.{noClearChoice}
-use Rattle.theory.specs.Machine.{endBy}
+use Rattle.theory.specs.Machine.{endBy, sumBy, hopsOf}
 use Rattle.theory.proofs.Plan.{ReadAs, planned-is}
 use Rattle.shape.specs.declared.shape.Shape.{Shape}
 use Rattle.machine.specs.Number.{nodeCount}
@@ -20,13 +20,17 @@ use Rattle.packet.specs.Packet.{stored, WellStored}
 use Rattle.packet.specs.New.{legsTo, newPacket}
 use Rattle.packet.proofs.Stored.{stored-laws}
 use Rattle.packet.proofs.New.{new-is}
-use Rattle.plan.specs.Layout.{shapeOf, faultsOf}
+use Rattle.weights.specs.declared.weights.Weights.{Weights}
+use Rattle.weights.specs.Weights.{ones}
+use Rattle.weights.specs.Distance.{distance}
+use Rattle.weights.proofs.Laws.{distance-ones}
+use Rattle.plan.specs.Layout.{shapeOf, weightsOf, faultsOf}
 use Rattle.plan.specs.Checks.{Limits, planError}
 use Rattle.dead.specs.Dead.{deadNode}
-use Rattle.choice.specs.Choice.{Choice, mostVias, viasOf, AdmitsIn, choices, legLength, beforeIn}
+use Rattle.choice.specs.Choice.{Choice, mostVias, viasOf, AdmitsIn, choices, lengthFrom, before}
 use Rattle.choice.specs.Answer.{Answer, Given, Refused, answered}
 use Rattle.choice.specs.Outcome.{told, toldAs}
-use Rattle.choice.specs.Pair.{soundIn, routeBy, routeIn, pairError, chosen, pair}
+use Rattle.choice.specs.Pair.{soundIn, farIn, routeBy, routeIn, pairError, chosen, pair}
 use Rattle.choice.specs.Demand.{Tells, PlannedIn, Demand}
 use Rattle.choice.proofs.Lists.{vias-legs}
 use Rattle.choice.proofs.Keys.{leg-inj, before-order}
@@ -55,16 +59,22 @@ chosen-read a (some c) e = record {
 }
 
 -- An admitted choice has one leg to D, or two legs of which the second is to D.
-module _ (s : Shape) (S D : ℕ) (a : Answer) where
-  pub admits-tells : (c : Choice) → AdmitsIn s S D c → a ≡ Given c → Tells s S D a c
+module _ (w : Weights) (s : Shape) (S D : ℕ) (a : Answer) where
+  -- With weights of 1 a length is the hops.
+  length-hops : w ≡ ones → (p : ℕ) (c : Choice) → lengthFrom (distance w s) p c ≡ hopsOf (torus s) p c
+  unfolding sumBy
+  length-hops e p [] = refl
+  length-hops e p (l ∷ ls) = omega (arith, ap (λ v. distance v s p (l .target)) e, distance-ones s p (l .target), length-hops e (l .target) ls)
+
+  pub admits-tells : (c : Choice) → AdmitsIn s S D c → a ≡ Given c → Tells w s S D a c
   unfolding endBy viasOf legsTo told toldAs
   admits-tells [] h e = let z : _≡_ {A = ℕ} 0 1 = ap length (h .self (h .ends)) in absurd (omega arith)
   admits-tells (l ∷ []) h e =
       let last : leg D (l .mode) ≡ l = leg-inj D (l .target) (l .mode) (l .mode) (sym (h .ends)) refl in
-      record { route = Route.Direct (l .mode); legs = ap (λ x. x ∷ []) last; told = rw e; hops = refl }
+      record { route = Route.Direct (l .mode); legs = ap (λ x. x ∷ []) last; told = rw e; hops = λ o. length-hops o S _ }
   admits-tells (l ∷ m ∷ []) h e =
       let last : leg D (m .mode) ≡ m = leg-inj D (m .target) (m .mode) (m .mode) (sym (h .ends)) refl in
-      record { route = Route.Via (l .target) (l .mode) (m .mode); legs = ap (λ x. l ∷ x ∷ []) last; told = rw e; hops = refl }
+      record { route = Route.Via (l .target) (l .mode) (m .mode); legs = ap (λ x. l ∷ x ∷ []) last; told = rw e; hops = λ o. length-hops o S _ }
   admits-tells (l ∷ m ∷ n ∷ ls) h e = let few = h .few in absurd (omega arith)
 
 pub admits-few : (s : Shape) (S D : ℕ) (c : Choice) → AdmitsIn s S D c → length c ≤ suc mostVias
@@ -86,11 +96,11 @@ module _ (L : Limits) (p : List ℕ) (S D : ℕ) (e : planError L p ≡ 0) (hS :
       let to = node-of s D hD in
       let planned =
       planned-is (torus s) (torus-laws s (from .sound)) (stored s) WellStored (stored-laws s (from .sound)) (soundIn p)
-      (beforeIn s S) (before-order (legLength s) S) (AdmitsIn s S D) (choices s S D) (λ c. (admits-lists mostVias (nodeCount s) S D c, lists-admits mostVias (nodeCount s) S D c))
+      (before (farIn p) S) (before-order (farIn p) S) (AdmitsIn s S D) (choices s S D) (λ c. (admits-lists mostVias (nodeCount s) S D c, lists-admits mostVias (nodeCount s) S D c))
       S D (from .below) (admits-inside s S D (to .below)) (λ c h. h .ends)
       (newPacket S) (λ c h. new-is s S c (admits-few s S D c h))
       (a ≡ Refused noClearChoice) (λ c. a ≡ Given c) (chosen-read a (routeIn p S D) is) in
-      record { planned = planned; tells = λ c g. admits-tells s S D a c (planned .routed c g .admitted) g }
+      record { planned = planned; tells = λ c g. admits-tells (weightsOf p) s S D a c (planned .routed c g .admitted) g }
 
   pub demand : Demand L p S D
   demand = found-planned (pair L p S D) pair-chosen

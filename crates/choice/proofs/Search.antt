@@ -15,13 +15,12 @@ use Rattle.machine.specs.declared.leg.Mode.the-variants.{Adaptive, Deterministi
 use Rattle.machine.specs.Number.{nodeCount}
 use Rattle.machine.specs.Hop.{neighbour}
 use Rattle.machine.specs.Torus.{allowedBy, leg, torusBy, torus}
-use Rattle.machine.proofs.Laws.{distance-self}
 use Rattle.machine.proofs.Torus.{torus-by-laws, allowed-by-useful}
-use Rattle.choice.specs.Choice.{Choice, mostVias, legLength}
+use Rattle.choice.specs.Choice.{Choice, mostVias}
 use Rattle.choice.specs.Further.{firstBy}
-use Rattle.choice.specs.Search.{Forced}
+use Rattle.choice.specs.Search.{Forced, Lengths}
 use Rattle.choice.specs.Pair.{routeBy}
-use Rattle.choice.proofs.AtTorus.{leg-triangle, empty-adaptive}
+use Rattle.choice.proofs.AtTorus.{empty-adaptive}
 use Rattle.choice.proofs.Shortest as Shortest
 use Rattle.choice.proofs.Zero as Zero
 use Rattle.choice.proofs.Forced as Modes
@@ -39,33 +38,33 @@ module _ (ties : ℕ → Bool) (s : Shape) (h : shapeError s ≡ 0) (sound : ℕ
       clear-iff (torusBy ties s) (torus-by-laws ties s h) sound (leg t Deterministic) ht p hp .1
       (λ ds w. clear-iff (torusBy ties s) (torus-by-laws ties s h) sound (leg t Adaptive) ht p hp .0 c ds (allows-adaptive t p ds hp ht w))
 
-module _ (s : Shape) (h : shapeError s ≡ 0) (sound : ℕ → ℕ → Bool) (S D : ℕ) (hS : S < nodeCount s) (hD : D < nodeCount s) where
+module _ (far : ℕ → ℕ → ℕ) (s : Shape) (F : Lengths s far) (h : shapeError s ≡ 0) (sound : ℕ → ℕ → Bool) (S D : ℕ) (hS : S < nodeCount s) (hD : D < nodeCount s) where
   -- The leg of the pair S, S is clear.
   pub blocked-apart : clear (torus s) sound (leg D Adaptive) S ≡ false → S ≡ D → ⊥
-  blocked-apart blocked e = let c : clear (torus s) sound (leg D Adaptive) S ≡ true = rw (← e) (empty-adaptive s h sound S D hS hD) in true≢false (sym c ∙ blocked)
+  blocked-apart blocked e = let c : clear (torus s) sound (leg D Adaptive) S ≡ true = rw (← e) (empty-adaptive s h sound S hS) in true≢false (sym c ∙ blocked)
 
   -- v lies between S and D, both its legs are clear and adaptive, and this holds of no lower node.
   pub via-first :
       clear (torus s) sound (leg D Adaptive) S ≡ false →
       (v : ℕ) → v < nodeCount s →
-      clear (torus s) sound (leg v Adaptive) S ≡ true → clear (torus s) sound (leg D Adaptive) v ≡ true → legLength s S v + legLength s v D ≡ legLength s S D →
-      ((u : ℕ) → u < v → clear (torus s) sound (leg u Adaptive) S ≡ true → clear (torus s) sound (leg D Adaptive) u ≡ true → legLength s S u + legLength s u D ≡ legLength s S D → ⊥) →
-      routeBy s sound S D ≡ some (leg v Adaptive ∷ leg D Adaptive ∷ [])
+      clear (torus s) sound (leg v Adaptive) S ≡ true → clear (torus s) sound (leg D Adaptive) v ≡ true → far S v + far v D ≡ far S D →
+      ((u : ℕ) → u < v → clear (torus s) sound (leg u Adaptive) S ≡ true → clear (torus s) sound (leg D Adaptive) u ≡ true → far S u + far u D ≡ far S D → ⊥) →
+      routeBy far s sound S D ≡ some (leg v Adaptive ∷ leg D Adaptive ∷ [])
   unfolding routeBy planned firstBy
   via-first blocked v hv one two between lowest =
-      Zero.via-first (legLength s) (nodeCount s) (distance-self s) (leg-triangle s h) (clear (torus s) sound) mostVias S D hS hD (blocked-apart blocked) blocked (omega arith) v hv one two between lowest
+      Zero.via-first far (nodeCount s) (F .still) (F .triangle) (clear (torus s) sound) mostVias S D hS hD (blocked-apart blocked) blocked (omega arith) v hv one two between lowest
 
   -- There is no such node.
   pub deterministic-first :
       clear (torus s) sound (leg D Adaptive) S ≡ false → clear (torus s) sound (leg D Deterministic) S ≡ true →
-      ((v : ℕ) → v < nodeCount s → clear (torus s) sound (leg v Adaptive) S ≡ true → clear (torus s) sound (leg D Adaptive) v ≡ true → legLength s S v + legLength s v D ≡ legLength s S D → ⊥) →
-      routeBy s sound S D ≡ some (leg D Deterministic ∷ [])
+      ((v : ℕ) → v < nodeCount s → clear (torus s) sound (leg v Adaptive) S ≡ true → clear (torus s) sound (leg D Adaptive) v ≡ true → far S v + far v D ≡ far S D → ⊥) →
+      routeBy far s sound S D ≡ some (leg D Deterministic ∷ [])
   unfolding routeBy planned firstBy
   deterministic-first blocked one no-via =
-      Shortest.deterministic-first (legLength s) (nodeCount s) (distance-self s) (leg-triangle s h) (clear (torus s) sound) mostVias S D hS hD (blocked-apart blocked) one
-      (Zero.none-by-one (legLength s) (nodeCount s) (distance-self s) (leg-triangle s h) (clear (torus s) sound) mostVias S D hS hD (blocked-apart blocked) blocked no-via (omega arith))
+      Shortest.deterministic-first far (nodeCount s) (F .still) (F .triangle) (clear (torus s) sound) mostVias S D hS hD (blocked-apart blocked) one
+      (Zero.none-by-one far (nodeCount s) (F .still) (F .triangle) (clear (torus s) sound) mostVias S D hS hD (blocked-apart blocked) blocked no-via (omega arith))
 
   -- Each leg of the route is adaptive wherever that is clear.
-  pub modes-forced : (c : Choice) → routeBy s sound S D ≡ some c → Forced (clear (torus s) sound) S c
+  pub modes-forced : (c : Choice) → routeBy far s sound S D ≡ some c → Forced (clear (torus s) sound) S c
   unfolding routeBy planned firstBy
-  modes-forced c e = Modes.modes-forced (legLength s) (clear (torus s) sound) mostVias (nodeCount s) S D hD c e
+  modes-forced c e = Modes.modes-forced far (clear (torus s) sound) mostVias (nodeCount s) S D hD c e

@@ -5,14 +5,16 @@ use Rattle.theory.specs.Clear.{every, clearBy, clearIn, clear}
 use Rattle.theory.specs.Choice.{lex, earlier, best}
 use Rattle.theory.specs.Plan.{planned}
 use Rattle.shape.specs.Shape.{shapeError, badExtents, badWraps}
-use Rattle.shape.specs.Axis.{axisDistance, hasLink, place}
+use Rattle.shape.specs.Axis.{axisHops, hasLink, place}
 use Rattle.machine.specs.Number.{nodeCount, numberOf, coordsOf}
-use Rattle.machine.specs.Hop.{dirDim, opposite, link, neighbour, distance, useful, rule, toward, firstDirection}
+use Rattle.machine.specs.Hop.{dirDim, opposite, link, neighbour, hops, useful, rule, toward, firstDirection}
 use Rattle.machine.specs.Node.{isNode}
 use Rattle.machine.specs.Torus.{allowedBy}
+use Rattle.weights.specs.Weights.{badWeights, weightError}
+use Rattle.weights.specs.Distance.{distance}
 use Rattle.sheet.specs.Bytes.{listFrom}
 use Rattle.sheet.specs.Head.{version, lengthField, bytesAfter, lengthIs}
-use Rattle.plan.specs.Layout.{layoutOf, shapeOf, faultCount, faultAt, faultsOf}
+use Rattle.plan.specs.Layout.{layoutOf, shapeOf, weightsBy, faultCount, faultAt, faultsOf}
 use Rattle.plan.specs.Kinds.{kindDim, kindDir}
 use Rattle.plan.specs.Checks.{large, faultGood, faultKey, faultsError, planErrorBy, faultExists}
 use Rattle.plan.specs.Worked.{W}
@@ -26,7 +28,7 @@ use Rattle.choice.specs.Worked.{Worked}
 use Rattle.choice.proofs.Demand.{demand}
 
 pub worked : Worked
-unfolding endBy sumBy every clearBy clearIn clear lex earlier best planned shapeError badExtents badWraps axisDistance hasLink place nodeCount numberOf coordsOf dirDim opposite link neighbour distance useful rule toward firstDirection isNode allowedBy listFrom version lengthField bytesAfter lengthIs layoutOf shapeOf faultCount faultAt faultsOf kindDim kindDir faultGood faultKey faultsError planErrorBy faultExists some namesNode deadNode namesLink names deadLink sound targetsOf viasOf modesOf detsOf keyOf over after direct legsBy misses different kept choicesBy answered told toldAs routeBy pairError pair
+unfolding endBy sumBy every clearBy clearIn clear lex earlier best planned shapeError badExtents badWraps axisHops hasLink place nodeCount numberOf coordsOf dirDim opposite link neighbour hops useful rule toward firstDirection isNode allowedBy listFrom version lengthField bytesAfter lengthIs layoutOf shapeOf weightsBy badWeights weightError distance faultCount faultAt faultsOf kindDim kindDir faultGood faultKey faultsError planErrorBy faultExists some namesNode deadNode namesLink names deadLink sound targetsOf viasOf modesOf detsOf keyOf over after direct legsBy misses different kept choicesBy answered told toldAs routeBy pairError pair
 worked = record {
   w-0-1 = refl;
   w-0-2 = refl;
@@ -44,5 +46,5 @@ worked = record {
 
 -- What the theorem assumes holds of W, 0 and 1.
 pub w-demand : Demand large W 0 1
-unfolding shapeError badExtents badWraps nodeCount isNode listFrom version lengthField bytesAfter lengthIs layoutOf shapeOf faultCount faultAt faultsOf kindDim kindDir coordsOf hasLink link dirDim faultGood faultKey faultsError planErrorBy faultExists some namesNode deadNode
+unfolding shapeError badExtents badWraps nodeCount isNode listFrom version lengthField bytesAfter lengthIs layoutOf shapeOf weightsBy badWeights weightError distance faultCount faultAt faultsOf kindDim kindDir coordsOf hasLink link dirDim faultGood faultKey faultsError planErrorBy faultExists some namesNode deadNode
 w-demand = demand large W 0 1 refl refl refl refl refl

@@ -12,7 +12,6 @@ use Rattle.machine.specs.declared.leg.Leg.{Leg}
 use Rattle.machine.specs.declared.leg.Mode.{Mode}
 use Rattle.machine.specs.declared.leg.Mode.the-variants.{Adaptive, Deterministic}
 use Rattle.machine.specs.Number.{nodeCount}
-use Rattle.machine.specs.Hop.{distance}
 use Rattle.machine.specs.Torus.{leg}
 
 abbrev pub Choice : Type 0
@@ -46,7 +45,7 @@ unfoldable pub detsOf : Choice → ℕ
 detsOf [] = 0
 detsOf (l ∷ ls) = det (l .mode) + detsOf ls
 
--- Where the legs from p end. `far p t`: the length of a leg from p to t. Length = the sum of the legs' distances.
+-- Where the legs from p end. `far p t`: the distance from p to t, by weights. Length = the sum of the legs' distances.
 abbrev pub endFrom : ℕ → Choice → ℕ
 endFrom p c = endBy (λ l. l .target) p c
 
@@ -118,15 +117,6 @@ unfoldable pub choicesBy : ℕ → ℕ → ℕ → ℕ → List Choice
 choicesBy k n S D = cond (eqb S D) ((leg D Adaptive ∷ []) ∷ []) (kept S (legsBy k n D))
 
 -- On the machine of a shape.
-abbrev pub legLength : Shape → ℕ → ℕ → ℕ
-legLength s = distance s
-
-abbrev pub lengthOf : Shape → ℕ → Choice → ℕ
-lengthOf s S c = lengthFrom (legLength s) S c
-
-abbrev pub beforeIn : Shape → ℕ → Choice → Choice → Bool
-beforeIn s S = before (legLength s) S
-
 abbrev pub AdmitsIn : Shape → ℕ → ℕ → Choice → Type 0
 AdmitsIn s S D = Admits mostVias (nodeCount s) S D
 

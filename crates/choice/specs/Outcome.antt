@@ -1,10 +1,9 @@
 -- An answer as the code's enum: the route with its length from the source S, or the number.
 use Prim.Native.Nat.{ℕ}
 use mathlib.Core.List.{[], _∷_}
-use Rattle.shape.specs.declared.shape.Shape.{Shape}
 use Rattle.packet.specs.declared.route.Route.{Route}
 use Rattle.choice.specs.declared.outcome.Outcome.{Outcome}
-use Rattle.choice.specs.Choice.{lengthOf}
+use Rattle.choice.specs.Choice.{lengthFrom}
 use Rattle.choice.specs.Answer.{Answer, Given, Refused}
 
 -- With this length. Lists of no legs, or of over two, are never admitted and read as a refusal with the number 0.
@@ -16,9 +15,9 @@ toldAs len (Given (l ∷ m ∷ n ∷ ls)) = Outcome.Refused 0
 toldAs len (Refused e) = Outcome.Refused e
 
 -- Its length is the sum of the legs' distances.
-unfoldable pub told : Shape → ℕ → Answer → Outcome
-told s S (Given c) = toldAs (lengthOf s S c) (Given c)
-told s S (Refused e) = Outcome.Refused e
+unfoldable pub told : (ℕ → ℕ → ℕ) → ℕ → Answer → Outcome
+told far S (Given c) = toldAs (lengthFrom far S c) (Given c)
+told far S (Refused e) = Outcome.Refused e
 
 -- 0, or the number of the refusal.
 abbrev pub outcomeNumber : Outcome → ℕ

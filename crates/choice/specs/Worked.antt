@@ -4,12 +4,11 @@ use mathlib.Core.Path.{_≡_}
 use mathlib.Core.List.{List, [], _∷_}
 use Rattle.machine.specs.declared.leg.Mode.the-variants.{Adaptive, Deterministic}
 use Rattle.packet.specs.declared.route.Route.{Route}
-use Rattle.plan.specs.Layout.{shapeOf}
 use Rattle.plan.specs.Checks.{large, planError}
 use Rattle.plan.specs.Worked.{W}
 use Rattle.choice.specs.declared.outcome.Outcome.{Outcome}
 use Rattle.choice.specs.Outcome.{told}
-use Rattle.choice.specs.Pair.{pair}
+use Rattle.choice.specs.Pair.{farIn, pair}
 
 -- A sheet of extents a, b, 1 and this wrap byte: with no fault, or with one of node 0.
 abbrev pub sheet : ℕ → ℕ → ℕ → List ℕ
@@ -20,7 +19,7 @@ fault a b wrap kind = 1 ∷ 0 ∷ 9 ∷ a ∷ b ∷ 1 ∷ wrap ∷ 0 ∷ 1 ∷ 0
 
 -- What planning a pair tells: the route with its length, or the number.
 abbrev pub tells : List ℕ → ℕ → ℕ → Outcome
-tells p S D = told (shapeOf p) S (pair large p S D)
+tells p S D = told (farIn p) S (pair large p S D)
 
 pub record Worked : Type 0 where
   pub w-0-1 : tells W 0 1 ≡ Outcome.Given (Route.Via 4 Adaptive Deterministic) 3

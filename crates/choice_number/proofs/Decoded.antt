@@ -8,10 +8,9 @@ use lib.Arith.{digits-div, digits-mod}
 use lib.Dec.{eqb}
 use borrow.Author.Tests.{le-leb, lt-leb}
 use Rattle.numbers.specs.Numbers.{noClearChoice}
-use Rattle.shape.specs.declared.shape.Shape.{Shape}
 use Rattle.machine.specs.declared.leg.Mode.{Mode}
 use Rattle.machine.specs.declared.leg.Mode.the-variants.{Adaptive, Deterministic}
-use Rattle.choice.specs.Choice.{Choice, viasOf, det, detsOf, legLength, lengthOf}
+use Rattle.choice.specs.Choice.{Choice, viasOf, det, detsOf, lengthFrom}
 use Rattle.choice.specs.OneVia.{OneVia, viaOf, firstDet}
 use Rattle.choice.specs.Answer.{Given, Refused}
 use Rattle.choice.specs.Outcome.{told, toldAs}
@@ -25,7 +24,7 @@ record Places (k len dets vias node first : ℕ) : Type 0 where
   vias-is : k % detsPlace / viasPlace ≡ vias
   node-is : k % viasPlace / nodePlace ≡ node
   first-is : k % nodePlace ≡ first
-  clear-is : len < 256 → k < unclear
+  clear-is : len < 1024 → k < unclear
 
 places : (k len d c v f : ℕ) → Low d c v f → k ≡ digits len d c v f → Places k len d c v f
 places k len d c v f h e =
@@ -52,12 +51,12 @@ second-back Adaptive Deterministic = refl
 second-back Deterministic Adaptive = refl
 second-back Deterministic Deterministic = refl
 
-pub decoded-none : (s : Shape) (S k : ℕ) → unclear ≤ k → decoded k ≡ told s S (Refused noClearChoice)
+pub decoded-none : (far : ℕ → ℕ → ℕ) (S k : ℕ) → unclear ≤ k → decoded k ≡ told far S (Refused noClearChoice)
 unfolding decoded told toldAs
-decoded-none s S k h = rw (le-leb unclear k h)
+decoded-none far S k h = rw (le-leb unclear k h)
 
-module _ (s : Shape) (S D : ℕ) where
-  of-choice : (k : ℕ) (c : Choice) → OneVia S D c → lengthOf s S c < 256 → Places k (lengthOf s S c) (detsOf c) (length (viasOf c)) (viaOf c) (firstDet c) → decoded k ≡ told s S (Given c)
+module _ (far : ℕ → ℕ → ℕ) (S D : ℕ) where
+  of-choice : (k : ℕ) (c : Choice) → OneVia S D c → lengthFrom far S c < 1024 → Places k (lengthFrom far S c) (detsOf c) (length (viasOf c)) (viaOf c) (firstDet c) → decoded k ≡ told far S (Given c)
   unfolding decoded told toldAs detsOf viasOf viaOf firstDet
   of-choice k [] o l p = let some = o .some in absurd (omega arith)
   of-choice k (x ∷ []) o l p = rw (lt-leb unclear k (p .clear-is l), p .vias-is, p .first-is, p .len-is, mode-back (x .mode))
@@ -66,6 +65,6 @@ module _ (s : Shape) (S D : ℕ) where
       rw (lt-leb unclear k (p .clear-is l), p .vias-is, p .first-is, p .len-is, dets, p .node-is, mode-back (x .mode), second-back (x .mode) (y .mode))
   of-choice k (x ∷ y ∷ z ∷ zs) o l p = let few = o .few in absurd (omega arith)
 
-  pub decoded-number : (k : ℕ) (c : Choice) → OneVia S D c → viaOf c < 4096 → lengthOf s S c < 256 → k ≡ keyNumber (legLength s) S c → decoded k ≡ told s S (Given c)
+  pub decoded-number : (k : ℕ) (c : Choice) → OneVia S D c → viaOf c < 4096 → lengthFrom far S c < 1024 → k ≡ keyNumber far S c → decoded k ≡ told far S (Given c)
   unfolding keyNumber
   decoded-number k c o h l e = of-choice k c o l (places k _ _ _ _ _ (low-places S D c o h) e)

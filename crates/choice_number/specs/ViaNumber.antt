@@ -6,7 +6,6 @@ use Rattle.shape.specs.declared.shape.Shape.{Shape}
 use Rattle.machine.specs.declared.leg.Leg.{Leg}
 use Rattle.machine.specs.declared.leg.Mode.the-variants.{Adaptive, Deterministic}
 use Rattle.machine.specs.Torus.{leg, torus}
-use Rattle.choice.specs.Choice.{legLength}
 use Rattle.search.specs.Number.{viaNumber}
 
 -- Of the via v from S to D, for any lengths of legs and any notion of clear legs; and on the machine of a shape.
@@ -14,5 +13,5 @@ unfoldable pub viaNumberBy : (ℕ → ℕ → ℕ) → (Leg → ℕ → Bool) �
 viaNumberBy far clear S D v =
     viaNumber (far S v + far v D) v (clear (leg v Adaptive) S) (clear (leg v Deterministic) S) (clear (leg D Adaptive) v) (clear (leg D Deterministic) v)
 
-abbrev pub viaNumberIn : Shape → (ℕ → ℕ → Bool) → ℕ → ℕ → ℕ → ℕ
-viaNumberIn s sound S D v = viaNumberBy (legLength s) (clear (torus s) sound) S D v
+abbrev pub viaNumberIn : (ℕ → ℕ → ℕ) → Shape → (ℕ → ℕ → Bool) → ℕ → ℕ → ℕ → ℕ
+viaNumberIn far s sound S D v = viaNumberBy far (clear (torus s) sound) S D v

@@ -3,6 +3,7 @@ use choice::Outcome;
 use machine::leg::Mode;
 use numbers::NO_CLEAR_CHOICE;
 use packet::Route;
+use search::best::UNCLEAR;
 ghost use mathlib.Core.Path.{_≡_};
 ghost use Rattle.choice_number.specs.KeyNumber.{modeOf, decoded};
 
@@ -17,9 +18,6 @@ const VIAS: u32 = 8192;
 
 // of the via's node number. The first leg's mode has the last place.
 const NODE: u32 = 2;
-
-// Above every choice's number: a length that no choice has.
-const UNCLEAR: u32 = 16777216;
 
 fn mode(adaptive: bool) -> Mode
     ensures { λ r. ⌜ r ≡ modeOf adaptive ⌝ }

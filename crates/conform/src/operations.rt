@@ -32,6 +32,9 @@ fn plan_operation(name: &[u8], given: &[u8], out: &mut [u8], at: usize) -> usize
     if same(name, b"plan") {
         return plan_cases::answer_read(given, out, at);
     }
+    if same(name, b"weights") {
+        return plan_cases::answer_weights(given, out, at);
+    }
     if same(name, b"planback") {
         return plan_cases::answer_back(given, out, at);
     }

@@ -5,3 +5,4 @@ pub mod lists;
 pub mod nodes;
 pub mod shapes;
 pub mod sheets;
+pub mod threes;

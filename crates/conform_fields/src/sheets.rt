@@ -8,7 +8,7 @@ use text::field;
 use text::hex;
 use text::hex::Count;
 
-// The longest plan sheet that a case gives: one of 256 faults has 777 bytes.
+// The longest plan sheet that a case gives: one of version 2 with 256 faults has 780 bytes.
 pub const PLAN_BYTES: usize = 1024;
 
 // The longest route sheet that a case gives: one of 4,095 entries has 20,482 bytes.

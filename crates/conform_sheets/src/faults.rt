@@ -13,6 +13,7 @@ use text::part::before;
 use text::part::part;
 use text::put;
 use text::scan;
+use weights::Weights;
 
 // A struct, since no enum can hold an array, which a plan has.
 pub struct PlanField {
@@ -35,9 +36,11 @@ fn fault(s: &[u8]) -> FaultField {
     FaultField::Fault(Fault { node, kind })
 }
 
-fn empty(shape: Shape) -> Plan {
+fn empty(version: u8, shape: Shape, weights: Weights) -> Plan {
     Plan {
+        version: version,
         shape: shape,
+        weights: weights,
         count: 0,
         faults: [Fault { node: 0, kind: 0 }; 256],
     }
@@ -63,9 +66,9 @@ fn field_of(readable: bool, plan: Plan) -> PlanField {
     }
 }
 
-// A plan of this shape with the faults of `s`.
-pub fn with_faults(shape: Shape, s: &[u8]) -> PlanField {
-    let mut plan = empty(shape);
+// A plan of this version, shape and weights with the faults of `s`.
+pub fn with_faults(version: u8, shape: Shape, weights: Weights, s: &[u8]) -> PlanField {
+    let mut plan = empty(version, shape, weights);
     if same(s, b"-") {
         return field_of(true, plan);
     }

@@ -1,4 +1,4 @@
-// The operations `plan`, `planback` and `planwrite`: a plan sheet is read, written back, or written from a plan's value. Lent output is filled with EE.
+// The operations `plan`, `weights`, `planback` and `planwrite`: a plan sheet is read, or its weights alone, it is written back, or written from a plan's value. Lent output is filled with EE.
 use crate::faults::put_faults;
 use crate::faults::with_faults;
 use conform_fields::answers::put_number;
@@ -10,15 +10,22 @@ use conform_fields::shapes::read_shape;
 use conform_fields::sheets::PLAN_BYTES;
 use conform_fields::sheets::read_plan;
 use conform_fields::sheets::read_room;
+use conform_fields::threes::Three;
+use conform_fields::threes::put_three;
+use conform_fields::threes::read_three;
 use plan::Answer;
+use plan::weights_of;
 use plan::write_back;
 use plan_value::read;
 use plan_value::write;
+use text::decimal;
+use text::decimal::Byte;
 use text::decimal::Number;
 use text::field;
 use text::hex::Count;
 use text::part::front;
 use text::part::front_mut;
+use weights::Weights;
 
 // Writes the answer to a line `plan plan=..`.
 pub fn answer_read(line: &[u8], out: &mut [u8], at: usize) -> usize {
@@ -39,6 +46,16 @@ pub fn answer_read(line: &[u8], out: &mut [u8], at: usize) -> usize {
     }
 }
 
+// Writes the answer to a line `weights plan=..`.
+pub fn answer_weights(line: &[u8], out: &mut [u8], at: usize) -> usize {
+    let mut bytes = [0u8; PLAN_BYTES];
+    let Count::Bytes(count) = read_plan(line, &mut bytes) else {
+        return unreadable(out, at);
+    };
+    let weights = weights_of(front(&bytes, count));
+    put_three(out, at, b"weights=", weights.x, weights.y, weights.z)
+}
+
 // Writes the answer to a line `planback plan=.. room=..`.
 pub fn answer_back(line: &[u8], out: &mut [u8], at: usize) -> usize {
     let mut bytes = [0u8; PLAN_BYTES];
@@ -54,13 +71,20 @@ pub fn answer_back(line: &[u8], out: &mut [u8], at: usize) -> usize {
     put_written(out, at, written, lent)
 }
 
-// Writes the answer to a line `planwrite extents=.. wrap=.. faults=.. room=..`.
+// Writes the answer to a line `planwrite version=.. extents=.. wrap=.. weights=.. faults=.. room=..`.
 pub fn answer_write(line: &[u8], out: &mut [u8], at: usize) -> usize {
     let mut output = [0xEEu8; PLAN_BYTES];
+    let Byte::Value(version) = decimal::read_byte(field::value(line, b"version=")) else {
+        return unreadable(out, at);
+    };
     let ShapeField::Shape(shape) = read_shape(line) else {
         return unreadable(out, at);
     };
-    let given = with_faults(shape, field::value(line, b"faults="));
+    let Three::Bytes(x, y, z) = read_three(field::value(line, b"weights=")) else {
+        return unreadable(out, at);
+    };
+    let weights = Weights { x, y, z };
+    let given = with_faults(version, shape, weights, field::value(line, b"faults="));
     if !given.readable {
         return unreadable(out, at);
     }

@@ -15,13 +15,15 @@ use Rattle.shape.proofs.Shapes.{sound}
 use Rattle.machine.specs.declared.leg.Mode.{Mode}
 use Rattle.machine.specs.declared.leg.Mode.the-variants.{Adaptive, Deterministic}
 use Rattle.machine.specs.Number.{nodeCount, coordsOf, Inside}
-use Rattle.machine.specs.Hop.{distance, along}
-use Rattle.machine.specs.ByCoords.{distanceAt}
+use Rattle.machine.specs.Hop.{hops, along}
 use Rattle.machine.proofs.Numbers.{inside}
-use Rattle.machine.proofs.ByCoords.{distance-at}
-use Rattle.plan.specs.Layout.{shapeOf}
+use Rattle.weights.specs.declared.weights.Weights.{Weights}
+use Rattle.weights.specs.Steps.{distanceAtAnswer}
+use Rattle.weights.proofs.ByCoords.{distance-at, answer-at}
+use Rattle.plan.specs.Layout.{shapeOf, weightsOf}
 use Rattle.plan.specs.Checks.{large, planError}
 use Rattle.choice.specs.declared.outcome.Outcome.{Outcome}
+use Rattle.choice.specs.Pair.{farIn}
 use Rattle.legs.specs.Between.{between}
 use Rattle.legs.proofs.Dims.{all-of, of-all}
 use Rattle.legs.proofs.Box.{box}
@@ -36,7 +38,7 @@ use Rattle.masks.proofs.Tables.{gathered}
 use Rattle.search.specs.FirstVia.{isVia, FirstOf}
 use Rattle.first_clear.specs.Rows.{Put}
 use Rattle.first_clear.specs.Known.{isClear, OfPlan, IsAt, FromSet, ToBetween, BothTo, IsBox, NearLosses, nearRoute, viaRoute, oneRoute, routeTold, isGiven, LowestVia, Blocked, Near, Apart, Nearing, NearMasks, NearDone, Short, Faring, FarMasks, BySets, ByLosses}
-use Rattle.first_clear.proofs.Knowing.{shape-ok, to-within, put-set, both-between}
+use Rattle.first_clear.proofs.Knowing.{weights-ok, shape-ok, to-within, put-set, both-between}
 use Rattle.first_clear.proofs.FirstSteps.{near-by, box-lowest}
 use Rattle.first_clear.proofs.ShortStep.{one-near, two-near}
 
@@ -59,7 +61,7 @@ is-box p s S D a t h e from to b q v l = (λ i. way .1 (all-of f (sym product �
     f : Dim → Bool
     f d = between (extentOf (shapeOf p) d) (wrappedIn (shapeOf p) d) (along (shapeOf p) v d) (along (shapeOf p) S d) (along (shapeOf p) D d)
 
-    way : (distance (shapeOf p) S v + distance (shapeOf p) v D ≡ distance (shapeOf p) S D) ↔ ((d : Dim) → f d ≡ true)
+    way : (hops (shapeOf p) S v + hops (shapeOf p) v D ≡ hops (shapeOf p) S D) ↔ ((d : Dim) → f d ≡ true)
     way = box (shapeOf p) ok S v D (from .node) l (to .node)
 
     made : b ≡ boxOf (shapeOf p) (coordsOf (shapeOf p) S) (coordsOf (shapeOf p) D)
@@ -70,8 +72,11 @@ is-box p s S D a t h e from to b q v l = (λ i. way .1 (all-of f (sym product �
         ap (λ (k : Box). inProduct (k .x) (k .y) (k .z) (coordsOf (shapeOf p) v)) made
         ∙ box-inside (shapeOf p) ok (coordsOf (shapeOf p) S) (coordsOf (shapeOf p) D) (coordsOf (shapeOf p) v) (inside (shapeOf p) ok S (from .node)) (inside (shapeOf p) ok D (to .node)) (inside (shapeOf p) ok v l)
 
-pub length-is : (p : List ℕ) (s : Shape) (S D : ℕ) (a t : Coords) (len : ℕ) → s ≡ shapeOf p → IsAt p S a → IsAt p D t → len ≡ distanceAt s a t → len ≡ distance (shapeOf p) S D
-length-is p s S D a t len e from to q = q ∙ rw (e, from .at, to .at) (sym (distance-at (shapeOf p) S D))
+pub length-is :
+    (p : List ℕ) (w : Weights) (s : Shape) (S D : ℕ) (a t : Coords) (len : ℕ) → planError large p ≡ 0 → w ≡ weightsOf p → s ≡ shapeOf p → IsAt p S a → IsAt p D t → len ≡ distanceAtAnswer w s a t →
+    len ≡ farIn p S D
+length-is p w s S D a t len h ew e from to q =
+    q ∙ rw (ew, e, from .at, to .at) (answer-at (weightsOf p) (weights-ok p h) (shapeOf p) _ _ ∙ distance-at (weightsOf p) (shapeOf p) S D)
 
 pub small-at : (p : List ℕ) (n : ℕ) (c : Coords) → planError large p ≡ 0 → IsAt p n c → (c .x < 16) × (c .y < 16) × (c .z < 16)
 small-at p n c h a =
@@ -97,9 +102,9 @@ gathered-at p s D t table masks h to m from full g = let k = small-at p D t h to
 
 -- ---- the first steps
 pub apart-by :
-    (p : List ℕ) (s : Shape) (S D : ℕ) (a t : Coords) (len : ℕ) (straight : Bool) → planError large p ≡ 0 → s ≡ shapeOf p → IsAt p S a → IsAt p D t → len ≡ distanceAt s a t →
+    (p : List ℕ) (w : Weights) (s : Shape) (S D : ℕ) (a t : Coords) (len : ℕ) (straight : Bool) → planError large p ≡ 0 → w ≡ weightsOf p → s ≡ shapeOf p → IsAt p S a → IsAt p D t → len ≡ distanceAtAnswer w s a t →
     isClear p Adaptive S D ≡ false → straight ≡ isClear p Deterministic S D → Apart p S D len straight
-apart-by p s S D a t len straight h e from end el direct one = record { plan = h; source = from .node; target = end .node; distance = length-is p s S D a t len e from end el; direct = direct; one = one }
+apart-by p w s S D a t len straight h ew e from end el direct one = record { plan = h; source = from .node; target = end .node; distance = length-is p w s S D a t len h ew e from end el; direct = direct; one = one }
 
 pub near-of :
     (p : List ℕ) (s : Shape) (S D len bx by bz : ℕ) (fa : List ℕ) (straight : Bool) (to : List ℕ) (at : ℕ) → Nearing p s S D len bx by bz fa straight to at →
@@ -107,19 +112,19 @@ pub near-of :
 near-of p s S D len bx by bz fa straight to at g via first =
     near-by p S D len straight (g .apart) via (box-lowest p s Adaptive Adaptive S D bx by bz fa to at (g .shape) (g .apart .plan) (g .room) via first (g .box) (g .out) (g .back))
 
-module _ (p : List ℕ) (s : Shape) (S D : ℕ) (a t : Coords) (near : List ℕ) (n : ℕ) (ends fa : List ℕ) (straight : Bool) (run : List ℕ) (g : NearMasks p s S D a t near n ends fa straight run) (b : Box) (eb : b ≡ boxOf s a t) where
+module _ (p : List ℕ) (w : Weights) (s : Shape) (S D : ℕ) (a t : Coords) (near : List ℕ) (n : ℕ) (ends fa : List ℕ) (straight : Bool) (run : List ℕ) (g : NearMasks p w s S D a t near n ends fa straight run) (b : Box) (eb : b ≡ boxOf s a t) where
   box-of : IsBox p S D (b .x) (b .y) (b .z)
   box-of = is-box p s S D a t (g .of-plan .plan) (g .of-plan .shape) (g .source) (g .target) b eb
 
-  module _ (len : ℕ) (el : len ≡ distanceAt s a t) where
+  module _ (len : ℕ) (el : len ≡ distanceAtAnswer w s a t) where
     apart-here : Apart p S D len straight
-    apart-here = apart-by p s S D a t len straight (g .of-plan .plan) (g .of-plan .shape) (g .source) (g .target) el (g .direct) (g .one)
+    apart-here = apart-by p w s S D a t len straight (g .of-plan .plan) (g .weights) (g .of-plan .shape) (g .source) (g .target) el (g .direct) (g .one)
 
     module _ (set new : List ℕ) (are : Are (clearIn (b .x) (b .y) (b .z) ends near n) set) (put : Put 0 set 256 run new) where
       between-new : ToBetween p Adaptive S D new 0
-      between-new v l w =
+      between-new v l e =
           put-set (shapeOf p) (shape-ok p (g .of-plan .plan)) 0 set run new put v l
-          ∙ within-box p s (g .words) (g .count) near n S D t (b .x) (b .y) (b .z) Adaptive ends set (g .of-plan) (g .standing) (g .target) box-of (g .ended) are v l w
+          ∙ within-box p s (g .words) (g .count) near n S D t (b .x) (b .y) (b .z) Adaptive ends set (g .of-plan) (g .standing) (g .target) box-of (g .ended) are v l e
 
       pub box-nearing : Nearing p s S D len (b .x) (b .y) (b .z) fa straight new 0
       box-nearing = record { apart = apart-here; shape = g .of-plan .shape; box = box-of; out = g .out; back = between-new; room = omega (arith, g .room, put .rest .long) }
@@ -147,12 +152,12 @@ module _ (p : List ℕ) (s : Shape) (S D len bx by bz : ℕ) (fa fd to : List �
       (sym (ap isGiven e) ∙ sym eb ∙ none)
 
 -- ---- the last steps, by the masks
-module _ (p : List ℕ) (s : Shape) (words : List ℕ) (count S D : ℕ) (a t : Coords) (near : List ℕ) (n : ℕ) (adaptive deterministic fa fd run : List ℕ)
-    (g : FarMasks p s words count S D a t near n adaptive deterministic fa fd run) where
+module _ (p : List ℕ) (w : Weights) (s : Shape) (words : List ℕ) (count S D : ℕ) (a t : Coords) (near : List ℕ) (n : ℕ) (adaptive deterministic fa fd run : List ℕ)
+    (g : FarMasks p w s words count S D a t near n adaptive deterministic fa fd run) where
   abbrev k : OfPlan p s words count
   k = g .ends .of-plan
 
-  pub masks-short : (b : Box) → b ≡ boxOf s a t → (len : ℕ) → len ≡ distanceAt s a t → (set new : List ℕ) → Are (clearIn (b .x) (b .y) (b .z) deterministic near n) set → Put 256 set 256 run new →
+  pub masks-short : (b : Box) → b ≡ boxOf s a t → (len : ℕ) → len ≡ distanceAtAnswer w s a t → (set new : List ℕ) → Are (clearIn (b .x) (b .y) (b .z) deterministic near n) set → Put 256 set 256 run new →
       Short p s S D len (b .x) (b .y) (b .z) fa fd new 0
   masks-short b eb len el set new are put =
       let box = is-box p s S D a t (k .plan) (k .shape) (g .source) (g .ends .node) b eb in
@@ -161,7 +166,7 @@ module _ (p : List ℕ) (s : Shape) (words : List ℕ) (count S D : ℕ) (a t : 
         shape = k .shape;
         source = g .source .node;
         target = g .ends .node .node;
-        distance = length-is p s S D a t len (k .shape) (g .source) (g .ends .node) el;
+        distance = length-is p w s S D a t len (k .plan) (g .weights) (k .shape) (g .source) (g .ends .node) el;
         box = box;
         adaptive = g .out;
         deterministic = g .straight;
@@ -169,14 +174,14 @@ module _ (p : List ℕ) (s : Shape) (words : List ℕ) (count S D : ℕ) (a t : 
         blocked = g .blocked;
       }
 
-  pub masks-faring : (new : List ℕ) → BothTo p D new 0 → Faring p s S D a t fa fd new 0
-  masks-faring new both = record { plan = k .plan; shape = k .shape; source = g .source; target = g .ends .node; adaptive = g .out; deterministic = g .straight; both = both; blocked = g .blocked .straight }
+  pub masks-faring : (new : List ℕ) → BothTo p D new 0 → Faring p w s S D a t fa fd new 0
+  masks-faring new both = record { plan = k .plan; weights = g .weights; shape = k .shape; source = g .source; target = g .ends .node; adaptive = g .out; deterministic = g .straight; both = both; blocked = g .blocked .straight }
 
 -- ---- one destination
-module _ (p : List ℕ) (s : Shape) (work : List ℕ) (S D : ℕ) (a t : Coords) (fa fd : List ℕ) (straight : Bool) (g : BySets p s work S D a t fa fd straight) where
-  pub sets-nearing : (len : ℕ) (b : Box) → len ≡ distanceAt s a t → b ≡ boxOf s a t → Nearing p s S D len (b .x) (b .y) (b .z) fa straight work (512 * D)
+module _ (p : List ℕ) (w : Weights) (s : Shape) (work : List ℕ) (S D : ℕ) (a t : Coords) (fa fd : List ℕ) (straight : Bool) (g : BySets p w s work S D a t fa fd straight) where
+  pub sets-nearing : (len : ℕ) (b : Box) → len ≡ distanceAtAnswer w s a t → b ≡ boxOf s a t → Nearing p s S D len (b .x) (b .y) (b .z) fa straight work (512 * D)
   sets-nearing len b el eb = record {
-    apart = apart-by p s S D a t len straight (g .plan) (g .shape) (g .source) (g .target) el (g .direct) (g .one);
+    apart = apart-by p w s S D a t len straight (g .plan) (g .weights) (g .shape) (g .source) (g .target) el (g .direct) (g .one);
     shape = g .shape;
     box = is-box p s S D a t (g .plan) (g .shape) (g .source) (g .target) b eb;
     out = g .adaptive;
@@ -184,13 +189,13 @@ module _ (p : List ℕ) (s : Shape) (work : List ℕ) (S D : ℕ) (a t : Coords)
     room = omega (arith, g .both .room);
   }
 
-  pub sets-short : (len : ℕ) (b : Box) → len ≡ distanceAt s a t → b ≡ boxOf s a t → Blocked p S D → Short p s S D len (b .x) (b .y) (b .z) fa fd work (512 * D)
+  pub sets-short : (len : ℕ) (b : Box) → len ≡ distanceAtAnswer w s a t → b ≡ boxOf s a t → Blocked p S D → Short p s S D len (b .x) (b .y) (b .z) fa fd work (512 * D)
   sets-short len b el eb blocked = record {
     plan = g .plan;
     shape = g .shape;
     source = g .source .node;
     target = g .target .node;
-    distance = length-is p s S D a t len (g .shape) (g .source) (g .target) el;
+    distance = length-is p w s S D a t len (g .plan) (g .weights) (g .shape) (g .source) (g .target) el;
     box = is-box p s S D a t (g .plan) (g .shape) (g .source) (g .target) b eb;
     adaptive = g .adaptive;
     deterministic = g .deterministic;
@@ -198,18 +203,19 @@ module _ (p : List ℕ) (s : Shape) (work : List ℕ) (S D : ℕ) (a t : Coords)
     blocked = blocked;
   }
 
-  pub sets-faring : Blocked p S D → Faring p s S D a t fa fd work (512 * D)
-  sets-faring blocked = record { plan = g .plan; shape = g .shape; source = g .source; target = g .target; adaptive = g .adaptive; deterministic = g .deterministic; both = g .both; blocked = blocked .straight }
+  pub sets-faring : Blocked p S D → Faring p w s S D a t fa fd work (512 * D)
+  sets-faring blocked = record { plan = g .plan; weights = g .weights; shape = g .shape; source = g .source; target = g .target; adaptive = g .adaptive; deterministic = g .deterministic; both = g .both; blocked = blocked .straight }
 
-module _ (p : List ℕ) (s : Shape) (words : List ℕ) (count : ℕ) (near : List ℕ) (n : ℕ) (ta td : List ℕ) (S D : ℕ) (a t : Coords) (fa fd : List ℕ) (straight : Bool)
-    (g : ByLosses p s words count near n ta td S D a t fa fd straight) (masks : List ℕ) (gathered : (i : ℕ) → i < 288 → getD masks i 0 ≡ gatherAt ta t i) where
+module _ (p : List ℕ) (w : Weights) (s : Shape) (words : List ℕ) (count : ℕ) (near : List ℕ) (n : ℕ) (ta td : List ℕ) (S D : ℕ) (a t : Coords) (fa fd : List ℕ) (straight : Bool)
+    (g : ByLosses p w s words count near n ta td S D a t fa fd straight) (masks : List ℕ) (gathered : (i : ℕ) → i < 288 → getD masks i 0 ≡ gatherAt ta t i) where
   ended : Ended Adaptive false s t masks
   ended = gathered-at p s D t ta masks (g .of-plan .plan) (g .target) Adaptive false (g .masks) gathered
 
-  pub losses-near : (run : List ℕ) → 512 ≤ length run → NearMasks p s S D a t near n masks fa straight run
+  pub losses-near : (run : List ℕ) → 512 ≤ length run → NearMasks p w s S D a t near n masks fa straight run
   losses-near run room = record {
     words = words;
     count = count;
+    weights = g .weights;
     of-plan = g .of-plan;
     standing = g .standing;
     source = g .source;
@@ -222,8 +228,9 @@ module _ (p : List ℕ) (s : Shape) (words : List ℕ) (count : ℕ) (near : Lis
   }
 
   pub losses-far : (others : List ℕ) → ((i : ℕ) → i < 288 → getD others i 0 ≡ gatherAt td t i) → (r : Outcome) (b : Bool) (run : List ℕ) → NearDone p S D r run → b ≡ isGiven r → b ≡ false →
-      FarMasks p s words count S D a t near n masks others fa fd run
+      FarMasks p w s words count S D a t near n masks others fa fd run
   losses-far others gathers r b run done e left = record {
+    weights = g .weights;
     ends = record { of-plan = g .of-plan; node = g .target; adaptive = ended; deterministic = gathered-at p s D t td others (g .of-plan .plan) (g .target) Deterministic false (g .others) gathers };
     standing = g .standing;
     source = g .source;

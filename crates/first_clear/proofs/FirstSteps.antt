@@ -16,7 +16,7 @@ use Rattle.shape.proofs.Shapes.{count-most}
 use Rattle.machine.specs.declared.leg.Mode.{Mode}
 use Rattle.machine.specs.declared.leg.Mode.the-variants.{Adaptive, Deterministic}
 use Rattle.machine.specs.Number.{nodeCount, coordsOf}
-use Rattle.machine.specs.Hop.{distance}
+use Rattle.machine.specs.Hop.{hops}
 use Rattle.machine.specs.Torus.{leg}
 use Rattle.plan.specs.Layout.{shapeOf}
 use Rattle.plan.specs.Checks.{large, planError}
@@ -24,7 +24,9 @@ use Rattle.packet.specs.declared.route.Route.{Route}
 use Rattle.choice.specs.declared.outcome.Outcome.{Outcome}
 use Rattle.choice.specs.Answer.{Given}
 use Rattle.choice.specs.Outcome.{told, toldAs}
-use Rattle.choice.specs.Pair.{soundIn, chosen}
+use Rattle.choice.specs.Pair.{soundIn, farIn, chosen}
+use Rattle.choice.specs.Search.{Lengths}
+use Rattle.choice.proofs.AtTorus.{far-lengths}
 use Rattle.choice.proofs.Search.{via-first, deterministic-first}
 use Rattle.rows.specs.Rows.{inSet, inProduct}
 use Rattle.search.specs.FirstVia.{hasRows, inAll, isVia, FirstOf}
@@ -35,33 +37,46 @@ pub nodes-few : (s : Shape) → shapeError s ≡ 0 → nodeCount s ≤ 4096
 unfolding nodeCount
 nodes-few s h = count-most s h
 
-pub told-via : (s : Shape) (S D v len : ℕ) (m n : Mode) → distance s S v + distance s v D ≡ len → told s S (Given (leg v m ∷ leg D n ∷ [])) ≡ Outcome.Given (Route.Via v m n) len
+pub told-via : (far : ℕ → ℕ → ℕ) (S D v len : ℕ) (m n : Mode) → far S v + far v D ≡ len → told far S (Given (leg v m ∷ leg D n ∷ [])) ≡ Outcome.Given (Route.Via v m n) len
 unfolding told toldAs sumBy
-told-via s S D v len m n e = ap (Outcome.Given (Route.Via v m n)) (omega arith)
+told-via far S D v len m n e = ap (Outcome.Given (Route.Via v m n)) (omega arith)
 
-told-straight : (s : Shape) (S D len : ℕ) → distance s S D ≡ len → told s S (Given (leg D Deterministic ∷ [])) ≡ Outcome.Given (Route.Direct Deterministic) len
+told-straight : (far : ℕ → ℕ → ℕ) (S D len : ℕ) → far S D ≡ len → told far S (Given (leg D Deterministic ∷ [])) ≡ Outcome.Given (Route.Direct Deterministic) len
 unfolding told toldAs sumBy
-told-straight s S D len e = ap (Outcome.Given (Route.Direct Deterministic)) (omega arith)
+told-straight far S D len e = ap (Outcome.Given (Route.Direct Deterministic)) (omega arith)
 
 -- ---- by the lowest via
 module _ (p : List ℕ) (S D len : ℕ) (straight : Bool) (g : Apart p S D len straight) (via : ℕ) (low : LowestVia p Adaptive Adaptive S D via) where
   ok : shapeError (shapeOf p) ≡ 0
   ok = shape-ok p (g .plan)
 
+  F : Lengths (shapeOf p) (farIn p)
+  F = far-lengths large p (g .plan)
+
+  -- On a shortest way by hops, so by weight, and the other way round.
+  abbrev by-weight : ℕ → Type 0
+  by-weight v = farIn p S v + farIn p v D ≡ farIn p S D
+
+  weighs : (v : ℕ) → v < nodeCount (shapeOf p) → hops (shapeOf p) S v + hops (shapeOf p) v D ≡ hops (shapeOf p) S D → by-weight v
+  weighs v l e = F .shortest S v D (g .source) l (g .target) .1 e
+
+  counts : (v : ℕ) → v < nodeCount (shapeOf p) → by-weight v → hops (shapeOf p) S v + hops (shapeOf p) v D ≡ hops (shapeOf p) S D
+  counts v l e = F .shortest S v D (g .source) l (g .target) .0 e
+
   by-via : via < 4096 → Outcome.Given (Route.Via via Adaptive Adaptive) len ≡ routeTold p S D
   by-via m =
       let f = low .found m in
       let b = f .1 in
-      let route = via-first (shapeOf p) ok (soundIn p) S D (g .source) (g .target) (g .direct) via (f .0) (b .out) (b .back) (b .sum)
-      (λ u lu o k q. low .before u (omega (arith, f .0)) lu (record { out = o; back = k; sum = q })) in
-      sym (told-via (shapeOf p) S D via len Adaptive Adaptive (b .sum ∙ sym (g .distance))) ∙ sym (ap (λ r. told (shapeOf p) S (chosen r)) route)
+      let route = via-first (farIn p) (shapeOf p) F ok (soundIn p) S D (g .source) (g .target) (g .direct) via (f .0) (b .out) (b .back) (weighs via (f .0) (b .sum))
+      (λ u lu o k q. let l : u < nodeCount (shapeOf p) = omega (arith, f .0) in low .before u l lu (record { out = o; back = k; sum = counts u l q })) in
+      sym (told-via (farIn p) S D via len Adaptive Adaptive (weighs via (f .0) (b .sum) ∙ sym (g .distance))) ∙ sym (ap (λ r. told (farIn p) S (chosen r)) route)
 
   directly : 4096 ≤ via → straight ≡ true → Outcome.Given (Route.Direct Deterministic) len ≡ routeTold p S D
   directly m t =
       let few = nodes-few (shapeOf p) ok in
-      let route = deterministic-first (shapeOf p) ok (soundIn p) S D (g .source) (g .target) (g .direct) (sym (g .one) ∙ t)
-      (λ v l o k q. low .before v l (omega arith) (record { out = o; back = k; sum = q })) in
-      sym (told-straight (shapeOf p) S D len (sym (g .distance))) ∙ sym (ap (λ r. told (shapeOf p) S (chosen r)) route)
+      let route = deterministic-first (farIn p) (shapeOf p) F ok (soundIn p) S D (g .source) (g .target) (g .direct) (sym (g .one) ∙ t)
+      (λ v l o k q. low .before v l (omega arith) (record { out = o; back = k; sum = counts v l q })) in
+      sym (told-straight (farIn p) S D len (sym (g .distance))) ∙ sym (ap (λ r. told (farIn p) S (chosen r)) route)
 
   none-of : 4096 ≤ via → straight ≡ false → Blocked p S D
   none-of m t = let few = nodes-few (shapeOf p) ok in record { straight = sym (g .one) ∙ t; ways = λ v l w. low .before v l (omega arith) w }

@@ -19,7 +19,8 @@ use Rattle.machine.specs.declared.leg.Mode.the-variants.{Adaptive, Deterministi
 use Rattle.machine.specs.Number.{nodeCount, coordsOf, Inside}
 use Rattle.machine.specs.Hop.{rule}
 use Rattle.machine.proofs.Numbers.{inside}
-use Rattle.plan.specs.Layout.{shapeOf}
+use Rattle.weights.specs.Weights.{weightError}
+use Rattle.plan.specs.Layout.{shapeOf, weightsOf}
 use Rattle.plan.specs.Checks.{large, torusPlans, planError}
 use Rattle.plan.proofs.Plans.{accepted}
 use Rattle.rows.specs.Bits.{bit, rowOf}
@@ -34,6 +35,9 @@ use Rattle.sets.proofs.Sets.{clear-in}
 use Rattle.search.specs.FirstVia.{hasRows}
 use Rattle.first_clear.specs.Known.{isClear, OfPlan, IsAt, FromSet, ToSet, ToBetween, BothTo, BothBetween}
 use Rattle.first_clear.specs.Rows.{Elsewhere, Put}
+
+pub weights-ok : (p : List ℕ) → planError large p ≡ 0 → weightError (weightsOf p) ≡ 0
+weights-ok p h = accepted torusPlans large p h .weights
 
 pub shape-ok : (p : List ℕ) → planError large p ≡ 0 → shapeError (shapeOf p) ≡ 0
 shape-ok p h = accepted torusPlans large p h .shape

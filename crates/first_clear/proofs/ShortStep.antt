@@ -12,16 +12,17 @@ use Rattle.shape.specs.Shape.{shapeError}
 use Rattle.machine.specs.declared.leg.Mode.{Mode}
 use Rattle.machine.specs.declared.leg.Mode.the-variants.{Adaptive, Deterministic}
 use Rattle.machine.specs.Number.{nodeCount}
-use Rattle.machine.specs.Hop.{rule, distance}
+use Rattle.machine.specs.Hop.{rule, hops}
 use Rattle.machine.specs.Torus.{leg}
-use Rattle.machine.proofs.Laws.{triangle, distance-most}
 use Rattle.plan.specs.Layout.{shapeOf}
 use Rattle.plan.specs.Checks.{large, planError}
 use Rattle.packet.specs.declared.route.Route.{Route}
 use Rattle.choice.specs.declared.outcome.Outcome.{Outcome}
 use Rattle.choice.specs.Choice.{viasOf, det, detsOf}
 use Rattle.choice.specs.OneVia.{viaOf, firstDet}
-use Rattle.choice.specs.Pair.{soundIn}
+use Rattle.choice.specs.Pair.{soundIn, farIn}
+use Rattle.choice.specs.Search.{Lengths}
+use Rattle.choice.proofs.AtTorus.{far-lengths}
 use Rattle.choice.proofs.Search.{adaptive-clear}
 use Rattle.search.specs.Number.{viaNumber}
 use Rattle.choice_number.specs.KeyNumber.{keyNumber}
@@ -33,18 +34,25 @@ use Rattle.first_clear.proofs.Knowing.{shape-ok}
 use Rattle.first_clear.proofs.FirstSteps.{nodes-few, told-via}
 
 -- A longer via's number is not below the numbers of this length.
-number-low : (k len v : ℕ) (a1 d1 a2 d2 : Bool) → k ≤ len → k ≤ 256 → k * 65536 ≤ viaNumber len v a1 d1 a2 d2
+number-low : (k len v : ℕ) (a1 d1 a2 d2 : Bool) → k ≤ len → k ≤ 1024 → k * 65536 ≤ viaNumber len v a1 d1 a2 d2
 unfolding viaNumber
 number-low k len v a1 true a2 true l m = omega arith
 number-low k len v a1 true a2 false l m = omega arith
 number-low k len v a1 false a2 d2 l m = omega arith
 
-module _ (p : List ℕ) (S D len : ℕ) (h : planError large p ≡ 0) (hS : S < nodeCount (shapeOf p)) (hD : D < nodeCount (shapeOf p)) (el : len ≡ distance (shapeOf p) S D) (blocked : Blocked p S D) where
+module _ (p : List ℕ) (S D len : ℕ) (h : planError large p ≡ 0) (hS : S < nodeCount (shapeOf p)) (hD : D < nodeCount (shapeOf p)) (el : len ≡ farIn p S D) (blocked : Blocked p S D) where
   ok : shapeError (shapeOf p) ≡ 0
   ok = shape-ok p h
 
-  short : len ≤ 45
-  short = omega (arith, el, distance-most (shapeOf p) ok S D hS hD)
+  F : Lengths (shapeOf p) (farIn p)
+  F = far-lengths large p h
+
+  short : len ≤ 360
+  short = omega (arith, el, F .most S D hS hD)
+
+  -- The length by a via on a shortest way.
+  way-length : (v : ℕ) → v < nodeCount (shapeOf p) → hops (shapeOf p) S v + hops (shapeOf p) v D ≡ hops (shapeOf p) S D → farIn p S v + farIn p v D ≡ len
+  way-length v l w = F .shortest S v D hS l hD .1 w ∙ sym el
 
   few : nodeCount (shapeOf p) ≤ 4096
   few = nodes-few (shapeOf p) ok
@@ -60,7 +68,7 @@ module _ (p : List ℕ) (S D len : ℕ) (h : planError large p ≡ 0) (hS : S < 
   from-deterministic v l c = adaptive-clear rule (shapeOf p) ok (soundIn p) D v l hD c
 
   number-is : (v : ℕ) (a1 d1 a2 d2 : Bool) → isClear p Adaptive S v ≡ a1 → isClear p Deterministic S v ≡ d1 → isClear p Adaptive v D ≡ a2 → isClear p Deterministic v D ≡ d2 →
-      viaNumberIn (shapeOf p) (soundIn p) S D v ≡ viaNumber (distance (shapeOf p) S v + distance (shapeOf p) v D) v a1 d1 a2 d2
+      viaNumberIn (farIn p) (shapeOf p) (soundIn p) S D v ≡ viaNumber (farIn p S v + farIn p v D) v a1 d1 a2 d2
   unfolding viaNumberBy
   number-is v a1 d1 a2 d2 e1 e2 e3 e4 = rw (e1, e2, e3, e4)
 
@@ -69,33 +77,33 @@ module _ (p : List ℕ) (S D len : ℕ) (h : planError large p ≡ 0) (hS : S < 
       (ad : (u : ℕ) → u < nodeCount (shapeOf p) → OnWay p Adaptive Deterministic S D u → r ≤ number 1 u 0)
       (da : (u : ℕ) → u < nodeCount (shapeOf p) → OnWay p Deterministic Adaptive S D u → r ≤ number 1 u 1)
       (dd : (u : ℕ) → u < nodeCount (shapeOf p) → OnWay p Deterministic Deterministic S D u → r ≤ number 2 u 1) where
-    on-way : (u : ℕ) → u < nodeCount (shapeOf p) → distance (shapeOf p) S u + distance (shapeOf p) u D ≡ distance (shapeOf p) S D → (a1 d1 a2 d2 : Bool) →
+    on-way : (u : ℕ) → u < nodeCount (shapeOf p) → hops (shapeOf p) S u + hops (shapeOf p) u D ≡ hops (shapeOf p) S D → (a1 d1 a2 d2 : Bool) →
         isClear p Adaptive S u ≡ a1 → isClear p Deterministic S u ≡ d1 → isClear p Adaptive u D ≡ a2 → isClear p Deterministic u D ≡ d2 →
-        r ≤ viaNumber (distance (shapeOf p) S u + distance (shapeOf p) u D) u a1 d1 a2 d2
+        r ≤ viaNumber (farIn p S u + farIn p u D) u a1 d1 a2 d2
     unfolding viaNumber
     on-way u l w true true true true e1 e2 e3 e4 = absurd (blocked .ways u l (record { out = e1; back = e3; sum = w }))
-    on-way u l w true true false true e1 e2 e3 e4 = omega (arith, ad u l (record { out = e1; back = e4; sum = w }), w, el)
-    on-way u l w false true true true e1 e2 e3 e4 = omega (arith, da u l (record { out = e2; back = e3; sum = w }), w, el)
-    on-way u l w false true false true e1 e2 e3 e4 = omega (arith, dd u l (record { out = e2; back = e4; sum = w }), w, el)
+    on-way u l w true true false true e1 e2 e3 e4 = omega (arith, ad u l (record { out = e1; back = e4; sum = w }), way-length u l w)
+    on-way u l w false true true true e1 e2 e3 e4 = omega (arith, da u l (record { out = e2; back = e3; sum = w }), way-length u l w)
+    on-way u l w false true false true e1 e2 e3 e4 = omega (arith, dd u l (record { out = e2; back = e4; sum = w }), way-length u l w)
     on-way u l w a1 true a2 false e1 e2 e3 e4 = omega (arith, low, short)
     on-way u l w a1 false a2 d2 e1 e2 e3 e4 = omega (arith, low, short)
 
-    each : (u : ℕ) → u < nodeCount (shapeOf p) → r ≤ viaNumberIn (shapeOf p) (soundIn p) S D u
+    each : (u : ℕ) → u < nodeCount (shapeOf p) → r ≤ viaNumberIn (farIn p) (shapeOf p) (soundIn p) S D u
     each u l =
         let e = number-is u _ _ _ _ refl refl refl refl in
-        by-le (len + 1) (distance (shapeOf p) S u + distance (shapeOf p) u D)
-        (λ k. omega (arith, e, low, number-low (len + 1) (distance (shapeOf p) S u + distance (shapeOf p) u D) u (isClear p Adaptive S u) (isClear p Deterministic S u) (isClear p Adaptive u D) (isClear p Deterministic u D) k (omega (arith, short))))
-        (λ k. omega (arith, e, on-way u l (omega (arith, k, el, triangle (shapeOf p) ok (distance (shapeOf p) S u) S u D hS l hD refl)) _ _ _ _ refl refl refl refl))
+        by-le (len + 1) (farIn p S u + farIn p u D)
+        (λ k. omega (arith, e, low, number-low (len + 1) (farIn p S u + farIn p u D) u (isClear p Adaptive S u) (isClear p Deterministic S u) (isClear p Adaptive u D) (isClear p Deterministic u D) k (omega (arith, short))))
+        (λ k. omega (arith, e, on-way u l (F .shortest S u D hS l hD .0 (omega (arith, k, el, F .triangle S u D hS l hD))) _ _ _ _ refl refl refl refl))
 
     -- It is the number of the choice by v.
-    chosen-is : (v : ℕ) (m n : Mode) → v < nodeCount (shapeOf p) → OnWay p m n S D v → r ≡ viaNumberIn (shapeOf p) (soundIn p) S D v → r ≡ number (det m + det n) v (det m) →
+    chosen-is : (v : ℕ) (m n : Mode) → v < nodeCount (shapeOf p) → OnWay p m n S D v → r ≡ viaNumberIn (farIn p) (shapeOf p) (soundIn p) S D v → r ≡ number (det m + det n) v (det m) →
         Outcome.Given (Route.Via v m n) len ≡ routeTold p S D
     unfolding keyNumber detsOf viasOf viaOf firstDet sumBy endBy
     chosen-is v m n l w is key =
-        let far : distance (shapeOf p) S v + distance (shapeOf p) v D ≡ len = w .sum ∙ sym el in
-        sym (told-via (shapeOf p) S D v len m n far)
-        ∙ sym (decoded-number (shapeOf p) S D r (leg v m ∷ leg D n ∷ []) (record { ends = refl; some = omega arith; few = omega arith }) (omega (arith, l, few)) (omega (arith, far, short)) (omega (arith, key, far)))
-        ∙ general-planned (shapeOf p) ok (soundIn p) S D hS hD (blocked .straight) r each (inr (v, l, is))
+        let far = way-length v l (w .sum) in
+        sym (told-via (farIn p) S D v len m n far)
+        ∙ sym (decoded-number (farIn p) S D r (leg v m ∷ leg D n ∷ []) (record { ends = refl; some = omega arith; few = omega arith }) (omega (arith, l, few)) (omega (arith, far, short)) (omega (arith, key, far)))
+        ∙ general-planned (farIn p) (shapeOf p) F ok (soundIn p) S D hS hD (blocked .straight) r each (inr (v, l, is))
 
   -- ---- one deterministic leg
   module _ (first second : ℕ) (lf : LowestVia p Adaptive Deterministic S D first) (ls : LowestVia p Deterministic Adaptive S D second) where
@@ -114,7 +122,7 @@ module _ (p : List ℕ) (S D len : ℕ) (h : planError large p ≡ 0) (hS : S < 
         (λ u l o. omega (arith, not-below first u Adaptive Deterministic first lf (omega arith) l o))
         (λ u l o. omega (arith, not-below first u Deterministic Adaptive second ls k l o))
         (λ u l o. omega (arith, m))
-        first Adaptive Deterministic (f .0) w (omega (arith, is, w .sum, el)) refl
+        first Adaptive Deterministic (f .0) w (omega (arith, is, way-length first (f .0) (w .sum))) refl
 
     by-second : second < 4096 → second < first → Outcome.Given (Route.Via second Deterministic Adaptive) len ≡ routeTold p S D
     unfolding viaNumber
@@ -127,7 +135,7 @@ module _ (p : List ℕ) (S D len : ℕ) (h : planError large p ≡ 0) (hS : S < 
         (λ u l o. omega (arith, not-below (second + 1) u Adaptive Deterministic first lf (omega arith) l o))
         (λ u l o. omega (arith, not-below second u Deterministic Adaptive second ls (omega arith) l o))
         (λ u l o. omega (arith, m))
-        second Deterministic Adaptive (f .0) w (omega (arith, is, w .sum, el)) refl
+        second Deterministic Adaptive (f .0) w (omega (arith, is, way-length second (f .0) (w .sum))) refl
 
     given-via : (via : ℕ) (m n : Mode) → isGiven (viaRoute via m n len) ≡ true → (via < 4096) × (viaRoute via m n len ≡ Outcome.Given (Route.Via via m n) len)
     unfolding viaRoute
@@ -171,7 +179,7 @@ module _ (p : List ℕ) (S D len : ℕ) (h : planError large p ≡ 0) (hS : S < 
           (λ u l o. absurd (no-first u l o))
           (λ u l o. absurd (no-second u l o))
           (λ u l o. omega (arith, not-below third u Deterministic Deterministic third lt (omega arith) l o))
-          third Deterministic Deterministic (f .0) w (omega (arith, is, w .sum, el)) refl
+          third Deterministic Deterministic (f .0) w (omega (arith, is, way-length third (f .0) (w .sum))) refl
 
       two-is : isGiven (viaRoute third Deterministic Deterministic len) ≡ true → viaRoute third Deterministic Deterministic len ≡ routeTold p S D
       two-is e = let g = given-via third Deterministic Deterministic e in g .1 ∙ by-third (g .0)

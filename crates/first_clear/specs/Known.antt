@@ -13,14 +13,15 @@ use Rattle.shape.specs.declared.shape.Coords.{Coords}
 use Rattle.machine.specs.declared.leg.Mode.{Mode}
 use Rattle.machine.specs.declared.leg.Mode.the-variants.{Adaptive, Deterministic}
 use Rattle.machine.specs.Number.{nodeCount, coordsOf}
-use Rattle.machine.specs.Hop.{rule, distance}
+use Rattle.machine.specs.Hop.{rule, hops}
 use Rattle.machine.specs.Torus.{leg, torus}
-use Rattle.plan.specs.Layout.{shapeOf}
+use Rattle.weights.specs.declared.weights.Weights.{Weights}
+use Rattle.plan.specs.Layout.{shapeOf, weightsOf}
 use Rattle.plan.specs.Checks.{large, planError}
 use Rattle.packet.specs.declared.route.Route.{Route}
 use Rattle.choice.specs.declared.outcome.Outcome.{Outcome}
 use Rattle.choice.specs.Outcome.{told}
-use Rattle.choice.specs.Pair.{soundIn, routeIn, chosen}
+use Rattle.choice.specs.Pair.{soundIn, farIn, routeIn, chosen}
 use Rattle.rows.specs.Rows.{inSet, inProduct}
 use Rattle.losses.specs.Loss.{onLeg}
 use Rattle.losses.specs.OfPlan.{AreLosses}
@@ -53,7 +54,7 @@ ToSet p m D rows at = (v : ℕ) → v < nodeCount (shapeOf p) → inSet (shapeOf
 -- The same of the nodes on the shortest ways from S alone.
 abbrev pub ToBetween : List ℕ → Mode → ℕ → ℕ → List ℕ → ℕ → Type 0
 ToBetween p m S D rows at =
-    (v : ℕ) → v < nodeCount (shapeOf p) → distance (shapeOf p) S v + distance (shapeOf p) v D ≡ distance (shapeOf p) S D → inSet (shapeOf p) rows at v ≡ isClear p m v D
+    (v : ℕ) → v < nodeCount (shapeOf p) → hops (shapeOf p) S v + hops (shapeOf p) v D ≡ hops (shapeOf p) S D → inSet (shapeOf p) rows at v ≡ isClear p m v D
 
 -- Both sets to D, the adaptive one first.
 pub record BothTo (p : List ℕ) (D : ℕ) (rows : List ℕ) (at : ℕ) : Type 0 where
@@ -75,7 +76,7 @@ pub record ToEnd (p : List ℕ) (s : Shape) (words : List ℕ) (count n : ℕ) (
   pub deterministic : Ended Deterministic false s c ed
 
 abbrev pub routeTold : List ℕ → ℕ → ℕ → Outcome
-routeTold p S D = told (shapeOf p) S (chosen (routeIn p S D))
+routeTold p S D = told (farIn p) S (chosen (routeIn p S D))
 
 abbrev pub isGiven : Outcome → Bool
 isGiven (Outcome.Given r len) = true
@@ -85,7 +86,7 @@ isGiven (Outcome.Refused e) = false
 pub record OnWay (p : List ℕ) (m n : Mode) (S D v : ℕ) : Type 0 where
   pub out : isClear p m S v ≡ true
   pub back : isClear p n v D ≡ true
-  pub sum : distance (shapeOf p) S v + distance (shapeOf p) v D ≡ distance (shapeOf p) S D
+  pub sum : hops (shapeOf p) S v + hops (shapeOf p) v D ≡ hops (shapeOf p) S D
 
 -- The lowest such node; 4096 where there is none.
 pub record LowestVia (p : List ℕ) (m n : Mode) (S D via : ℕ) : Type 0 where
@@ -105,13 +106,13 @@ pub record Near (p : List ℕ) (S D : ℕ) (r : Outcome) : Type 0 where
 -- The product of these masks has just the nodes on the shortest ways from S to D.
 abbrev pub IsBox : List ℕ → ℕ → ℕ → ℕ → ℕ → ℕ → Type 0
 IsBox p S D bx by bz =
-    (v : ℕ) → v < nodeCount (shapeOf p) → (inProduct bx by bz (coordsOf (shapeOf p) v) ≡ true) ↔ (distance (shapeOf p) S v + distance (shapeOf p) v D ≡ distance (shapeOf p) S D)
+    (v : ℕ) → v < nodeCount (shapeOf p) → (inProduct bx by bz (coordsOf (shapeOf p) v) ≡ true) ↔ (hops (shapeOf p) S v + hops (shapeOf p) v D ≡ hops (shapeOf p) S D)
 
 -- The first n of `near` stand for all losses on the legs to D from the nodes on the shortest ways from S.
 pub record NearLosses (p : List ℕ) (S D : ℕ) (words : List ℕ) (count : ℕ) (near : List ℕ) (n : ℕ) : Type 0 where
   pub few : n ≤ 256
   pub same :
-      (m : Mode) (v : ℕ) → v < nodeCount (shapeOf p) → distance (shapeOf p) S v + distance (shapeOf p) v D ≡ distance (shapeOf p) S D →
+      (m : Mode) (v : ℕ) → v < nodeCount (shapeOf p) → hops (shapeOf p) S v + hops (shapeOf p) v D ≡ hops (shapeOf p) S D →
       onLeg rule m (shapeOf p) near n (coordsOf (shapeOf p) v) (coordsOf (shapeOf p) D) ≡ onLeg rule m (shapeOf p) words count (coordsOf (shapeOf p) v) (coordsOf (shapeOf p) D)
 
 -- By a via with two adaptive legs, directly with a deterministic one, or neither.
@@ -134,7 +135,7 @@ pub record Apart (p : List ℕ) (S D len : ℕ) (straight : Bool) : Type 0 where
   pub plan : planError large p ≡ 0
   pub source : S < nodeCount (shapeOf p)
   pub target : D < nodeCount (shapeOf p)
-  pub distance : len ≡ distance (shapeOf p) S D
+  pub distance : len ≡ farIn p S D
   pub direct : isClear p Adaptive S D ≡ false
   pub one : straight ≡ isClear p Deterministic S D
 
@@ -148,9 +149,10 @@ pub record Nearing (p : List ℕ) (s : Shape) (S D len bx by bz : ℕ) (fa : Lis
   pub room : at + 256 ≤ length to
 
 -- The first steps, by the masks of D.
-pub record NearMasks (p : List ℕ) (s : Shape) (S D : ℕ) (a t : Coords) (near : List ℕ) (n : ℕ) (ends fa : List ℕ) (straight : Bool) (run : List ℕ) : Type 0 where
+pub record NearMasks (p : List ℕ) (w : Weights) (s : Shape) (S D : ℕ) (a t : Coords) (near : List ℕ) (n : ℕ) (ends fa : List ℕ) (straight : Bool) (run : List ℕ) : Type 0 where
   pub words : List ℕ
   pub count : ℕ
+  pub weights : w ≡ weightsOf p
   pub of-plan : OfPlan p s words count
   pub standing : NearLosses p S D words count near n
   pub source : IsAt p S a
@@ -167,8 +169,9 @@ pub record NearDone (p : List ℕ) (S D : ℕ) (r : Outcome) (run : List ℕ) : 
   pub set : isGiven r ≡ false → (512 ≤ length run) × ToBetween p Adaptive S D run 0
 
 -- The search over all vias, by both sets to D.
-pub record Faring (p : List ℕ) (s : Shape) (S D : ℕ) (a t : Coords) (fa fd to : List ℕ) (at : ℕ) : Type 0 where
+pub record Faring (p : List ℕ) (w : Weights) (s : Shape) (S D : ℕ) (a t : Coords) (fa fd to : List ℕ) (at : ℕ) : Type 0 where
   pub plan : planError large p ≡ 0
+  pub weights : w ≡ weightsOf p
   pub shape : s ≡ shapeOf p
   pub source : IsAt p S a
   pub target : IsAt p D t
@@ -183,7 +186,7 @@ pub record Short (p : List ℕ) (s : Shape) (S D len bx by bz : ℕ) (fa fd to :
   pub shape : s ≡ shapeOf p
   pub source : S < nodeCount (shapeOf p)
   pub target : D < nodeCount (shapeOf p)
-  pub distance : len ≡ distance (shapeOf p) S D
+  pub distance : len ≡ farIn p S D
   pub box : IsBox p S D bx by bz
   pub adaptive : FromSet p Adaptive S fa
   pub deterministic : FromSet p Deterministic S fd
@@ -191,7 +194,8 @@ pub record Short (p : List ℕ) (s : Shape) (S D len bx by bz : ℕ) (fa fd to :
   pub blocked : Blocked p S D
 
 -- Both, by the masks of D and the set that the first steps left.
-pub record FarMasks (p : List ℕ) (s : Shape) (words : List ℕ) (count S D : ℕ) (a t : Coords) (near : List ℕ) (n : ℕ) (ea ed fa fd run : List ℕ) : Type 0 where
+pub record FarMasks (p : List ℕ) (w : Weights) (s : Shape) (words : List ℕ) (count S D : ℕ) (a t : Coords) (near : List ℕ) (n : ℕ) (ea ed fa fd run : List ℕ) : Type 0 where
+  pub weights : w ≡ weightsOf p
   pub ends : ToEnd p s words count D t ea ed
   pub standing : NearLosses p S D words count near n
   pub source : IsAt p S a
@@ -201,8 +205,9 @@ pub record FarMasks (p : List ℕ) (s : Shape) (words : List ℕ) (count S D : �
   pub blocked : Blocked p S D
 
 -- One destination, by the sets to all nodes, or by the losses and the masks of all targets.
-pub record BySets (p : List ℕ) (s : Shape) (work : List ℕ) (S D : ℕ) (a t : Coords) (fa fd : List ℕ) (straight : Bool) : Type 0 where
+pub record BySets (p : List ℕ) (w : Weights) (s : Shape) (work : List ℕ) (S D : ℕ) (a t : Coords) (fa fd : List ℕ) (straight : Bool) : Type 0 where
   pub plan : planError large p ≡ 0
+  pub weights : w ≡ weightsOf p
   pub shape : s ≡ shapeOf p
   pub source : IsAt p S a
   pub target : IsAt p D t
@@ -212,8 +217,9 @@ pub record BySets (p : List ℕ) (s : Shape) (work : List ℕ) (S D : ℕ) (a t 
   pub direct : isClear p Adaptive S D ≡ false
   pub one : straight ≡ isClear p Deterministic S D
 
-pub record ByLosses (p : List ℕ) (s : Shape) (words : List ℕ) (count : ℕ) (near : List ℕ) (n : ℕ) (ta td : List ℕ) (S D : ℕ) (a t : Coords) (fa fd : List ℕ) (straight : Bool) : Type 0 where
+pub record ByLosses (p : List ℕ) (w : Weights) (s : Shape) (words : List ℕ) (count : ℕ) (near : List ℕ) (n : ℕ) (ta td : List ℕ) (S D : ℕ) (a t : Coords) (fa fd : List ℕ) (straight : Bool) : Type 0 where
   pub of-plan : OfPlan p s words count
+  pub weights : w ≡ weightsOf p
   pub standing : NearLosses p S D words count near n
   pub masks : Masked Adaptive false s ta
   pub others : Masked Deterministic false s td

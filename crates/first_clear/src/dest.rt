@@ -6,12 +6,13 @@ use crate::sets_of::put_both;
 use crate::sets_of::put_rows;
 use crate::short::short_outcome;
 use choice::Outcome;
-use machine::hop::distance_at;
 use masks::span::box_of;
 use masks::table::gather;
 use sets::clear::clear_in;
 use shape::Coords;
 use shape::Shape;
+use weights::Weights;
+use weights::distance::distance_at;
 ghost use mathlib.Core.Path.{_≡_};
 ghost use mathlib.Core.List.{List};
 ghost use Prim.Native.Nat.{ℕ};
@@ -21,6 +22,7 @@ ghost use Rattle.first_clear.specs.Known.{routeTold, NearMasks, NearDone
 // By the masks of the destination: the first steps. `near`: losses that stand for all on the shortest ways. Where they give no route, `run` begins with the set
 // of the nodes there that have a clear adaptive leg to the destination.
 pub fn near_by_masks(
+    weights: Weights,
     shape: Shape,
     near: &[u16; 256],
     nears: usize,
@@ -31,10 +33,10 @@ pub fn near_by_masks(
     straight: bool,
     run: &mut [u16],
 ) -> Outcome
-    ensures { λ r. ⌜ ((p : List ℕ) (S D : ℕ) → NearMasks p shape S D a t (now (near .entry)) nears (now (masks .entry)) (now (fa .entry)) straight (now (run .entry)) → NearDone p S D r (now (run .exit))) ⌝ }
+    ensures { λ r. ⌜ ((p : List ℕ) (S D : ℕ) → NearMasks p weights shape S D a t (now (near .entry)) nears (now (masks .entry)) (now (fa .entry)) straight (now (run .entry)) → NearDone p S D r (now (run .exit))) ⌝ }
 {
     let b = box_of(shape, a, t);
-    let length = distance_at(shape, a, t);
+    let length = distance_at(weights, shape, a, t);
     let set = clear_in(b.x, b.y, b.z, masks, near, nears);
     put_rows(run, 0, &set);
     near_outcome(shape, length, b.x, b.y, b.z, fa, straight, run, 0)
@@ -42,6 +44,7 @@ pub fn near_by_masks(
 
 // By them: the last two steps, with the set that the first steps left in `run`.
 pub fn far_by_masks(
+    weights: Weights,
     shape: Shape,
     words: &[u16; 256],
     count: usize,
@@ -55,10 +58,10 @@ pub fn far_by_masks(
     fd: &[u16; 256],
     run: &mut [u16],
 ) -> Outcome
-    ensures { λ r. ⌜ ((p : List ℕ) (S D : ℕ) → FarMasks p shape (now (words .entry)) count S D a t (now (near .entry)) nears (now (adaptive .entry)) (now (deterministic .entry)) (now (fa .entry)) (now (fd .entry)) (now (run .entry)) → r ≡ routeTold p S D) ⌝ }
+    ensures { λ r. ⌜ ((p : List ℕ) (S D : ℕ) → FarMasks p weights shape (now (words .entry)) count S D a t (now (near .entry)) nears (now (adaptive .entry)) (now (deterministic .entry)) (now (fa .entry)) (now (fd .entry)) (now (run .entry)) → r ≡ routeTold p S D) ⌝ }
 {
     let b = box_of(shape, a, t);
-    let length = distance_at(shape, a, t);
+    let length = distance_at(weights, shape, a, t);
     let set = clear_in(b.x, b.y, b.z, deterministic, near, nears);
     put_rows(run, 256, &set);
     let first = short_outcome(shape, length, b.x, b.y, b.z, fa, fd, run, 0);
@@ -66,11 +69,12 @@ pub fn far_by_masks(
         return first;
     }
     put_both(words, count, adaptive, deterministic, run, 0);
-    best_outcome(shape, a, t, fa, fd, run, 0)
+    best_outcome(weights, shape, a, t, fa, fd, run, 0)
 }
 
 // By the sets to all nodes.
 pub fn by_sets(
+    weights: Weights,
     shape: Shape,
     work: &[u16],
     dest: u16,
@@ -80,11 +84,11 @@ pub fn by_sets(
     fd: &[u16; 256],
     straight: bool,
 ) -> Outcome
-    ensures { λ r. ⌜ ((p : List ℕ) (S : ℕ) → BySets p shape (now (work .entry)) S dest a t (now (fa .entry)) (now (fd .entry)) straight → r ≡ routeTold p S dest) ⌝ }
+    ensures { λ r. ⌜ ((p : List ℕ) (S : ℕ) → BySets p weights shape (now (work .entry)) S dest a t (now (fa .entry)) (now (fd .entry)) straight → r ≡ routeTold p S dest) ⌝ }
 {
     let at = 512 * dest as usize;
     let b = box_of(shape, a, t);
-    let length = distance_at(shape, a, t);
+    let length = distance_at(weights, shape, a, t);
     let first = near_outcome(shape, length, b.x, b.y, b.z, fa, straight, work, at);
     if is_given(first) {
         return first;
@@ -93,11 +97,12 @@ pub fn by_sets(
     if is_given(second) {
         return second;
     }
-    best_outcome(shape, a, t, fa, fd, work, at)
+    best_outcome(weights, shape, a, t, fa, fd, work, at)
 }
 
 // By the losses, with the masks of all targets.
 pub fn by_losses(
+    weights: Weights,
     shape: Shape,
     words: &[u16; 256],
     count: usize,
@@ -111,16 +116,28 @@ pub fn by_losses(
     fd: &[u16; 256],
     straight: bool,
 ) -> Outcome
-    ensures { λ r. ⌜ ((p : List ℕ) (S D : ℕ) → ByLosses p shape (now (words .entry)) count (now (near .entry)) nears (now (ta .entry)) (now (td .entry)) S D a t (now (fa .entry)) (now (fd .entry)) straight → r ≡ routeTold p S D) ⌝ }
+    ensures { λ r. ⌜ ((p : List ℕ) (S D : ℕ) → ByLosses p weights shape (now (words .entry)) count (now (near .entry)) nears (now (ta .entry)) (now (td .entry)) S D a t (now (fa .entry)) (now (fd .entry)) straight → r ≡ routeTold p S D) ⌝ }
 {
     let mut run = [0u16; 512];
     let masks = gather(ta, t);
-    let first = near_by_masks(shape, near, nears, a, t, &masks, fa, straight, &mut run);
+    let first = near_by_masks(
+        weights,
+        shape,
+        near,
+        nears,
+        a,
+        t,
+        &masks,
+        fa,
+        straight,
+        &mut run,
+    );
     if is_given(first) {
         return first;
     }
     let others = gather(td, t);
     far_by_masks(
+        weights,
         shape,
         words,
         count,

@@ -16,11 +16,11 @@ use Rattle.shape.specs.declared.shape.Dim.the-variants.{X, Y, Z}
 use Rattle.shape.specs.Shape.{shapeError, extentOf, coordOf, wrappedIn}
 use Rattle.machine.specs.declared.leg.Mode.the-variants.{Adaptive}
 use Rattle.machine.specs.Number.{nodeCount, coordsOf, Inside}
-use Rattle.machine.specs.Hop.{dirDim, dirPlus, distance, useful, neighbour, rule, firstDirection}
+use Rattle.machine.specs.Hop.{dirDim, dirPlus, hops, useful, neighbour, rule, firstDirection}
 use Rattle.machine.specs.ByCoords.{usefulAlong, usefulAt}
 use Rattle.machine.specs.Torus.{allowedBy, torusBy, leg}
 use Rattle.machine.proofs.ByCoords.{useful-at, neighbour-below}
-use Rattle.machine.proofs.Laws.{useful-link, useful-lowers, useful-of, distance-self, distance-step, first-useful, triangle}
+use Rattle.machine.proofs.Laws.{useful-link, useful-lowers, useful-of, hops-self, hops-step, first-useful, triangle}
 use Rattle.machine.proofs.Torus.{torus-by-laws}
 use Rattle.legs.specs.Between.{between, crosses}
 use Rattle.legs.specs.Crossing.{sameDim, adaptiveAlong, adaptiveCrosses}
@@ -77,7 +77,7 @@ module _ (s : Shape) (h : shapeError s ≡ 0) (t : ℕ) (ht : t < nodeCount s) w
 
   module _ (a u : ℕ) (ha : a < nodeCount s) (hu : u < nodeCount s) where
     -- The leg can cross the links of the nodes on a shortest way whose hops are useful.
-    pub adaptive-crosses : (dir : ℕ) → (can a u dir ≡ true) ↔ ((distance s a u + distance s u t ≡ distance s a t) × (useful s u t dir ≡ true))
+    pub adaptive-crosses : (dir : ℕ) → (can a u dir ≡ true) ↔ ((hops s a u + hops s u t ≡ hops s a t) × (useful s u t dir ≡ true))
     unfolding adaptiveCrosses adaptiveAlong usefulAt
     adaptive-crosses dir =
         let U = coordsOf s u in
@@ -97,10 +97,10 @@ module _ (s : Shape) (h : shapeError s ≡ 0) (t : ℕ) (ht : t < nodeCount s) w
   adaptive-crossings : (ties : ℕ → Bool) → Crossings (torusBy ties s) (leg t Adaptive) can
   unfolding allowedBy
   adaptive-crossings ties = record {
-    first = λ p d at a. adaptive-crosses p p at at d .1 (omega (arith, distance-self s p), a);
+    first = λ p d at a. adaptive-crosses p p at at d .1 (omega (arith, hops-self s p), a);
     after = λ p e u d at hu a m.
         let k = adaptive-crosses (neighbour s p e) u (neighbour-below s h p at e) hu d .0 m in
-        adaptive-crosses p u at hu d .1 (omega (arith, k .0, useful-lowers s p t e a, distance-step s h p e at (useful-link s p t e a) u hu, triangle s h (distance s p u) p u t at hu ht refl), k .1);
+        adaptive-crosses p u at hu d .1 (omega (arith, k .0, useful-lowers s p t e a, hops-step s h p e at (useful-link s p t e a) u hu, triangle s h p u t at hu ht), k .1);
     split = λ p u d at hu m.
         let k = adaptive-crosses p u at hu d .0 m in
         test (eqb p u)
@@ -112,8 +112,8 @@ module _ (s : Shape) (h : shapeError s ≡ 0) (t : ℕ) (ht : t < nodeCount s) w
         let f = first-useful s h p u at hu rule (eqb-false p u q) in
         let l = useful-link s p u e f in
         let less = useful-lowers s p u e f in
-        let step = distance-step s h p e at l t ht in
-        let tri = triangle s h (distance s n u) n u t hn hu ht refl in
+        let step = hops-step s h p e at l t ht in
+        let tri = triangle s h n u t hn hu ht in
         let sum = k .0 in
         inr (e, useful-of s p t e l (omega arith), adaptive-crosses n u hn hu d .1 (omega arith, k .1)));
   }

@@ -8,36 +8,18 @@ use lib.Dec.{ltb, eqb}
 use borrow.Author.Tests.{eqb-true, eq-eqb, ne-eqb, lt-ltb, ltb-true, le-leb, leb-true}
 use Rattle.theory.proofs.Bools.{and-true}
 use Rattle.theory.proofs.Cases.{by-le}
-use Rattle.shape.specs.Axis.{axisDistance, hasLink, place, axisUseful}
+use Rattle.shape.specs.Axis.{axisHops, hasLink, place, axisUseful}
 use Rattle.shape.specs.Steps.{ahead, ringUseful, goes}
-use Rattle.shape.proofs.AxisLaws.{axis-zero, axis-self, axis-some, axis-step, back-place, place-below, Ahead, ahead-is, ring-useful, open-useful}
+use Rattle.shape.proofs.AxisLaws.{axis-zero, axis-self, axis-some, axis-step, axis-triangle, useful-has, useful-less, back-place, place-below, Ahead, ahead-is, ring-useful, open-useful}
 use Rattle.shape.proofs.Runs.{ahead-of, goes-useful, onward}
 use Rattle.legs.specs.Between.{between, crosses, agree, runs}
 
-pub useful-has : (len : ℕ) (ring : Bool) (p q : ℕ) (plus : Bool) → axisUseful len ring p q plus ≡ true → hasLink len ring p plus ≡ true
-unfolding axisUseful
-useful-has len ring p q plus h = and-true (hasLink len ring p plus) _ h .0
-
-pub useful-less : (len : ℕ) (ring : Bool) (p q : ℕ) (plus : Bool) → axisUseful len ring p q plus ≡ true → axisDistance len ring (place len p plus) q + 1 ≡ axisDistance len ring p q
-unfolding axisUseful
-useful-less len ring p q plus h = eqb-true _ _ (and-true (hasLink len ring p plus) _ h .1)
-
--- No way by another place is shorter.
-pub axis-triangle : (k len : ℕ) (ring : Bool) (p c q : ℕ) → p < len → c < len → q < len → axisDistance len ring p c ≡ k → axisDistance len ring p q ≤ k + axisDistance len ring c q
-axis-triangle zero len ring p c q hp hc hq e = rw (axis-zero len ring p c hp hc e) (omega arith)
-axis-triangle (suc k) len ring p c q hp hc hq e =
-    let ne : p ≡ c → ⊥ = λ w. omega (arith, ap (λ (m : ℕ). axisDistance len ring m c) w, axis-self len ring c) in
-    let by : (plus : Bool) → axisUseful len ring p c plus ≡ true → axisDistance len ring p q ≤ suc k + axisDistance len ring c q = λ plus u.
-    let less = useful-less len ring p c plus u in
-    omega (arith, axis-triangle k len ring (place len p plus) c q (place-below len p plus hp) hc hq (omega arith), axis-step len ring p q plus hp hq (useful-has len ring p c plus u)) in
-    ⊎-elim (by true) (by false) (axis-some len ring p c hp hc ne)
-
 -- ---- between
-pub between-by : (len : ℕ) (ring : Bool) (c p q : ℕ) → c < len → axisDistance len ring p c + axisDistance len ring c q ≡ axisDistance len ring p q → between len ring c p q ≡ true
+pub between-by : (len : ℕ) (ring : Bool) (c p q : ℕ) → c < len → axisHops len ring p c + axisHops len ring c q ≡ axisHops len ring p q → between len ring c p q ≡ true
 unfolding between
-between-by len ring c p q h e = rw (lt-ltb c len h) (eq-eqb (axisDistance len ring p c + axisDistance len ring c q) (axisDistance len ring p q) e)
+between-by len ring c p q h e = rw (lt-ltb c len h) (eq-eqb (axisHops len ring p c + axisHops len ring c q) (axisHops len ring p q) e)
 
-pub between-is : (len : ℕ) (ring : Bool) (c p q : ℕ) → between len ring c p q ≡ true → axisDistance len ring p c + axisDistance len ring c q ≡ axisDistance len ring p q
+pub between-is : (len : ℕ) (ring : Bool) (c p q : ℕ) → between len ring c p q ≡ true → axisHops len ring p c + axisHops len ring c q ≡ axisHops len ring p q
 unfolding between
 between-is len ring c p q h = eqb-true _ _ (and-true (ltb c len) _ h .1)
 
@@ -79,9 +61,9 @@ ring-side len p q u plus hp hq w h = go plus (rw (ring-useful len p q plus hp hq
     go true k = leb-true (2 * u) len (and-true (not (eqb u 0)) _ k .1)
     go false k = leb-true len (2 * u) (and-true (not (eqb u 0)) _ k .1)
 
-ring-distance : (len p q u : ℕ) → p < len → q < len → Ahead len p q u → axisDistance len true p q ≡ min u (len - u)
-unfolding axisDistance
-ring-distance len p q u hp hq w = by-le p q (λ a. let e = w .up a in omega arith) (λ a. let e = w .round a in omega arith)
+ring-hops : (len p q u : ℕ) → p < len → q < len → Ahead len p q u → axisHops len true p q ≡ min u (len - u)
+unfolding axisHops
+ring-hops len p q u hp hq w = by-le p q (λ a. let e = w .up a in omega arith) (λ a. let e = w .round a in omega arith)
 
 -- The hops going plus from p to c, from those of both to q.
 ahead-less : (len p c q u v : ℕ) → p < len → c < len → q < len → Ahead len p q u → Ahead len c q v → v ≤ u → ahead len p c ≡ u - v
@@ -105,12 +87,12 @@ ahead-more len p c q u v hp hc hq a b l =
     (λ j. let y = b .round j in record { below = omega arith; up = λ k. absurd (omega arith); round = λ k. omega arith })))
 
 -- ---- in an open dimension
-open-up : (len p q : ℕ) → p ≤ q → axisDistance len false p q + p ≡ q
-unfolding axisDistance
+open-up : (len p q : ℕ) → p ≤ q → axisHops len false p q + p ≡ q
+unfolding axisHops
 open-up len p q h = omega arith
 
-open-down : (len p q : ℕ) → q ≤ p → axisDistance len false p q + q ≡ p
-unfolding axisDistance
+open-down : (len p q : ℕ) → q ≤ p → axisHops len false p q + q ≡ p
+unfolding axisHops
 open-down len p q h = omega arith
 
 -- Where one direction is useful from p to q and from c between them to q, it is so from p to c.
@@ -132,9 +114,9 @@ same-way len true true c p q hc hp hq ne h v u =
     let x = ring-side len p q far₁ true hp hq a u in
     let y = ring-side len c q far₂ true hc hq b v in
     let sum = between-is len true c p q h in
-    let du : axisDistance len true p q ≡ far₁ = ring-distance len p q far₁ hp hq a ∙ omega arith in
-    let dv : axisDistance len true c q ≡ far₂ = ring-distance len c q far₂ hc hq b ∙ omega arith in
-    let far : axisDistance len true p c ≡ 0 → ⊥ = λ z. ne (sym (axis-zero len true p c hp hc z)) in
+    let du : axisHops len true p q ≡ far₁ = ring-hops len p q far₁ hp hq a ∙ omega arith in
+    let dv : axisHops len true c q ≡ far₂ = ring-hops len c q far₂ hc hq b ∙ omega arith in
+    let far : axisHops len true p c ≡ 0 → ⊥ = λ z. ne (sym (axis-zero len true p c hp hc z)) in
     let l : far₂ < far₁ = by-le far₁ far₂ (λ k. absurd (far (omega arith))) (λ k. k) in
     rw (ring-useful len p c true hp hc, ahead-less len p c q far₁ far₂ hp hc hq a b (omega arith), ne-eqb (far₁ - far₂) 0 (λ z. omega arith))
     (le-leb (2 * (far₁ - far₂)) len (omega arith))
@@ -148,9 +130,9 @@ same-way len true false c p q hc hp hq ne h v u =
     let ub = a .below in
     let vb = b .below in
     let sum = between-is len true c p q h in
-    let du : axisDistance len true p q ≡ len - far₁ = ring-distance len p q far₁ hp hq a ∙ omega arith in
-    let dv : axisDistance len true c q ≡ len - far₂ = ring-distance len c q far₂ hc hq b ∙ omega arith in
-    let far : axisDistance len true p c ≡ 0 → ⊥ = λ z. ne (sym (axis-zero len true p c hp hc z)) in
+    let du : axisHops len true p q ≡ len - far₁ = ring-hops len p q far₁ hp hq a ∙ omega arith in
+    let dv : axisHops len true c q ≡ len - far₂ = ring-hops len c q far₂ hc hq b ∙ omega arith in
+    let far : axisHops len true p c ≡ 0 → ⊥ = λ z. ne (sym (axis-zero len true p c hp hc z)) in
     let l : far₁ < far₂ = by-le far₂ far₁ (λ k. absurd (far (omega arith))) (λ k. k) in
     rw (ring-useful len p c false hp hc, ahead-more len p c q far₁ far₂ hp hc hq a b l, ne-eqb (len - (far₂ - far₁)) 0 (λ z. omega arith))
     (le-leb len (2 * (len - (far₂ - far₁))) (omega arith))
@@ -172,7 +154,7 @@ module _ (ties : ℕ → Bool) (len : ℕ) (ring : Bool) where
   -- A dimension that is run is not done.
   pub runs-apart : (plus : Bool) (c p q : ℕ) → Running ties len ring plus c p q → p ≡ q → ⊥
   runs-apart plus c p q r e =
-      let z : axisDistance len ring p q ≡ 0 = rw e (axis-self len ring q) in
+      let z : axisHops len ring p q ≡ 0 = rw e (axis-self len ring q) in
       omega (arith, between-is len ring c p q (r .on), useful-less len ring c q plus (r .useful))
 
   -- The way that is chosen at its start is kept: once under way less than half a ring is left.
@@ -199,7 +181,7 @@ module _ (ties : ℕ → Bool) (len : ℕ) (ring : Bool) where
         let u = goes-useful ties len ring p q w hp hq ne e in
         let n = place len p w in
         record {
-          on = between-by len ring c p q hc (omega (arith, useful-less len ring p q w u, between-is len ring c n q (r .on), axis-step len ring p c w hp hc (useful-has len ring p q w u), axis-triangle (axisDistance len ring p c) len ring p c q hp hc hq refl));
+          on = between-by len ring c p q hc (omega (arith, useful-less len ring p q w u, between-is len ring c n q (r .on), axis-step len ring p c w hp hc (useful-has len ring p q w u), axis-triangle (axisHops len ring p c) len ring p c q hp hc hq refl));
           useful = r .useful;
           way = e ∙ sym (kept p q w hp hq ne e (runs-apart plus c n q r)) ∙ r .way;
         }
@@ -211,6 +193,6 @@ module _ (ties : ℕ → Bool) (len : ℕ) (ring : Bool) where
         let apart = runs-apart plus c p q r in
         let u = goes-useful ties len ring p q plus hp hq apart (r .way) in
         let k = same-way len ring plus c p q hc hp hq ne (r .on) (r .useful) u in
-        let sum : axisDistance len ring n c + axisDistance len ring c q ≡ axisDistance len ring n q = omega (arith, between-is len ring c p q (r .on), useful-less len ring p q plus u, useful-less len ring p c plus k) in
-        let more : n ≡ q → ⊥ = λ e. omega (arith, sum, useful-less len ring c q plus (r .useful), ap (λ (m : ℕ). axisDistance len ring m q) e, axis-self len ring q) in
+        let sum : axisHops len ring n c + axisHops len ring c q ≡ axisHops len ring n q = omega (arith, between-is len ring c p q (r .on), useful-less len ring p q plus u, useful-less len ring p c plus k) in
+        let more : n ≡ q → ⊥ = λ e. omega (arith, sum, useful-less len ring c q plus (r .useful), ap (λ (m : ℕ). axisHops len ring m q) e, axis-self len ring q) in
         record { on = between-by len ring c n q hc sum; useful = r .useful; way = kept p q plus hp hq apart (r .way) more }

@@ -2,12 +2,12 @@
 use Prim.Native.Nat.{ℕ, _+_}
 use mathlib.Core.Bool.{Bool, cond, not, _&&_}
 use lib.Dec.{ltb, eqb}
-use Rattle.shape.specs.Axis.{axisDistance, axisUseful}
+use Rattle.shape.specs.Axis.{axisHops, axisUseful}
 use Rattle.shape.specs.Steps.{goes}
 
 -- The place c lies between p and q, the two ends included: it is on a shortest way from p to q.
 unfoldable pub between : ℕ → Bool → ℕ → ℕ → ℕ → Bool
-between len ring c p q = ltb c len && eqb (axisDistance len ring p c + axisDistance len ring c q) (axisDistance len ring p q)
+between len ring c p q = ltb c len && eqb (axisHops len ring p c + axisHops len ring c q) (axisHops len ring p q)
 
 -- Some shortest way from p to q takes the link that leaves c going plus, or minus.
 unfoldable pub crosses : ℕ → Bool → Bool → ℕ → ℕ → ℕ → Bool

@@ -1,4 +1,4 @@
--- How long a text can be: a first line of up to 14 bytes and 4,096 lines of up to 15.
+-- How long a text can be: a first line of up to 14 bytes and 4,096 lines of up to 16.
 use Prim.Native.Nat.{ℕ, zero, suc, _+_, _*_, _≤_, _<_}
 use native.Mathlib.Omega.{arith}
 use mathlib.Core.Path.{_≡_, refl}
@@ -9,22 +9,22 @@ use lib.Dec.{ltb}
 use Rattle.numbers.specs.Numbers.{planShort, nodeOutside, deadEnd}
 use Rattle.theory.specs.Checks.{_then_}
 use Rattle.theory.specs.Machine.{sumBy}
-use Rattle.shape.specs.declared.shape.Shape.{Shape}
 use Rattle.machine.specs.declared.leg.Mode.{Mode}
 use Rattle.machine.specs.declared.leg.Mode.the-variants.{Adaptive, Deterministic}
 use Rattle.machine.specs.Number.{nodeCount}
 use Rattle.machine.specs.Node.{isNode}
 use Rattle.machine.specs.Torus.{leg}
 use Rattle.machine.proofs.Nodes.{Node, node-of}
-use Rattle.machine.proofs.Laws.{distance-most}
 use Rattle.plan.specs.Layout.{shapeOf, faultCount, faultsOf}
 use Rattle.plan.specs.Checks.{large, planError}
 use Rattle.plan.proofs.Most.{then-most, check-most, plan-most}
 use Rattle.plan.proofs.Plans.{within-large}
 use Rattle.dead.specs.Dead.{deadNode}
-use Rattle.choice.specs.Choice.{AdmitsIn, viasOf, lengthOf}
+use Rattle.choice.specs.Choice.{AdmitsIn, viasOf, lengthFrom}
 use Rattle.choice.specs.Answer.{Answer, Given, Refused}
-use Rattle.choice.specs.Pair.{pair}
+use Rattle.choice.specs.Search.{Lengths}
+use Rattle.choice.specs.Pair.{farIn, pair}
+use Rattle.choice.proofs.AtTorus.{far-lengths}
 use Rattle.routes.specs.Kinds.{hasModes, kindFrom, kindOf}
 use Rattle.routes.proofs.Saying.{admitted-legs}
 use Rattle.planned_sheet.specs.Sheet.{sourceError}
@@ -35,13 +35,13 @@ use Rattle.listing_text.proofs.Decimals.{at-most-1, at-most-2, at-most-
 use Rattle.listing_text.proofs.Sources.{source-sound, node-below}
 
 -- ---- numbers of refusals
-listing-most : (i : List ℕ) → listingError i ≤ 10
+listing-most : (i : List ℕ) → listingError i ≤ 16
 unfolding listingError sourceError
 listing-most i =
-    check-most 10 (ltb (length i) 2) planShort _ (omega arith)
-    (then-most 10 (planError large (planIn i)) _ (omega (arith, plan-most large (planIn i)))
-    (check-most 10 (not (isNode (shapeOf (planIn i)) (sourceIn i))) nodeOutside _ (omega arith)
-    (check-most 10 (deadNode (faultsOf (planIn i)) (sourceIn i)) deadEnd 0 (omega arith) (omega arith))))
+    check-most 16 (ltb (length i) 2) planShort _ (omega arith)
+    (then-most 16 (planError large (planIn i)) _ (omega (arith, plan-most large (planIn i)))
+    (check-most 16 (not (isNode (shapeOf (planIn i)) (sourceIn i))) nodeOutside _ (omega arith)
+    (check-most 16 (deadNode (faultsOf (planIn i)) (sourceIn i)) deadEnd 0 (omega arith) (omega arith))))
 
 -- ---- lines
 line-length : (f g : List ℕ) (fs : List (List ℕ)) → length (line (f ∷ (g ∷ fs))) ≡ length f + 1 + length (line (g ∷ fs))
@@ -52,7 +52,7 @@ last-length : (f : List ℕ) → length (line (f ∷ [])) ≡ length f + 1
 unfolding line
 last-length f = simp length-append (omega arith)
 
-refusal-short : (e : ℕ) → e ≤ 10 → length (refusal e) ≤ 11
+refusal-short : (e : ℕ) → e ≤ 16 → length (refusal e) ≤ 11
 unfolding refusal
 refusal-short e h =
     omega (arith, line-length refusedWord (decimal e) [], last-length (decimal e), at-most-2 e (omega arith))
@@ -62,20 +62,20 @@ unfolding headLine
 head-short S n f a b c =
     omega (arith, line-length (decimal S) (decimal n) (decimal f ∷ []), line-length (decimal n) (decimal f) [], last-length (decimal f), at-most-4 S (omega arith), at-most-4 n (omega arith), at-most-3 f (omega arith))
 
--- An answer whose via, where it has one, is a node's, and whose kind, length or number has at most two digits.
-abbrev Small : Shape → ℕ → Answer → Type 0
-Small s S (Given c) = (kindOf c < 10) × (length (viasText (viasOf c)) ≤ 4) × (lengthOf s S c < 100)
-Small s S (Refused e) = e < 100
+-- An answer whose via, where it has one, is a node's, whose kind has one digit and whose length has at most three, or whose number has at most two.
+abbrev Small : (ℕ → ℕ → ℕ) → ℕ → Answer → Type 0
+Small far S (Given c) = (kindOf c < 10) × (length (viasText (viasOf c)) ≤ 4) × (lengthFrom far S c < 1000)
+Small far S (Refused e) = e < 100
 
-fields-short : (s : Shape) (S : ℕ) (a : Answer) → Small s S a → length (kindText a) + length (viaText a) + length (lengthText s S a) ≤ 7
+fields-short : (far : ℕ → ℕ → ℕ) (S : ℕ) (a : Answer) → Small far S a → length (kindText a) + length (viaText a) + length (lengthText far S a) ≤ 8
 unfolding kindText viaText lengthText
-fields-short s S (Given c) h = omega (arith, at-most-1 (kindOf c) (h .0), h .1, at-most-2 (lengthOf s S c) (h .2))
-fields-short s S (Refused e) h = omega (arith, at-most-2 e h)
+fields-short far S (Given c) h = omega (arith, at-most-1 (kindOf c) (h .0), h .1, at-most-3 (lengthFrom far S c) (h .2))
+fields-short far S (Refused e) h = omega (arith, at-most-2 e h)
 
-line-short : (s : Shape) (S D : ℕ) (a : Answer) → D < 4096 → Small s S a → length (destLine s S D a) ≤ 15
+line-short : (far : ℕ → ℕ → ℕ) (S D : ℕ) (a : Answer) → D < 4096 → Small far S a → length (destLine far S D a) ≤ 16
 unfolding destLine
-line-short s S D a d h =
-    omega (arith, line-length (decimal D) (kindText a) (viaText a ∷ lengthText s S a ∷ []), line-length (kindText a) (viaText a) (lengthText s S a ∷ []), line-length (viaText a) (lengthText s S a) [], last-length (lengthText s S a), at-most-4 D (omega arith), fields-short s S a h)
+line-short far S D a d h =
+    omega (arith, line-length (decimal D) (kindText a) (viaText a ∷ lengthText far S a ∷ []), line-length (kindText a) (viaText a) (lengthText far S a ∷ []), line-length (viaText a) (lengthText far S a) [], last-length (lengthText far S a), at-most-4 D (omega arith), fields-short far S a h)
 
 -- ---- answers
 module _ (p : List ℕ) (S : ℕ) (ok : sourceError large p S ≡ 0) (D : ℕ) (to : D < nodeCount (shapeOf p)) where
@@ -85,21 +85,24 @@ module _ (p : List ℕ) (S : ℕ) (ok : sourceError large p S ≡ 0) (D : ℕ) (
   from-node : Node (shapeOf p) S
   from-node = node-of (shapeOf p) S (from .node)
 
-  one-small : (m : Mode) → Small (shapeOf p) S (Given (leg D m ∷ []))
+  F : Lengths (shapeOf p) (farIn p)
+  F = far-lengths large p (from .plan)
+
+  one-small : (m : Mode) → Small (farIn p) S (Given (leg D m ∷ []))
   unfolding kindOf kindFrom hasModes viasOf sumBy
-  one-small m = (kind m, omega arith, omega (arith, distance-most (shapeOf p) (from-node .sound) S D (from-node .below) to))
+  one-small m = (kind m, omega arith, omega (arith, F .most S D (from-node .below) to))
     where
       kind : (m : Mode) → kindOf (leg D m ∷ []) < 10
       kind Adaptive = omega arith
       kind Deterministic = omega arith
 
-  two-small : (v : ℕ) (m n : Mode) → AdmitsIn (shapeOf p) S D (leg v m ∷ leg D n ∷ []) → Small (shapeOf p) S (Given (leg v m ∷ leg D n ∷ []))
+  two-small : (v : ℕ) (m n : Mode) → AdmitsIn (shapeOf p) S D (leg v m ∷ leg D n ∷ []) → Small (farIn p) S (Given (leg v m ∷ leg D n ∷ []))
   unfolding kindOf kindFrom hasModes viasOf sumBy
   two-small v m n a =
       let via : v < nodeCount (shapeOf p) = a .inside .0 in (
         kind m n,
         at-most-4 v (omega (arith, via, within-large p (from .plan) .nodes)),
-        omega (arith, distance-most (shapeOf p) (from-node .sound) S v (from-node .below) via, distance-most (shapeOf p) (from-node .sound) v D via to),
+        omega (arith, F .most S v (from-node .below) via, F .most v D via to),
       )
     where
       kind : (m n : Mode) → kindOf (leg v m ∷ leg D n ∷ []) < 10
@@ -108,10 +111,10 @@ module _ (p : List ℕ) (S : ℕ) (ok : sourceError large p S ≡ 0) (D : ℕ) (
       kind Deterministic Adaptive = omega arith
       kind Deterministic Deterministic = omega arith
 
-  pair-small : Small (shapeOf p) S (pair large p S D)
+  pair-small : Small (farIn p) S (pair large p S D)
   pair-small =
-      answer-is large p S from D (node-below p S ok D to) (Small (shapeOf p) S) (omega arith) (omega arith)
-      (admitted-legs (λ c. Small (shapeOf p) S (Given c)) (shapeOf p) S D one-small two-small)
+      answer-is large p S from D (node-below p S ok D to) (Small (farIn p) S) (omega arith) (omega arith)
+      (admitted-legs (λ c. Small (farIn p) S (Given c)) (shapeOf p) S D one-small two-small)
 
 module _ (p : List ℕ) (S : ℕ) (ok : sourceError large p S ≡ 0) where
   abbrev s : Source large p S
@@ -120,23 +123,23 @@ module _ (p : List ℕ) (S : ℕ) (ok : sourceError large p S ≡ 0) where
   most : nodeCount (shapeOf p) ≤ 4096
   most = within-large p (s .plan) .nodes
 
-  lines-short : (n : ℕ) → n ≤ nodeCount (shapeOf p) → length (destLines p S n) ≤ 15 * n
+  lines-short : (n : ℕ) → n ≤ nodeCount (shapeOf p) → length (destLines p S n) ≤ 16 * n
   unfolding destLines
   lines-short zero h = omega arith
   lines-short (suc n) h =
-      omega (arith, length-append (destLines p S n) (destLine (shapeOf p) S n (pair large p S n)), lines-short n (omega arith), line-short (shapeOf p) S n (pair large p S n) (omega (arith, most)) (pair-small p S ok n (omega arith)))
+      omega (arith, length-append (destLines p S n) (destLine (farIn p) S n (pair large p S n)), lines-short n (omega arith), line-short (farIn p) S n (pair large p S n) (omega (arith, most)) (pair-small p S ok n (omega arith)))
 
   abbrev first : List ℕ
   first = headLine S (nodeCount (shapeOf p)) (faultCount p)
 
-  accepted-short : length (first ++ destLines p S (nodeCount (shapeOf p))) ≤ 61454
+  accepted-short : length (first ++ destLines p S (nodeCount (shapeOf p))) ≤ 65550
   accepted-short =
       omega (arith, length-append first (destLines p S (nodeCount (shapeOf p))), lines-short (nodeCount (shapeOf p)) (omega arith), most, head-short S (nodeCount (shapeOf p)) (faultCount p) (omega (arith, most, node-of (shapeOf p) S (s .node) .below)) most (within-large p (s .plan) .faults))
 
-pub listing-fits : (i : List ℕ) → length (listingOf i) ≤ 61454
+pub listing-fits : (i : List ℕ) → length (listingOf i) ≤ 65550
 unfolding listingOf
 listing-fits i = go (listingError i) refl
   where
-    go : (e : ℕ) → listingError i ≡ e → length (listingOf i) ≤ 61454
+    go : (e : ℕ) → listingError i ≡ e → length (listingOf i) ≤ 65550
     go zero h = rw h (accepted-short (planIn i) (sourceIn i) (source-sound i h))
     go (suc e) h = rw h (omega (arith, refusal-short (suc e) (omega (arith, h, listing-most i))))

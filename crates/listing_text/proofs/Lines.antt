@@ -14,7 +14,7 @@ use Rattle.plan.specs.Checks.{large}
 use Rattle.choice.specs.declared.outcome.Outcome.{Outcome}
 use Rattle.choice.specs.Choice.{Choice, AdmitsIn, viasOf}
 use Rattle.choice.specs.Answer.{Answer, Given, Refused}
-use Rattle.choice.specs.Pair.{pair}
+use Rattle.choice.specs.Pair.{farIn, pair}
 use Rattle.choice.specs.Outcome.{told, toldAs}
 use Rattle.routes.specs.Kinds.{hasModes, kindFrom, kindOf}
 use Rattle.routes.specs.Said.{entryFor, heard}
@@ -101,28 +101,28 @@ module _ (o : List ℕ) (at all : ℕ) (os : List Outcome) where
   ended t next d w h = let e : d ≡ all = omega (arith, w .inside) in rw (← e) (w .put)
 
 -- The line of what is told is the line of the answer: of a refusal and of an admitted choice.
-abbrev pub LineTold : Shape → ℕ → Answer → Type 0
-LineTold s S a = (D : ℕ) → outcomeLine D (told s S a) ≡ destLine s S D a
+abbrev pub LineTold : (ℕ → ℕ → ℕ) → ℕ → Answer → Type 0
+LineTold far S a = (D : ℕ) → outcomeLine D (told far S a) ≡ destLine far S D a
 
-pub refused-told : (s : Shape) (S e : ℕ) → LineTold s S (Refused e)
+pub refused-told : (far : ℕ → ℕ → ℕ) (S e : ℕ) → LineTold far S (Refused e)
 unfolding outcomeLine destLine told toldAs heard entryFor fieldText kindText viaText lengthText
-refused-told s S e D = refl
+refused-told far S e D = refl
 
-one-told : (s : Shape) (S T : ℕ) (m : Mode) → LineTold s S (Given (leg T m ∷ []))
+one-told : (far : ℕ → ℕ → ℕ) (S T : ℕ) (m : Mode) → LineTold far S (Given (leg T m ∷ []))
 unfolding outcomeLine destLine told toldAs heard entryFor legsTo viasOf kindOf kindFrom hasModes fieldText kindText viaText lengthText
-one-told s S T m D = refl
+one-told far S T m D = refl
 
-two-told : (s : Shape) (S T v : ℕ) (m n : Mode) → LineTold s S (Given (leg v m ∷ leg T n ∷ []))
+two-told : (far : ℕ → ℕ → ℕ) (S T v : ℕ) (m n : Mode) → LineTold far S (Given (leg v m ∷ leg T n ∷ []))
 unfolding outcomeLine destLine told toldAs heard entryFor legsTo viasOf kindOf kindFrom hasModes fieldText kindText viaText lengthText
-two-told s S T v m n D = refl
+two-told far S T v m n D = refl
 
-pub choice-told : (s : Shape) (S T : ℕ) (c : Choice) → AdmitsIn s S T c → LineTold s S (Given c)
-choice-told s S T c a = admitted-legs (λ c. LineTold s S (Given c)) s S T (one-told s S T) (λ v m n _. two-told s S T v m n) c a
+pub choice-told : (far : ℕ → ℕ → ℕ) (s : Shape) (S T : ℕ) (c : Choice) → AdmitsIn s S T c → LineTold far S (Given c)
+choice-told far s S T c a = admitted-legs (λ c. LineTold far S (Given c)) s S T (one-told far S T) (λ v m n _. two-told far S T v m n) c a
 
 pub lines-told :
     (os : List Outcome) (p : List ℕ) (S n : ℕ) →
-    ((d : ℕ) → d < n → LineTold (shapeOf p) S (pair large p S d)) →
-    ((d : ℕ) → d < n → getD os d noOutcome ≡ told (shapeOf p) S (pair large p S d)) →
+    ((d : ℕ) → d < n → LineTold (farIn p) S (pair large p S d)) →
+    ((d : ℕ) → d < n → getD os d noOutcome ≡ told (farIn p) S (pair large p S d)) →
     outcomeLines os n ≡ destLines p S n
 unfolding outcomeLines destLines
 lines-told os p S zero l h = refl

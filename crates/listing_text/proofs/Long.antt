@@ -1,4 +1,4 @@
--- Input past the longest that is accepted: its first 780 bytes, a source and one byte more than the longest plan sheet, decide the text.
+-- Input past the longest that is accepted: its first 783 bytes, a source and one byte more than the longest plan sheet, decide the text.
 use Prim.Native.Nat.{ℕ, zero, suc, _≤_}
 use native.Mathlib.Omega.{arith}
 use mathlib.Core.Path.{_≡_, refl, sym, ap, _∙_}
@@ -17,7 +17,7 @@ unfolding listingOf
 refused-with i zero h n = absurd (n refl)
 refused-with i (suc e) h n = rw h
 
-long-text : (i : List ℕ) → 780 ≤ length i → listingOf i ≡ refusal (planError large (planIn i))
+long-text : (i : List ℕ) → 783 ≤ length i → listingOf i ≡ refusal (planError large (planIn i))
 unfolding sourceError
 long-text i h =
     let no = long-declined large (planIn i) (omega (arith, length-drop 2 i)) in
@@ -30,7 +30,7 @@ plan-in-front zero (a ∷ []) = refl
 plan-in-front (suc k) (a ∷ []) = refl
 plan-in-front k (a ∷ (b ∷ i)) = refl
 
-pub listing-decided : DecidedBy 780 listingOf
+pub listing-decided : DecidedBy 783 listingOf
 listing-decided zero i h l = absurd (omega arith)
 listing-decided (suc zero) i h l = absurd (omega arith)
 listing-decided (suc (suc k)) i h l =

@@ -18,7 +18,7 @@ use Rattle.listing_text.proofs.Fits.{listing-fits}
 module _
     (input : List ℕ) (size : ℕ) (i o t : List ℕ) (w : Written) (read : i ≡ take size input)
     (made : (w ≡ written (roomError 0 (listingOf i) o) (listingOf i)) × (t ≡ outAfter (roomError 0 (listingOf i) o) (listingOf i) o))
-    (buffer : 780 ≤ length input) (long : 61454 ≤ length o) where
+    (buffer : 783 ≤ length input) (long : 65550 ≤ length o) where
   abbrev s : List ℕ
   s = listingOf i
 
@@ -37,7 +37,7 @@ module _
         n ∙ ap length same,
         (
           bytes-written 0 s o refl fits w t made ∙ ap (λ l. outAfter 0 l o) same,
-          λ whole h. ap (λ m. take m t) n ∙ front-written 0 s o refl fits w t made ∙ same ∙ read-whole 780 listingOf listing-decided whole input size buffer h,
+          λ whole h. ap (λ m. take m t) n ∙ front-written 0 s o refl fits w t made ∙ same ∙ read-whole 783 listingOf listing-decided whole input size buffer h,
         ),
       )
 

@@ -18,7 +18,7 @@ use Rattle.machine.specs.Node.{isNode, countAnswer}
 use Rattle.machine.proofs.Nodes.{node-of}
 use Rattle.plan.specs.Layout.{shapeOf}
 use Rattle.plan.specs.Checks.{large}
-use Rattle.choice.specs.Pair.{pair}
+use Rattle.choice.specs.Pair.{farIn, pair}
 use Rattle.choice.specs.declared.outcome.Outcome.{Outcome}
 use Rattle.choice.specs.Outcome.{told}
 use Rattle.planned_sheet.specs.Sheet.{sourceError}
@@ -73,6 +73,6 @@ module _ (p : List ℕ) (S : ℕ) (ok : sourceError large p S ≡ 0) where
   node-below D below = rw (eq-eqb (shapeError (shapeOf p)) 0 (node-of (shapeOf p) S (sound .node) .sound)) (lt-ltb D (nodeCount (shapeOf p)) below)
 
   -- What is planned for each destination is what planning the pair answers.
-  pub planned-all : (os : List Outcome) → ((d : ℕ) → getD os d noOutcome ≡ outcomeAt large p S d) → (D : ℕ) → D < nodeCount (shapeOf p) → getD os D noOutcome ≡ told (shapeOf p) S (pair large p S D)
+  pub planned-all : (os : List Outcome) → ((d : ℕ) → getD os d noOutcome ≡ outcomeAt large p S d) → (D : ℕ) → D < nodeCount (shapeOf p) → getD os D noOutcome ≡ told (farIn p) S (pair large p S D)
   unfolding outcomeAt
   planned-all os h D below = h D ∙ rw (eq-eqb (sourceError large p S) 0 ok, lt-ltb D (nodeCount (shapeOf p)) below)

@@ -8,7 +8,7 @@ use Rattle.machine.specs.Number.{nodeCount}
 use Rattle.machine.specs.Node.{countAnswer}
 use Rattle.plan.specs.Layout.{shapeOf}
 use Rattle.plan.specs.Checks.{large}
-use Rattle.choice.specs.Pair.{pair}
+use Rattle.choice.specs.Pair.{farIn, pair}
 use Rattle.choice.specs.declared.outcome.Outcome.{Outcome}
 use Rattle.planner.specs.Outcomes.{noOutcome, outcomeAt}
 use Rattle.planned_sheet.proofs.Planning.{source-of, answer-is}
@@ -38,13 +38,13 @@ module _ (i : List ℕ) where
     all-nodes : countAnswer (shapeOf (planIn i)) ≡ nodeCount (shapeOf (planIn i))
     all-nodes = counted (planIn i) (sourceIn i) (source-sound i ok) (countAnswer (shapeOf (planIn i))) refl
 
-    line-told : (d : ℕ) → d < nodeCount (shapeOf (planIn i)) → LineTold (shapeOf (planIn i)) (sourceIn i) (pair large (planIn i) (sourceIn i) d)
+    line-told : (d : ℕ) → d < nodeCount (shapeOf (planIn i)) → LineTold (farIn (planIn i)) (sourceIn i) (pair large (planIn i) (sourceIn i) d)
     line-told d h =
         let p = planIn i in
         let S = sourceIn i in
         let s = shapeOf p in
         let ok = source-sound i ok in
-        answer-is large p S (source-of large p S ok) d (node-below p S ok d h) (LineTold s S) (refused-told s S deadEnd) (refused-told s S noClearChoice) (choice-told s S d)
+        answer-is large p S (source-of large p S ok) d (node-below p S ok d h) (LineTold (farIn p) S) (refused-told (farIn p) S deadEnd) (refused-told (farIn p) S noClearChoice) (choice-told (farIn p) s S d)
 
     accepted-text :
         (os : List Outcome) →

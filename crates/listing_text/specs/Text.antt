@@ -6,13 +6,12 @@ use lib.Dec.{ltb}
 use Rattle.numbers.specs.Numbers.{planShort}
 use Rattle.theory.specs.Checks.{declined, _then_}
 use Rattle.sheet.specs.Bytes.{word}
-use Rattle.shape.specs.declared.shape.Shape.{Shape}
 use Rattle.machine.specs.Number.{nodeCount}
 use Rattle.plan.specs.Layout.{shapeOf, faultCount}
 use Rattle.plan.specs.Checks.{large}
-use Rattle.choice.specs.Choice.{viasOf, lengthOf}
+use Rattle.choice.specs.Choice.{viasOf, lengthFrom}
 use Rattle.choice.specs.Answer.{Answer, Given, Refused}
-use Rattle.choice.specs.Pair.{pair}
+use Rattle.choice.specs.Pair.{farIn, pair}
 use Rattle.routes.specs.Kinds.{kindOf}
 use Rattle.planned_sheet.specs.Sheet.{sourceError}
 use Rattle.listing_text.specs.Decimal.{decimal}
@@ -24,7 +23,7 @@ sourceIn i = word i 0
 abbrev pub planIn : List ℕ → List ℕ
 planIn i = drop 2 i
 
--- After 1 to 8 the source is checked for 9, then 10. Under two bytes is 1.
+-- After the plan's checks the source is checked for 9, then 10. Under two bytes is 1.
 unfoldable pub listingError : List ℕ → ℕ
 listingError i = declined (ltb (length i) 2) planShort then sourceError large (planIn i) (sourceIn i)
 
@@ -62,19 +61,19 @@ unfoldable pub viaText : Answer → List ℕ
 viaText (Given c) = viasText (viasOf c)
 viaText (Refused e) = dash
 
--- Length, from the source S, or `-` (kinds 10 and 11).
-unfoldable pub lengthText : Shape → ℕ → Answer → List ℕ
-lengthText s S (Given c) = decimal (lengthOf s S c)
-lengthText s S (Refused e) = dash
+-- Length, from the source S, or `-` (kinds 10 and 11). `far p t` is the distance from p to t: the last field is by weight.
+unfoldable pub lengthText : (ℕ → ℕ → ℕ) → ℕ → Answer → List ℕ
+lengthText far S (Given c) = decimal (lengthFrom far S c)
+lengthText far S (Refused e) = dash
 
 -- The line of the destination D, for which planning answers a.
-unfoldable pub destLine : Shape → ℕ → ℕ → Answer → List ℕ
-destLine s S D a = line (decimal D ∷ kindText a ∷ viaText a ∷ lengthText s S a ∷ [])
+unfoldable pub destLine : (ℕ → ℕ → ℕ) → ℕ → ℕ → Answer → List ℕ
+destLine far S D a = line (decimal D ∷ kindText a ∷ viaText a ∷ lengthText far S a ∷ [])
 
 -- A line for each node below n in rising order, the source included.
 unfoldable pub destLines : List ℕ → ℕ → ℕ → List ℕ
 destLines p S zero = []
-destLines p S (suc n) = destLines p S n ++ destLine (shapeOf p) S n (pair large p S n)
+destLines p S (suc n) = destLines p S n ++ destLine (farIn p) S n (pair large p S n)
 
 -- A refusal is the one line `refused` and the number.
 abbrev pub refusedWord : List ℕ

@@ -15,11 +15,11 @@ use Rattle.machine.specs.declared.leg.Mode.{Mode}
 use Rattle.machine.specs.declared.leg.Mode.the-variants.{Adaptive, Deterministic}
 use Rattle.shape.specs.Shape.{shapeError, extentOf, coordOf, wrappedIn, put}
 use Rattle.machine.specs.Number.{nodeCount, numberOf, coordsOf, Inside}
-use Rattle.shape.specs.Axis.{axisDistance, place, axisUseful}
+use Rattle.shape.specs.Axis.{axisHops, place, axisUseful}
 use Rattle.shape.specs.Steps.{goes}
-use Rattle.machine.specs.Hop.{dirDim, dirPlus, plusDir, minusDir, distance, link, neighbour, useful, toward, firstDirection}
+use Rattle.machine.specs.Hop.{dirDim, dirPlus, plusDir, minusDir, hops, link, neighbour, useful, toward, firstDirection}
 use Rattle.machine.specs.Torus.{allowedBy}
-use Rattle.machine.specs.ByCoords.{inDim, distanceAlong, linkAlong, usefulAlong, distanceAt, linkAt, movedAt, usefulAt, towardAt, firstAt, allowedAt}
+use Rattle.machine.specs.ByCoords.{inDim, hopsAlong, linkAlong, usefulAlong, hopsAt, linkAt, movedAt, usefulAt, towardAt, firstAt, allowedAt}
 use Rattle.shape.proofs.Shapes.{sound}
 use Rattle.machine.proofs.Numbers.{number-below, coords-number, number-fits, inside}
 use Rattle.shape.proofs.AxisLaws.{place-below, axis-below}
@@ -39,17 +39,17 @@ pub inside-moved : (s : Shape) (c : Coords) → Inside s c → (dir : ℕ) → I
 unfolding movedAt
 inside-moved s c i dir = let d = dirDim dir in inside-put s c i d _ (place-below (extentOf s d) (coordOf c d) (dirPlus dir) (inside-at s c i d))
 
-pub along-below : (s : Shape) (c t : Coords) → Inside s c → Inside s t → (d : Dim) → distanceAlong s c t d < extentOf s d
+pub along-below : (s : Shape) (c t : Coords) → Inside s c → Inside s t → (d : Dim) → hopsAlong s c t d < extentOf s d
 along-below s c t i j d = axis-below (extentOf s d) (wrappedIn s d) (coordOf c d) (coordOf t d) (inside-at s c i d) (inside-at s t j d)
 
 -- One coordinate changed changes that dimension's part of the sum.
-pub distance-put :
+pub hops-put :
     (s : Shape) (c t : Coords) (d : Dim) (v : ℕ) →
-    distanceAt s (put c d v) t + distanceAlong s c t d ≡ distanceAt s c t + axisDistance (extentOf s d) (wrappedIn s d) v (coordOf t d)
-unfolding distanceAt
-distance-put s c t X v = omega arith
-distance-put s c t Y v = omega arith
-distance-put s c t Z v = omega arith
+    hopsAt s (put c d v) t + hopsAlong s c t d ≡ hopsAt s c t + axisHops (extentOf s d) (wrappedIn s d) v (coordOf t d)
+unfolding hopsAt
+hops-put s c t X v = omega arith
+hops-put s c t Y v = omega arith
+hops-put s c t Z v = omega arith
 
 -- ---- values chosen by the dimension of a direction
 dim-cases : (P : ℕ → Dim → Type 0) → ((dir : ℕ) → dir / 2 ≡ 0 → P dir X) → ((dir : ℕ) → dir / 2 ≡ 1 → P dir Y) → ((dir : ℕ) → 2 ≤ dir / 2 → P dir Z) → (dir : ℕ) → P dir (dirDim dir)
@@ -96,9 +96,9 @@ pub wrapped-dim : (s : Shape) (dir : ℕ) → eqb (inDim dir (s .wrap % 2) (s .w
 wrapped-dim s dir = ap (λ b. eqb b 1) (in-dim (wrapBit s) dir) ∙ wrap-bit s (dirDim dir)
 
 -- ---- the definitions by numbers, read by coordinates
-pub distance-at : (s : Shape) (n t : ℕ) → distance s n t ≡ distanceAt s (coordsOf s n) (coordsOf s t)
-unfolding distance distanceAt
-distance-at s n t = refl
+pub hops-at : (s : Shape) (n t : ℕ) → hops s n t ≡ hopsAt s (coordsOf s n) (coordsOf s t)
+unfolding hops hopsAt
+hops-at s n t = refl
 
 pub link-at : (s : Shape) (n dir : ℕ) → link s n dir ≡ linkAt s (coordsOf s n) dir
 unfolding link linkAt
@@ -108,16 +108,16 @@ neighbour-at : (s : Shape) (n dir : ℕ) → neighbour s n dir ≡ numberOf s (m
 unfolding neighbour movedAt
 neighbour-at s n dir = refl
 
--- A hop lowers the distance by one where it does so in its own dimension.
+-- A hop leaves one hop fewer where it does so in its own dimension.
 lowers :
     (s : Shape) (c t : Coords) (dir : ℕ) →
-    (linkAt s c dir && eqb (distanceAt s (movedAt s c dir) t + 1) (distanceAt s c t)) ≡ usefulAt s c t dir
+    (linkAt s c dir && eqb (hopsAt s (movedAt s c dir) t + 1) (hopsAt s c t)) ≡ usefulAt s c t dir
 unfolding usefulAt axisUseful linkAt movedAt
 lowers s c t dir =
     let d = dirDim dir in
     let v = place (extentOf s d) (coordOf c d) (dirPlus dir) in
-    let e = distance-put s c t d v in
-    rw (eqb-same (distanceAt s (put c d v) t + 1) (distanceAt s c t) (axisDistance (extentOf s d) (wrappedIn s d) v (coordOf t d) + 1) (distanceAlong s c t d) (λ q. omega arith) (λ q. omega arith))
+    let e = hops-put s c t d v in
+    rw (eqb-same (hopsAt s (put c d v) t + 1) (hopsAt s c t) (axisHops (extentOf s d) (wrappedIn s d) v (coordOf t d) + 1) (hopsAlong s c t d) (λ q. omega arith) (λ q. omega arith))
     (and-assoc (leb dir 5) (linkAlong s c d (dirPlus dir)) _)
 
 -- The direction of a deterministic leg is that of the first dimension where the coordinates differ.
@@ -135,7 +135,7 @@ module _ (ties : ℕ → Bool) (s : Shape) (c t : Coords) where
   first-z e f ne = rw (eq-eqb (c .x) (t .x) e, eq-eqb (c .y) (t .y) f, ne-eqb (c .z) (t .z) ne)
 
 module _ (s : Shape) (h : shapeError s ≡ 0) where
-  pub along-small : (c t : Coords) → Inside s c → Inside s t → (d : Dim) → distanceAlong s c t d ≤ 15
+  pub along-small : (c t : Coords) → Inside s c → Inside s t → (d : Dim) → hopsAlong s c t d ≤ 15
   along-small c t i j d = omega (arith, along-below s c t i j d, sound s h d .high)
 
   module _ (n : ℕ) (hn : n < nodeCount s) where
@@ -152,7 +152,7 @@ module _ (s : Shape) (h : shapeError s ≡ 0) where
     module _ (t : ℕ) where
       pub useful-at : (dir : ℕ) → useful s n t dir ≡ usefulAt s (coordsOf s n) (coordsOf s t) dir
       unfolding useful
-      useful-at dir = rw (distance-at s (neighbour s n dir) t, neighbour-coords dir, distance-at s n t, link-at s n dir) (lowers s (coordsOf s n) (coordsOf s t) dir)
+      useful-at dir = rw (hops-at s (neighbour s n dir) t, neighbour-coords dir, hops-at s n t, link-at s n dir) (lowers s (coordsOf s n) (coordsOf s t) dir)
 
       pub plus-of : (d : Dim) → useful s n t (plusDir d) ≡ usefulAlong s (coordsOf s n) (coordsOf s t) d true
       unfolding usefulAt dirDim

@@ -1,5 +1,5 @@
--- What document 01 says of distance and hops, as theorems about the definitions.
-use Prim.Native.Nat.{ℕ, zero, suc, _+_, _≤_, _<_}
+-- What document 01 says of hops, as theorems about the definitions.
+use Prim.Native.Nat.{ℕ, _+_, _≤_, _<_}
 use mathlib.Core.Bool.{Bool, true, false, cond, not, _&&_}
 use mathlib.Core.Path.{_≡_, refl, sym, ap, _∙_}
 use mathlib.Core.Logic.{_⊎_}
@@ -14,48 +14,48 @@ use Rattle.shape.specs.declared.shape.Dim.the-variants.{X, Y, Z}
 use Rattle.shape.specs.Shape.{shapeError, extentOf, coordOf, wrappedIn, put}
 use Rattle.shape.specs.Axis.{place}
 use Rattle.machine.specs.Number.{nodeCount, numberOf, coordsOf}
-use Rattle.machine.specs.Hop.{dirDim, dirPlus, plusDir, minusDir, dirOf, opposite, along, part, distance, link, neighbour, useful, rule, toward, same, firstDirection}
+use Rattle.machine.specs.Hop.{dirDim, dirPlus, plusDir, minusDir, dirOf, opposite, along, part, hops, link, neighbour, useful, toward, same, firstDirection}
 use Rattle.machine.specs.ByCoords.{linkAlong, movedAlong, movedAt}
 use Rattle.machine.proofs.Directions.{opposite-is}
 use Rattle.machine.proofs.Numbers.{number-coords, inside}
-use Rattle.shape.proofs.AxisLaws.{axis-symmetric, axis-zero, axis-self, axis-some, axis-step, back-place, back-link}
+use Rattle.shape.proofs.AxisLaws.{axis-symmetric, axis-zero, axis-self, axis-some, axis-step, axis-triangle, back-place, back-link}
 use Rattle.shape.proofs.Runs.{one-taken}
-use Rattle.machine.proofs.ByCoords.{inside-at, along-small, distance-at, distance-put, neighbour-coords, neighbour-below, plus-of, minus-of}
+use Rattle.machine.proofs.ByCoords.{inside-at, along-small, hops-at, hops-put, neighbour-coords, neighbour-below, plus-of, minus-of}
 
 pub useful-link : (s : Shape) (n t dir : ℕ) → useful s n t dir ≡ true → link s n dir ≡ true
 unfolding useful
 useful-link s n t dir e = and-true (link s n dir) _ e .0
 
--- a useful hop lowers the distance by exactly one
-pub useful-lowers : (s : Shape) (n t dir : ℕ) → useful s n t dir ≡ true → distance s (neighbour s n dir) t + 1 ≡ distance s n t
+-- a useful hop leaves exactly one hop fewer
+pub useful-lowers : (s : Shape) (n t dir : ℕ) → useful s n t dir ≡ true → hops s (neighbour s n dir) t + 1 ≡ hops s n t
 unfolding useful
 useful-lowers s n t dir e = eqb-true _ _ (and-true (link s n dir) _ e .1)
 
-pub useful-of : (s : Shape) (n t dir : ℕ) → link s n dir ≡ true → distance s (neighbour s n dir) t + 1 ≡ distance s n t → useful s n t dir ≡ true
+pub useful-of : (s : Shape) (n t dir : ℕ) → link s n dir ≡ true → hops s (neighbour s n dir) t + 1 ≡ hops s n t → useful s n t dir ≡ true
 unfolding useful
-useful-of s n t dir l e = rw (l, eq-eqb (distance s (neighbour s n dir) t + 1) (distance s n t) e)
+useful-of s n t dir l e = rw (l, eq-eqb (hops s (neighbour s n dir) t + 1) (hops s n t) e)
 
-pub distance-symmetric : (s : Shape) (n t : ℕ) → distance s n t ≡ distance s t n
-unfolding distance
-distance-symmetric s n t = rw (one X, one Y, one Z)
+pub hops-symmetric : (s : Shape) (n t : ℕ) → hops s n t ≡ hops s t n
+unfolding hops
+hops-symmetric s n t = rw (one X, one Y, one Z)
   where
     one : (d : Dim) → part s n t d ≡ part s t n d
     one d = axis-symmetric (extentOf s d) (wrappedIn s d) (coordOf (coordsOf s n) d) (coordOf (coordsOf s t) d)
 
-pub distance-self : (s : Shape) (n : ℕ) → distance s n n ≡ 0
-unfolding distance
-distance-self s n = rw (one X, one Y, one Z)
-  where
-    one : (d : Dim) → part s n n d ≡ 0
-    one d = axis-self (extentOf s d) (wrappedIn s d) (coordOf (coordsOf s n) d)
+pub part-self : (s : Shape) (n : ℕ) (d : Dim) → part s n n d ≡ 0
+part-self s n d = axis-self (extentOf s d) (wrappedIn s d) (coordOf (coordsOf s n) d)
+
+pub hops-self : (s : Shape) (n : ℕ) → hops s n n ≡ 0
+unfolding hops
+hops-self s n = rw (part-self s n X, part-self s n Y, part-self s n Z)
 
 same-coords : (c t : Coords) → ((d : Dim) → coordOf c d ≡ coordOf t d) → c ≡ t
 same-coords c t e = λ i. record { x = e X i; y = e Y i; z = e Z i }
 
 module _ (s : Shape) (h : shapeError s ≡ 0) (n t : ℕ) (hn : n < nodeCount s) (ht : t < nodeCount s) where
-  pub distance-most : distance s n t ≤ 45
-  unfolding distance
-  distance-most =
+  pub hops-most : hops s n t ≤ 45
+  unfolding hops
+  hops-most =
       let i = inside s h n hn in
       let j = inside s h t ht in
       omega (arith, along-small s h (coordsOf s n) (coordsOf s t) i j X, along-small s h (coordsOf s n) (coordsOf s t) i j Y, along-small s h (coordsOf s n) (coordsOf s t) i j Z)
@@ -63,9 +63,9 @@ module _ (s : Shape) (h : shapeError s ≡ 0) (n t : ℕ) (hn : n < nodeCount s)
   pub same-node : ((d : Dim) → coordOf (coordsOf s n) d ≡ coordOf (coordsOf s t) d) → n ≡ t
   same-node e = sym (number-coords s h n) ∙ ap (numberOf s) (same-coords (coordsOf s n) (coordsOf s t) e) ∙ number-coords s h t
 
-  pub distance-zero : distance s n t ≡ 0 → n ≡ t
-  unfolding distance
-  distance-zero e = same-node one
+  pub hops-zero : hops s n t ≡ 0 → n ≡ t
+  unfolding hops
+  hops-zero e = same-node one
     where
       none : (d : Dim) → part s n t d ≡ 0
       none X = omega arith
@@ -153,26 +153,23 @@ module _ (s : Shape) (h : shapeError s ≡ 0) (n dir : ℕ) (hn : n < nodeCount 
       let o = opposite-is dir low in
       neighbour-from s (neighbour s n dir) (opposite dir) ∙ rw (neighbour-coords s h n hn dir, o .dim, o .way, back-coords) (number-coords s h n)
 
-  -- a hop changes the distance to any node by one at most
-  pub distance-step : (t : ℕ) → t < nodeCount s → distance s n t ≤ distance s (neighbour s n dir) t + 1
+  -- a hop changes the hops to any node by one at most
+  pub hops-step : (t : ℕ) → t < nodeCount s → hops s n t ≤ hops s (neighbour s n dir) t + 1
   unfolding movedAt
-  distance-step t ht =
+  hops-step t ht =
       let d = dirDim dir in
       let c = coordsOf s n in
       let v = place (extentOf s d) (coordOf c d) (dirPlus dir) in
       let one = axis-step (extentOf s d) (wrappedIn s d) (coordOf c d) (coordOf (coordsOf s t) d) (dirPlus dir) (inside-at s c (inside s h n hn) d) (inside-at s _ (inside s h t ht) d) held in
-      let sum = distance-put s c (coordsOf s t) d v in
-      rw (distance-at s n t, distance-at s (neighbour s n dir) t, neighbour-coords s h n hn dir) (omega arith)
+      let sum = hops-put s c (coordsOf s t) d v in
+      rw (hops-at s n t, hops-at s (neighbour s n dir) t, neighbour-coords s h n hn dir) (omega arith)
 
--- No way by another node is shorter.
-pub triangle : (s : Shape) (h : shapeError s ≡ 0) (k n v t : ℕ) → n < nodeCount s → v < nodeCount s → t < nodeCount s → distance s n v ≡ k → distance s n t ≤ k + distance s v t
-triangle s h zero n v t hn hv ht e = rw (distance-zero s h n v hn hv e) (omega arith)
-triangle s h (suc k) n v t hn hv ht e =
-    let ne : n ≡ v → ⊥ = λ q. omega (arith, ap (λ m. distance s m v) q, distance-self s v) in
-    let dir = firstDirection rule s n v in
-    let u = first-useful s h n v hn hv rule ne in
-    let l = useful-link s n v dir u in
-    let z = useful-lowers s n v dir u in
-    let one = distance-step s h n dir hn l t ht in
-    let rest = triangle s h k (neighbour s n dir) v t (neighbour-below s h n hn dir) hv ht (omega arith) in
-    omega arith
+-- No way by another node is shorter, in any dimension.
+module _ (s : Shape) (h : shapeError s ≡ 0) (n v t : ℕ) (hn : n < nodeCount s) (hv : v < nodeCount s) (ht : t < nodeCount s) where
+  pub part-triangle : (d : Dim) → part s n t d ≤ part s n v d + part s v t d
+  part-triangle d =
+      axis-triangle (part s n v d) (extentOf s d) (wrappedIn s d) _ _ _ (inside-at s _ (inside s h n hn) d) (inside-at s _ (inside s h v hv) d) (inside-at s _ (inside s h t ht) d) refl
+
+  pub triangle : hops s n t ≤ hops s n v + hops s v t
+  unfolding hops
+  triangle = omega (arith, part-triangle X, part-triangle Y, part-triangle Z)

@@ -18,7 +18,7 @@ use Rattle.shape.specs.declared.shape.Dim.the-variants.{X, Y, Z}
 use Rattle.machine.specs.Torus.{allowedBy, torusBy, torus}
 use Rattle.theory.proofs.Bools.{and-true}
 use Rattle.machine.proofs.ByCoords.{neighbour-below}
-use Rattle.machine.proofs.Laws.{useful-link, useful-lowers, distance-self, distance-zero, first-useful}
+use Rattle.machine.proofs.Laws.{useful-link, useful-lowers, hops-self, hops-zero, first-useful}
 
 -- To itself a deterministic leg has no direction.
 first-same : (ties : ℕ → Bool) (s : Shape) (n : ℕ) → firstDirection ties s n n ≡ 6
@@ -66,8 +66,8 @@ torus-by-laws ties s h = record {
   named = λ l p d at end a. useful-named s h p (l .target) at end d (allowed-by-useful s h p (l .target) at end ties (l .mode) d a);
   inside = λ l p d at end a. neighbour-below s h p at d;
   nearer = λ l p d at end a. omega (arith, useful-lowers s p (l .target) d (allowed-by-useful s h p (l .target) at end ties (l .mode) d a));
-  there = λ p at. distance-self s p;
-  here = λ p t at end z. sym (distance-zero s h p t at end z);
+  there = λ p at. hops-self s p;
+  here = λ p t at end z. sym (hops-zero s h p t at end z);
   onward = λ l p at end ne. onward s h p (l .target) at end ties (l .mode) ne;
 }
 

@@ -9,7 +9,7 @@ use Rattle.shape.specs.declared.shape.Dim.the-variants.{X, Y, Z}
 use Rattle.machine.specs.declared.leg.Mode.{Mode}
 use Rattle.machine.specs.declared.leg.Mode.the-variants.{Adaptive, Deterministic}
 use Rattle.shape.specs.Shape.{extentOf, wrappedIn, coordOf, put}
-use Rattle.shape.specs.Axis.{axisDistance, hasLink, place, axisUseful}
+use Rattle.shape.specs.Axis.{axisHops, hasLink, place, axisUseful}
 use Rattle.shape.specs.Steps.{goes}
 use Rattle.machine.specs.Hop.{dirDim, dirPlus, dirOf}
 
@@ -17,8 +17,8 @@ use Rattle.machine.specs.Hop.{dirDim, dirPlus, dirOf}
 abbrev pub inDim : ℕ → ℕ → ℕ → ℕ → ℕ
 inDim dir x y z = cond (eqb (dir / 2) 0) x (cond (eqb (dir / 2) 1) y z)
 
-abbrev pub distanceAlong : Shape → Coords → Coords → Dim → ℕ
-distanceAlong s c t d = axisDistance (extentOf s d) (wrappedIn s d) (coordOf c d) (coordOf t d)
+abbrev pub hopsAlong : Shape → Coords → Coords → Dim → ℕ
+hopsAlong s c t d = axisHops (extentOf s d) (wrappedIn s d) (coordOf c d) (coordOf t d)
 
 abbrev pub linkAlong : Shape → Coords → Dim → Bool → Bool
 linkAlong s c d plus = hasLink (extentOf s d) (wrappedIn s d) (coordOf c d) plus
@@ -29,8 +29,8 @@ movedAlong s c d plus = put c d (place (extentOf s d) (coordOf c d) plus)
 abbrev pub usefulAlong : Shape → Coords → Coords → Dim → Bool → Bool
 usefulAlong s c t d plus = axisUseful (extentOf s d) (wrappedIn s d) (coordOf c d) (coordOf t d) plus
 
-unfoldable pub distanceAt : Shape → Coords → Coords → ℕ
-distanceAt s c t = distanceAlong s c t X + distanceAlong s c t Y + distanceAlong s c t Z
+unfoldable pub hopsAt : Shape → Coords → Coords → ℕ
+hopsAt s c t = hopsAlong s c t X + hopsAlong s c t Y + hopsAlong s c t Z
 
 unfoldable pub linkAt : Shape → Coords → ℕ → Bool
 linkAt s c dir = leb dir 5 && linkAlong s c (dirDim dir) (dirPlus dir)

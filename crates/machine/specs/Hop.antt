@@ -1,4 +1,4 @@
--- Directions, links, distance and useful hops, of nodes by their numbers.
+-- Directions, links, the hops between nodes and useful hops, of nodes by their numbers.
 use Prim.Native.Nat.{ℕ, _+_, _-_, _%_}
 use mathlib.Core.Bool.{Bool, true, false, cond, not, _&&_}
 use lib.Dec.{ltb, leb, eqb}
@@ -7,7 +7,7 @@ use Rattle.shape.specs.declared.shape.Dim.{Dim}
 use Rattle.shape.specs.declared.shape.Dim.the-variants.{X, Y, Z}
 use Rattle.shape.specs.Shape.{extentOf, wrappedIn, coordOf, put}
 use Rattle.machine.specs.Number.{numberOf, coordsOf}
-use Rattle.shape.specs.Axis.{axisDistance, hasLink, place}
+use Rattle.shape.specs.Axis.{axisHops, hasLink, place}
 
 -- Directions: 0 X+, 1 X-, 2 Y+, 3 Y-, 4 Z+, 5 Z-.
 abbrev pub plusDir : Dim → ℕ
@@ -53,16 +53,16 @@ neighbour s n dir =
     let d = dirDim dir in
     numberOf s (put (coordsOf s n) d (place (extentOf s d) (along s n d) (dirPlus dir)))
 
--- Distance: the sum over dimensions.
+-- Hops from one node to another: the sum over dimensions. This is document 01's distance, without weights.
 abbrev pub part : Shape → ℕ → ℕ → Dim → ℕ
-part s n t d = axisDistance (extentOf s d) (wrappedIn s d) (along s n d) (along s t d)
+part s n t d = axisHops (extentOf s d) (wrappedIn s d) (along s n d) (along s t d)
 
-unfoldable pub distance : Shape → ℕ → ℕ → ℕ
-distance s n t = part s n t X + part s n t Y + part s n t Z
+unfoldable pub hops : Shape → ℕ → ℕ → ℕ
+hops s n t = part s n t X + part s n t Y + part s n t Z
 
--- A hop is useful toward a target if it lowers the distance by one.
+-- A hop is useful toward a target if it lowers that by one. Useful hops stay those of document 01, whatever the weights.
 unfoldable pub useful : Shape → ℕ → ℕ → ℕ → Bool
-useful s n t dir = link s n dir && eqb (distance s (neighbour s n dir) t + 1) (distance s n t)
+useful s n t dir = link s n dir && eqb (hops s (neighbour s n dir) t + 1) (hops s n t)
 
 -- The rule for half a ring that is in force: a deterministic leg goes plus there, from whatever coordinate. What follows takes any rule, `ties`: whether
 -- half a ring goes plus from the coordinate, in that dimension, of the node where the hop begins.

@@ -6,7 +6,7 @@ use Rattle.shape.specs.declared.shape.Shape.{Shape}
 use Rattle.shape.specs.declared.shape.Coords.{Coords}
 use Rattle.shape.specs.Shape.{shapeError}
 use Rattle.machine.specs.Number.{nodeCount, coordsOf}
-use Rattle.machine.specs.Hop.{distance, link, neighbour}
+use Rattle.machine.specs.Hop.{link, neighbour}
 
 -- The number is a node's, of a shape that no check declines.
 unfoldable pub isNode : Shape → ℕ → Bool
@@ -20,9 +20,6 @@ countAnswer s = cond (eqb (shapeError s) 0) (nodeCount s) 0
 
 abbrev pub coordsAnswer : Shape → ℕ → Coords
 coordsAnswer s n = cond (isNode s n) (coordsOf s n) (record { x = 0; y = 0; z = 0 })
-
-abbrev pub distanceAnswer : Shape → ℕ → ℕ → ℕ
-distanceAnswer s n t = cond (arePair s n t) (distance s n t) 0
 
 abbrev pub linkAnswer : Shape → ℕ → ℕ → Bool
 linkAnswer s n dir = isNode s n && link s n dir

@@ -1,4 +1,4 @@
--- The machine of document 01 as a machine of the theory: directions that a leg's mode allows, hops by distance.
+-- The machine of document 01 as a machine of the theory: directions that a leg's mode allows, and hops.
 use Prim.Native.Nat.{ℕ}
 use mathlib.Core.Bool.{Bool, _&&_}
 use lib.Dec.{leb, eqb}
@@ -8,7 +8,7 @@ use Rattle.machine.specs.declared.leg.Mode.{Mode}
 use Rattle.machine.specs.declared.leg.Mode.the-variants.{Adaptive, Deterministic}
 use Rattle.machine.specs.declared.leg.Leg.{Leg}
 use Rattle.machine.specs.Number.{nodeCount}
-use Rattle.machine.specs.Hop.{distance, neighbour, useful, rule, firstDirection}
+use Rattle.machine.specs.Hop.{hops, neighbour, useful, rule, firstDirection}
 
 -- An adaptive leg may take any useful hop at each node, a deterministic leg its one direction.
 unfoldable pub allowedBy : (ℕ → Bool) → Mode → Shape → ℕ → ℕ → ℕ → Bool
@@ -25,7 +25,7 @@ torusBy ties s = record {
   size = nodeCount s;
   ways = 6;
   next = neighbour s;
-  hops = distance s;
+  hops = hops s;
   target = λ l. l .target;
   allowed = λ l n dir. allowedBy ties (l .mode) s n (l .target) dir;
 }

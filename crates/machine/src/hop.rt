@@ -16,7 +16,7 @@ ghost use Rattle.shape.specs.Shape.{wrappedIn};
 ghost use Rattle.machine.specs.Number.{numberOf};
 ghost use Rattle.machine.specs.Hop.{dirDim, dirPlus, plusDir, minusDir, rule};
 ghost use Rattle.shape.specs.Steps.{goes};
-ghost use Rattle.machine.specs.ByCoords.{inDim, distanceAlong, distanceAt, linkAt, movedAt, usefulAt, towardAt, firstAt, allowedAt};
+ghost use Rattle.machine.specs.ByCoords.{inDim, hopsAlong, linkAt, movedAt, usefulAt, towardAt, firstAt, allowedAt};
 
 fn dim_of(dir: u8) -> Dim
     ensures { λ r. ⌜ r ≡ dirDim dir ⌝ }
@@ -92,24 +92,17 @@ pub fn number_at(shape: Shape, c: Coords) -> u16
     ((x + a * (y + b * z)) % 65536) as u16
 }
 
-fn distance_along(shape: Shape, at: Coords, to: Coords, d: Dim) -> u16
-    ensures { λ r. ⌜ r ≡ distanceAlong shape at to d ⌝ }
+// The hops from one place to another in a dimension.
+pub fn hops_along(shape: Shape, at: Coords, to: Coords, d: Dim) -> u16
+    ensures { λ r. ⌜ r ≡ hopsAlong shape at to d ⌝ }
     ensures { λ r. ⌜ r < 256 ⌝ }
 {
-    axis::distance(
+    axis::hops(
         extent(shape, d),
         wrapped(shape, d),
         coord(at, d),
         coord(to, d),
     ) as u16
-}
-
-pub fn distance_at(shape: Shape, at: Coords, to: Coords) -> u16
-    ensures { λ r. ⌜ r ≡ distanceAt shape at to ⌝ }
-{
-    distance_along(shape, at, to, Dim::X)
-        + distance_along(shape, at, to, Dim::Y)
-        + distance_along(shape, at, to, Dim::Z)
 }
 
 // Whether a link leaves that place in a direction.

@@ -1,4 +1,4 @@
-// The machine of document 01: its nodes and links, distances, useful hops and the legs of a route.
+// The machine of document 01: its nodes and links, the hops between nodes, useful hops and the legs of a route.
 pub mod hop;
 pub mod leg;
 pub mod node;

@@ -1,5 +1,4 @@
 // Nodes by their numbers. Every call is total: where a check declines the shape, or a node does not exist, the answer is defined too.
-use crate::hop::distance_at;
 use crate::hop::link_at;
 use crate::hop::moved_at;
 use crate::hop::number_at;
@@ -9,8 +8,8 @@ use shape::Coords;
 use shape::Shape;
 use shape::shape::shape_error;
 ghost use mathlib.Core.Path.{_≡_};
-ghost use Prim.Native.Nat.{_≤_, _<_};
-ghost use Rattle.machine.specs.Node.{isNode, arePair, countAnswer, coordsAnswer, distanceAnswer, linkAnswer, neighbourAnswer};
+ghost use Prim.Native.Nat.{_<_};
+ghost use Rattle.machine.specs.Node.{isNode, arePair, countAnswer, coordsAnswer, linkAnswer, neighbourAnswer};
 
 // The number of nodes; 0 of a shape that a check declines.
 pub fn count(shape: Shape) -> u16
@@ -34,7 +33,8 @@ pub fn is_node(shape: Shape, node: u16) -> bool
     }
 }
 
-fn are_pair(shape: Shape, node: u16, target: u16) -> bool
+// Whether there are both nodes.
+pub fn are_pair(shape: Shape, node: u16, target: u16) -> bool
     ensures { λ r. ⌜ r ≡ arePair shape node target ⌝ }
 {
     if is_node(shape, node) {
@@ -52,18 +52,6 @@ pub fn coords(shape: Shape, node: u16) -> Coords
         coords_of(shape, node)
     } else {
         Coords { x: 0, y: 0, z: 0 }
-    }
-}
-
-// The distance of two nodes; 0 where there is no such node.
-pub fn distance(shape: Shape, node: u16, target: u16) -> u8
-    ensures { λ r. ⌜ r ≡ distanceAnswer shape node target ⌝ }
-    ensures { λ r. ⌜ r ≤ 45 ⌝ }
-{
-    if are_pair(shape, node, target) {
-        distance_at(shape, coords_of(shape, node), coords_of(shape, target)) as u8
-    } else {
-        0
     }
 }
 

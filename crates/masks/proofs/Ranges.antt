@@ -6,16 +6,16 @@ use mathlib.Core.Bool.{Bool, true, false, cond, not, _&&_, _||_}
 use lib.Dec.{leb, eqb}
 use borrow.Author.Tests.{lt-ltb, le-ltb, le-leb, lt-leb, eq-eqb, ne-eqb}
 use Rattle.theory.proofs.Cases.{by-le, by-order}
-use Rattle.shape.specs.Axis.{gap, axisDistance, axisUseful}
+use Rattle.shape.specs.Axis.{gap, axisHops, axisUseful}
 use Rattle.shape.specs.Steps.{ahead}
 use Rattle.shape.proofs.AxisLaws.{axis-symmetric, Ahead, ahead-is, ring-useful, open-useful}
 use Rattle.legs.specs.Between.{between}
 use Rattle.masks.specs.Ranges.{inRange}
 
 -- ---- round a ring
-ring-distance : (len p q u : ℕ) → p < len → q < len → Ahead len p q u → axisDistance len true p q ≡ min u (len - u)
-unfolding axisDistance
-ring-distance len p q u hp hq w = by-le p q (λ a. let e = w .up a in omega arith) (λ a. let e = w .round a in omega arith)
+ring-hops : (len p q u : ℕ) → p < len → q < len → Ahead len p q u → axisHops len true p q ≡ min u (len - u)
+unfolding axisHops
+ring-hops len p q u hp hq w = by-le p q (λ a. let e = w .up a in omega arith) (λ a. let e = w .round a in omega arith)
 
 -- The hops going plus add up.
 pub record Sum (len w v u : ℕ) : Type 0 where
@@ -50,7 +50,7 @@ ahead-sum len p c q hp hc hq = record { below-w = from-c .below; below-v = to-q 
         (λ b. let y = to-q .up b in by-le p q (λ d. let z = whole .up d in (λ h. omega arith, λ h. omega arith)) (λ d. let z = whole .round d in (λ h. omega arith, λ h. omega arith)))
         (λ b. let y = to-q .round b in by-le p q (λ d. absurd (omega arith)) (λ d. let z = whole .round d in (λ h. omega arith, λ h. omega arith))))
 
--- A distance is the shorter way round.
+-- Hops are those of the shorter way round.
 record Short (len u d : ℕ) : Type 0 where
   ahead-way : 2 * u ≤ len → d ≡ u
   back-way : len ≤ 2 * u → d + u ≡ len
@@ -121,7 +121,7 @@ pub ring-between : (len c p q : ℕ) → c < len → p < len → q < len →
 unfolding between
 ring-between len c p q hc hp hq =
     let s = ahead-sum len p c q hp hc hq in
-    rw (lt-ltb c len hc, ring-distance len p c (ahead len p c) hp hc (ahead-is len p c hp hc), ring-distance len c q (ahead len c q) hc hq (ahead-is len c q hc hq), ring-distance len p q (ahead len p q) hp hq (ahead-is len p q hp hq))
+    rw (lt-ltb c len hc, ring-hops len p c (ahead len p c) hp hc (ahead-is len p c hp hc), ring-hops len c q (ahead len c q) hc hq (ahead-is len c q hc hq), ring-hops len p q (ahead len p q) hp hq (ahead-is len p q hp hq))
     (sum-by len (ahead len p c) (ahead len c q) (ahead len p q) (min (ahead len p c) (len - ahead len p c)) (min (ahead len c q) (len - ahead len c q)) (min (ahead len p q) (len - ahead len p q)) s (short len (ahead len p c) (s .below-w)) (short len (ahead len c q) (s .below-v)) (short len (ahead len p q) (s .below-u)))
 
 -- The numbers from which a hop is useful, plus or minus.
@@ -146,7 +146,7 @@ ring-range len c q false hc hq =
 
 -- ---- in an open dimension, by the places themselves
 pub open-between : (len c p q : ℕ) → c < len → p < len → q < len → between len false c p q ≡ (inRange c (cond (leb p c) len 0) q || inRange 0 (cond (leb c p) (c + 1) 0) q)
-unfolding between axisDistance inRange
+unfolding between axisHops inRange
 open-between len c p q hc hp hq =
     rw (lt-ltb c len hc, le-leb 0 q (omega arith)) (by-order p c
     (λ a. rw (le-leb p c (omega arith), lt-leb c p a, lt-ltb q len hq) (by-le c q
@@ -170,5 +170,5 @@ open-range len c q false hc hq = open-useful len c q false hc hq ∙ rw (le-leb 
 pub between-symmetric : (len : ℕ) (ring : Bool) (c p q : ℕ) → between len ring c p q ≡ between len ring c q p
 unfolding between
 between-symmetric len ring c p q =
-    let sum : axisDistance len ring p c + axisDistance len ring c q ≡ axisDistance len ring q c + axisDistance len ring c p = omega (arith, axis-symmetric len ring p c, axis-symmetric len ring c q) in
+    let sum : axisHops len ring p c + axisHops len ring c q ≡ axisHops len ring q c + axisHops len ring c p = omega (arith, axis-symmetric len ring p c, axis-symmetric len ring c q) in
     rw (sum, axis-symmetric len ring p q)

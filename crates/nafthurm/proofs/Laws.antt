@@ -79,16 +79,16 @@ said-in D f h = ap (λ n. toldAs 0 (answered n (saidBy (record { dest = D; kind 
 
 -- The packet made of a route that a call gave is the new packet of that route.
 pub new-is :
-    (s : Shape) (S D : ℕ) (c : Choice) → AdmitsIn s S D c →
-    packetOf (madeFor (packetIn S D (outcomeIn D (routeFor (told s S (Given c)))))) ≡ newPacket S c
+    (far : ℕ → ℕ → ℕ) (s : Shape) (S D : ℕ) (c : Choice) → AdmitsIn s S D c →
+    packetOf (madeFor (packetIn S D (outcomeIn D (routeFor (told far S (Given c)))))) ≡ newPacket S c
 unfolding packetOf madeFor packetIn newPacket legsTo outcomeIn answered routeFor told toldAs heard entryFor saidBy viasOf kindOf kindFrom hasModes
-new-is s S D c a = admitted-legs (λ c. packetOf (madeFor (packetIn S D (outcomeIn D (routeFor (told s S (Given c)))))) ≡ newPacket S c) s S D one (λ v m n _. two v m n) c a
+new-is far s S D c a = admitted-legs (λ c. packetOf (madeFor (packetIn S D (outcomeIn D (routeFor (told far S (Given c)))))) ≡ newPacket S c) s S D one (λ v m n _. two v m n) c a
   where
-    one : (m : Mode) → packetOf (madeFor (packetIn S D (outcomeIn D (routeFor (told s S (Given (leg D m ∷ []))))))) ≡ newPacket S (leg D m ∷ [])
+    one : (m : Mode) → packetOf (madeFor (packetIn S D (outcomeIn D (routeFor (told far S (Given (leg D m ∷ []))))))) ≡ newPacket S (leg D m ∷ [])
     one Adaptive = refl
     one Deterministic = refl
 
-    two : (v : ℕ) (m n : Mode) → packetOf (madeFor (packetIn S D (outcomeIn D (routeFor (told s S (Given (leg v m ∷ leg D n ∷ []))))))) ≡ newPacket S (leg v m ∷ leg D n ∷ [])
+    two : (v : ℕ) (m n : Mode) → packetOf (madeFor (packetIn S D (outcomeIn D (routeFor (told far S (Given (leg v m ∷ leg D n ∷ []))))))) ≡ newPacket S (leg v m ∷ leg D n ∷ [])
     two v Adaptive Adaptive = refl
     two v Adaptive Deterministic = refl
     two v Deterministic Adaptive = refl

@@ -5,6 +5,7 @@ use mathlib.Core.List.{[], _∷_}
 use lib.ListN.{getD, replicate}
 use lib.Dec.{eqb}
 use Rattle.shape.specs.declared.shape.Shape.{Shape}
+use Rattle.weights.specs.declared.weights.Weights.{Weights}
 use Rattle.machine.specs.declared.leg.Leg.{Leg}
 use Rattle.machine.specs.declared.leg.Mode.{Mode}
 use Rattle.machine.specs.declared.leg.Mode.the-variants.{Adaptive, Deterministic}
@@ -24,6 +25,7 @@ use Rattle.sheet.specs.declared.output.Written.{Written}
 use Rattle.planner.specs.declared.run.Answer.{Answer}
 use Rattle.routes.specs.Said.{saidBy, entryFor, heard}
 use Rattle.nafthurm.specs.declared.forms.ShapeForm.{ShapeForm}
+use Rattle.nafthurm.specs.declared.forms.WeightsForm.{WeightsForm}
 use Rattle.nafthurm.specs.declared.forms.LegForm.{LegForm}
 use Rattle.nafthurm.specs.declared.forms.PacketForm.{PacketForm}
 use Rattle.nafthurm.specs.declared.forms.SteppedForm.{SteppedForm}
@@ -39,6 +41,9 @@ shapeOf f = record { x = f .x; y = f .y; z = f .z; wrap = f .wrap }
 
 unfoldable pub shapeFor : Shape → ShapeForm
 shapeFor s = record { x = s .x; y = s .y; z = s .z; wrap = s .wrap }
+
+unfoldable pub weightsFor : Weights → WeightsForm
+weightsFor w = record { x = w .x; y = w .y; z = w .z }
 
 -- 0 adaptive; any other byte deterministic.
 abbrev pub modeOf : ℕ → Mode

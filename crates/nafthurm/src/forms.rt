@@ -13,8 +13,9 @@ use routes::kinds::entry_for;
 use routes::kinds::outcome_by;
 use shape::Shape;
 use sheet::output::Written;
+use weights::Weights;
 ghost use mathlib.Core.Path.{_≡_};
-ghost use Rattle.nafthurm.specs.Forms.{shapeOf, shapeFor, modeOf, legOf, packetOf, packetFor, steppedFor, endingFor, walkedFor, writtenFor, runFor, routeFor, lengthFor, plannedFor, outcomeIn, packetIn, legFor, madeFor};
+ghost use Rattle.nafthurm.specs.Forms.{shapeOf, shapeFor, weightsFor, modeOf, legOf, packetOf, packetFor, steppedFor, endingFor, walkedFor, writtenFor, runFor, routeFor, lengthFor, plannedFor, outcomeIn, packetIn, legFor, madeFor};
 
 #[repr(C)]
 pub struct ShapeForm {
@@ -22,6 +23,13 @@ pub struct ShapeForm {
     pub y: u8,
     pub z: u8,
     pub wrap: u8,
+}
+
+#[repr(C)]
+pub struct WeightsForm {
+    pub x: u8,
+    pub y: u8,
+    pub z: u8,
 }
 
 #[repr(C)]
@@ -102,6 +110,16 @@ pub fn shape_for(shape: Shape) -> ShapeForm
         y: shape.y,
         z: shape.z,
         wrap: shape.wrap,
+    }
+}
+
+pub fn weights_for(weights: Weights) -> WeightsForm
+    ensures { λ r. ⌜ r ≡ weightsFor weights ⌝ }
+{
+    WeightsForm {
+        x: weights.x,
+        y: weights.y,
+        z: weights.z,
     }
 }
 

@@ -12,9 +12,8 @@ ghost use mathlib.Core.Path.{_≡_};
 ghost use mathlib.Core.Bool.{false};
 ghost use lib.ListN.{length};
 ghost use Rattle.sheet.specs.Output.{roomError, written, outAfter};
-ghost use Rattle.plan.specs.Layout.{shapeOf};
 ghost use Rattle.plan.specs.Checks.{large};
-ghost use Rattle.choice.specs.Pair.{pair};
+ghost use Rattle.choice.specs.Pair.{farIn, pair};
 ghost use Rattle.choice.specs.Outcome.{told};
 ghost use Rattle.planned_sheet.specs.Sheet.{sourceError, plannedSheet};
 ghost use Rattle.planner.specs.Run.{runAnswer, runOutput, passes};
@@ -22,7 +21,7 @@ ghost use Rattle.nafthurm.specs.Forms.{writtenFor, plannedFor, runFor};
 
 #[no_mangle]
 pub extern "C" fn nafthurm_pair(plan: &[u8], source: u16, destination: u16) -> PlannedForm
-    ensures { λ r. ⌜ r ≡ plannedFor (told (shapeOf (now (plan .entry))) source (pair large (now (plan .entry)) source destination)) ⌝ }
+    ensures { λ r. ⌜ r ≡ plannedFor (told (farIn (now (plan .entry))) source (pair large (now (plan .entry)) source destination)) ⌝ }
 {
     planned_for(pair(plan, source, destination))
 }

@@ -1,15 +1,17 @@
 // Plan sheets.
 use crate::forms::ShapeForm;
+use crate::forms::WeightsForm;
 use crate::forms::WrittenForm;
 use crate::forms::shape_for;
+use crate::forms::weights_for;
 use crate::forms::written_for;
 ghost use mathlib.Core.Path.{_≡_};
 ghost use Rattle.sheet.specs.Output.{written, outAfter};
 ghost use Rattle.plan.specs.Checks.{large, planError};
-ghost use Rattle.plan.specs.Reading.{shapeAnswer};
+ghost use Rattle.plan.specs.Reading.{shapeAnswer, weightsAnswer};
 ghost use Rattle.plan.specs.Writing.{writeError};
 ghost use Rattle.dead.specs.Dead.{nodeAnswer, linkAnswer};
-ghost use Rattle.nafthurm.specs.Forms.{shapeFor, writtenFor};
+ghost use Rattle.nafthurm.specs.Forms.{shapeFor, weightsFor, writtenFor};
 
 #[no_mangle]
 pub extern "C" fn nafthurm_plan_check(plan: &[u8]) -> u8
@@ -23,6 +25,13 @@ pub extern "C" fn nafthurm_plan_shape(plan: &[u8]) -> ShapeForm
     ensures { λ r. ⌜ r ≡ shapeFor (shapeAnswer large (now (plan .entry))) ⌝ }
 {
     shape_for(plan::shape_of(plan))
+}
+
+#[no_mangle]
+pub extern "C" fn nafthurm_plan_weights(plan: &[u8]) -> WeightsForm
+    ensures { λ r. ⌜ r ≡ weightsFor (weightsAnswer large (now (plan .entry))) ⌝ }
+{
+    weights_for(plan::weights_of(plan))
 }
 
 #[no_mangle]

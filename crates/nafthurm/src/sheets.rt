@@ -10,9 +10,9 @@ ghost use mathlib.Core.Path.{_≡_};
 ghost use Rattle.sheet.specs.Output.{written, outAfter};
 ghost use Rattle.routes.specs.Checks.{sheetError};
 ghost use Rattle.routes.specs.Writing.{writeError};
-ghost use Rattle.plan.specs.Layout.{shapeOf};
 ghost use Rattle.plan.specs.Checks.{large};
 ghost use Rattle.choice.specs.Outcome.{told};
+ghost use Rattle.choice.specs.Pair.{farIn};
 ghost use Rattle.routes.specs.Layout.{source};
 ghost use Rattle.routes.specs.Lookup.{partStart, partLength};
 ghost use Rattle.routes.specs.Says.{says};
@@ -51,7 +51,7 @@ pub extern "C" fn nafthurm_lookup(plan: &[u8], sheet: &[u8], destination: u16) -
 
 #[no_mangle]
 pub extern "C" fn nafthurm_lookup_route(plan: &[u8], sheet: &[u8], destination: u16) -> RouteForm
-    ensures { λ r. ⌜ r ≡ routeFor (told (shapeOf (now (plan .entry))) (source (now (sheet .entry))) (says large (now (plan .entry)) (now (sheet .entry)) destination)) ⌝ }
+    ensures { λ r. ⌜ r ≡ routeFor (told (farIn (now (plan .entry))) (source (now (sheet .entry))) (says large (now (plan .entry)) (now (sheet .entry)) destination)) ⌝ }
 {
     route_for(route(plan, sheet, destination))
 }

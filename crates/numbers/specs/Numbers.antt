@@ -1,11 +1,11 @@
 -- 'When a call declines': the number of each cause, in the document's words and order.
 use Prim.Native.Nat.{ℕ}
 
--- Plan sheet under 9 bytes.
+-- Plan sheet under 9 bytes, of version 2 under 12.
 abbrev pub planShort : ℕ
 planShort = 1
 
--- Plan version not 1.
+-- Plan version neither 1 nor 2.
 abbrev pub planVersionUnknown : ℕ
 planVersionUnknown = 2
 
@@ -13,7 +13,7 @@ planVersionUnknown = 2
 abbrev pub manyFaults : ℕ
 manyFaults = 3
 
--- Length field not the bytes that follow, or not 6 + 3 × count.
+-- Length field not the bytes that follow, or not 6 + 3 × count, of version 2 not 9 + 3 × count.
 abbrev pub wrongLength : ℕ
 wrongLength = 4
 
@@ -60,3 +60,7 @@ wrongPacket = 14
 -- Direction not allowed, or above 5.
 abbrev pub notAllowed : ℕ
 notAllowed = 15
+
+-- A weight outside 1 to 8.
+abbrev pub weightOutside : ℕ
+weightOutside = 16

@@ -1,15 +1,15 @@
 // The number of each cause for which a call declines, in document 01's words and order; specs/Numbers.antt has the same names.
 
-// Plan sheet under 9 bytes.
+// Plan sheet under 9 bytes, of version 2 under 12.
 pub const PLAN_SHORT: u8 = 1;
 
-// Plan version not 1.
+// Plan version neither 1 nor 2.
 pub const PLAN_VERSION_UNKNOWN: u8 = 2;
 
 // Fault count above 256.
 pub const MANY_FAULTS: u8 = 3;
 
-// Length field not the bytes that follow, or not 6 + 3 × count.
+// Length field not the bytes that follow, or not 6 + 3 × count, of version 2 not 9 + 3 × count.
 pub const WRONG_LENGTH: u8 = 4;
 
 // An extent outside 1 to 16.
@@ -44,3 +44,6 @@ pub const WRONG_PACKET: u8 = 14;
 
 // Direction not allowed, or above 5.
 pub const NOT_ALLOWED: u8 = 15;
+
+// A weight outside 1 to 8.
+pub const WEIGHT_OUTSIDE: u8 = 16;

@@ -15,7 +15,8 @@ use Rattle.sheet.proofs.Heads.{length-field, length-sheet}
 use Rattle.shape.specs.declared.shape.Shape.{Shape}
 use Rattle.shape.proofs.Shapes.{count-most}
 use Rattle.machine.specs.Number.{nodeCount}
-use Rattle.plan.specs.Layout.{layoutOf, layoutIn, sizeAfter, shapeOf, faultCount, faultsOf}
+use Rattle.weights.specs.Weights.{weightError}
+use Rattle.plan.specs.Layout.{layoutOf, layoutIn, sizeAfter, shapeOf, weightsOf, faultCount, faultsOf}
 use Rattle.plan.specs.Checks.{Limits, large, mostFaults, Rules, faultsError, planErrorBy, torusPlans, planError}
 use Rattle.plan.specs.Steps.{headError}
 
@@ -33,10 +34,10 @@ module _ (R : Rules) (L : Limits) (s : List ℕ) where
   faultsLeft m = faultsError R (layoutIn s .lastKind) m 0 (faultsOf s)
 
   -- Checks 1 to 4, then the rest.
-  pub in-order : planErrorBy R L s ≡ (headError s then (R .shapeError (shapeOf s) then faultsLeft (shapeOf s)))
+  pub in-order : planErrorBy R L s ≡ (headError s then (R .shapeError (shapeOf s) then (weightError (weightsOf s) then faultsLeft (shapeOf s))))
   unfolding planErrorBy headError
   in-order =
-      let r = R .shapeError (shapeOf s) then faultsLeft (shapeOf s) in
+      let r = R .shapeError (shapeOf s) then (weightError (weightsOf s) then faultsLeft (shapeOf s)) in
       let a = declined (ltb (length s) (layoutIn s .headSize)) planShort in
       let b = declined (not (layoutIn s .known)) planVersionUnknown in
       let d = declined (ltb mostFaults (faultCount s)) manyFaults in
@@ -54,10 +55,18 @@ module _ (R : Rules) (L : Limits) (s : List ℕ) where
         let q : e ≡ R .shapeError (shapeOf s) = k ∙ ap (R .shapeError) em in
         q ∙ sym (in-order ∙ passes (headError s) _ h ∙ declines (R .shapeError (shapeOf s)) _ (λ z. n (q ∙ z)))
 
-    pub faults-left : (e : ℕ) → R .shapeError m ≡ 0 → e ≡ faultsLeft m → e ≡ planErrorBy R L s
-    faults-left e k q =
-        let z : R .shapeError (shapeOf s) ≡ 0 = sym (ap (R .shapeError) em) ∙ k in
-        q ∙ sym (in-order ∙ passes (headError s) _ h ∙ passes (R .shapeError (shapeOf s)) _ z ∙ rw em)
+    -- What is left where neither a check of the head nor of the shape declines.
+    module _ (k : R .shapeError m ≡ 0) where
+      weights-left : planErrorBy R L s ≡ (weightError (weightsOf s) then faultsLeft m)
+      weights-left =
+          let z : R .shapeError (shapeOf s) ≡ 0 = sym (ap (R .shapeError) em) ∙ k in
+          in-order ∙ passes (headError s) _ h ∙ passes (R .shapeError (shapeOf s)) _ z ∙ rw em
+
+      pub weights-refused : (e : ℕ) → e ≡ weightError (weightsOf s) → (e ≡ 0 → ⊥) → e ≡ planErrorBy R L s
+      weights-refused e q n = q ∙ sym (weights-left ∙ declines (weightError (weightsOf s)) _ (λ z. n (q ∙ z)))
+
+      pub faults-left : (e : ℕ) → weightError (weightsOf s) ≡ 0 → e ≡ faultsLeft m → e ≡ planErrorBy R L s
+      faults-left e w q = q ∙ sym (weights-left ∙ passes (weightError (weightsOf s)) _ w)
 
 -- What checks 1 to 4 leave.
 pub record Head (s : List ℕ) : Type 0 where
@@ -70,6 +79,7 @@ pub record Head (s : List ℕ) : Type 0 where
 pub record Accepted (R : Rules) (s : List ℕ) : Type 0 where
   pub head : Head s
   pub shape : R .shapeError (shapeOf s) ≡ 0
+  pub weights : weightError (weightsOf s) ≡ 0
   pub faults : faultsError R (layoutIn s .lastKind) (shapeOf s) 0 (faultsOf s) ≡ 0
 
 -- A head holds the version and the length field.
@@ -101,7 +111,8 @@ pub accepted : (R : Rules) (L : Limits) (s : List ℕ) → planErrorBy R L s ≡
 accepted R L s h =
     let p = then-zero (headError s) _ (sym (in-order R L s) ∙ h) in
     let q = then-zero (R .shapeError (shapeOf s)) _ (p .1) in
-    record { head = head-of s (p .0); shape = q .0; faults = q .1 }
+    let w = then-zero (weightError (weightsOf s)) _ (q .1) in
+    record { head = head-of s (p .0); shape = q .0; weights = w .0; faults = w .1 }
 
 -- Nodes and faults of an accepted plan are within the limits.
 pub record Within (L : Limits) (s : List ℕ) : Type 0 where

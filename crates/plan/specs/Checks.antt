@@ -1,4 +1,4 @@
--- 'When a call declines': the checks of a plan, 1 to 8, in the document's order.
+-- 'When a call declines': the checks of a plan, 1 to 8 with 16 between 6 and 7, in the documents' order.
 use Prim.Native.Nat.{ℕ, _+_, _*_}
 use mathlib.Core.Bool.{Bool, not, _&&_, _||_}
 use mathlib.Core.List.{List, [], _∷_}
@@ -9,10 +9,11 @@ use Rattle.theory.specs.Checks.{declined, _then_}
 use Rattle.sheet.specs.Head.{lengthIs}
 use Rattle.shape.specs.declared.shape.Shape.{Shape}
 use Rattle.shape.specs.Shape.{shapeError}
+use Rattle.weights.specs.Weights.{weightError}
 use Rattle.machine.specs.Node.{isNode}
 use Rattle.machine.specs.Hop.{link}
 use Rattle.plan.specs.declared.layout.Fault.{Fault}
-use Rattle.plan.specs.Layout.{layoutIn, sizeAfter, shapeOf, faultCount, faultsOf}
+use Rattle.plan.specs.Layout.{layoutIn, sizeAfter, shapeOf, weightsOf, faultCount, faultsOf}
 use Rattle.plan.specs.Kinds.{linkKind, nodeKind, kindDir}
 
 -- What a caller can hold: nodes at most and faults at most. Every check of a plan takes the caller's limits. None reads them today: extents of at most
@@ -52,16 +53,18 @@ faultsError R lastKind s least (f ∷ fs) =
 
 unfoldable pub planErrorBy : Rules → Limits → List ℕ → ℕ
 planErrorBy R L s =
-    -- plan sheet under 9 bytes
+    -- plan sheet under 9 bytes, of version 2 under 12
     declined (ltb (length s) (layoutIn s .headSize)) planShort
-    -- plan version not 1
+    -- plan version neither 1 nor 2
     then declined (not (layoutIn s .known)) planVersionUnknown
     -- fault count above 256
     then declined (ltb mostFaults (faultCount s)) manyFaults
-    -- length field not the bytes that follow, or not 6 + 3 × count
+    -- length field not the bytes that follow, or not 6 + 3 × count, of version 2 not 9 + 3 × count
     then declined (not (lengthIs s (sizeAfter (layoutIn s) (faultCount s)))) wrongLength
     -- an extent outside 1 to 16: 5; wrap on an extent below 3, or a spare wrap bit set: 6
     then R .shapeError (shapeOf s)
+    -- a weight outside 1 to 8: 16
+    then weightError (weightsOf s)
     -- 7 and 8
     then faultsError R (layoutIn s .lastKind) (shapeOf s) 0 (faultsOf s)
 

@@ -1,14 +1,15 @@
-// Checks 1 to 8 of a plan, in order; 0 where none declines.
+// Checks 1 to 8 of a plan with 16 between 6 and 7, in order; 0 where none declines.
 use crate::kinds;
 use crate::layout::Fault;
-use crate::layout::HEAD_SIZE;
 use crate::layout::LAST_KIND;
 use crate::layout::MOST_FAULTS;
-use crate::layout::VERSION;
 use crate::layout::count_in;
 use crate::layout::fault_in;
+use crate::layout::head_size;
+use crate::layout::is_known;
 use crate::layout::shape_in;
 use crate::layout::size_after;
+use crate::layout::weights_in;
 use logic::both;
 use logic::either;
 use logic::pick;
@@ -24,6 +25,7 @@ use shape::Shape;
 use shape::shape::shape_error;
 use sheet::head::length_is;
 use sheet::head::version_in;
+use weights::weights::weight_error;
 ghost use mathlib.Core.Path.{_≡_};
 ghost use Prim.Native.Nat.{_<_};
 ghost use Rattle.plan.specs.Layout.{layoutIn, faultsOf};
@@ -34,11 +36,16 @@ ghost use Rattle.plan.specs.Steps.{headError};
 fn head_error(sheet: &[u8]) -> u8
     ensures { λ r. ⌜ r ≡ headError (now (sheet .entry)) ⌝ }
 {
+    let version = version_in(sheet);
     let count = count_in(sheet);
-    let wrong = pick(length_is(sheet, size_after(count)), 0, WRONG_LENGTH);
+    let wrong = pick(
+        length_is(sheet, size_after(version, count)),
+        0,
+        WRONG_LENGTH,
+    );
     let many = pick(MOST_FAULTS < count, MANY_FAULTS, wrong);
-    let version = pick(version_in(sheet) == VERSION, many, PLAN_VERSION_UNKNOWN);
-    pick(sheet.len() < HEAD_SIZE, PLAN_SHORT, version)
+    let known = pick(is_known(version), many, PLAN_VERSION_UNKNOWN);
+    pick(sheet.len() < head_size(version), PLAN_SHORT, known)
 }
 
 fn fault_exists(shape: Shape, f: Fault) -> bool
@@ -96,6 +103,10 @@ pub fn check(sheet: &[u8]) -> u8
     let error = shape_error(shape);
     if error != 0 {
         return error;
+    }
+    let weight = weight_error(weights_in(sheet));
+    if weight != 0 {
+        return weight;
     }
     faults_error(sheet, shape)
 }

@@ -1,4 +1,4 @@
-// The plan sheet: its layout, checks 1 to 8, its shape, and writing it back.
+// The plan sheet: its layout, its checks, its shape and weights, and writing it back.
 mod checks;
 pub mod kinds;
 pub mod layout;
@@ -9,4 +9,5 @@ pub use checks::check;
 pub use layout::Fault;
 pub use reading::Answer;
 pub use reading::shape_of;
+pub use reading::weights_of;
 pub use writing::write_back;

@@ -8,10 +8,10 @@ ghost use lib.ListN.{take};
 ghost use Rattle.sheet.specs.Input.{ReadInto};
 ghost use Rattle.plan.specs.Checks.{large, planError};
 
-// One byte more than the longest plan sheet that is accepted, one of 256 faults: of a longer input these bytes decide the checks.
-pub const PLAN_BYTES: usize = 778;
+// One byte more than the longest plan sheet that is accepted, one of version 2 with 256 faults: of a longer input these bytes decide the checks.
+pub const PLAN_BYTES: usize = 781;
 
-// Checks 1 to 8 of the whole input; 0 where none declines. A size above PLAN_BYTES counts as PLAN_BYTES.
+// The checks of the whole input; 0 where none declines. A size above PLAN_BYTES counts as PLAN_BYTES.
 pub fn plan_error(plan: &[u8; PLAN_BYTES], size: usize) -> u8
     ensures { λ r. ⌜ r ≡ planError large (take size (now (plan .entry))) ⌝ }
     ensures { λ r. ⌜ ((whole : List ℕ) → ReadInto whole (now (plan .entry)) size → r ≡ planError large whole) ⌝ }

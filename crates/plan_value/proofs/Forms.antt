@@ -11,14 +11,14 @@ use Rattle.sheet.proofs.Records.{word-of, upper-of, lower-of, word-below}
 use Rattle.sheet.proofs.Forms.{Lawful}
 use Rattle.sheet.proofs.Encoding.{Encoding, onward}
 use Rattle.plan.specs.declared.layout.Fault.{Fault}
-use Rattle.plan.specs.Layout.{layoutOf, planVersion, faultForm}
+use Rattle.plan.specs.Layout.{faultForm}
 use Rattle.plan_value.specs.Value.{FaultFits}
 use Rattle.plan_value.specs.Steps.{putFault}
 
 -- A fault put in its place is its bytes in a row.
-pub put-row : (l : List ℕ) (i : ℕ) (f : Fault) → putFault l i f ≡ sets l (layoutOf planVersion .headSize + 3 * i) (faultForm .bytes f)
-put-row l i f =
-    let at = layoutOf planVersion .headSize + 3 * i in
+pub put-row : (head : ℕ) (l : List ℕ) (i : ℕ) (f : Fault) → putFault head l i f ≡ sets l (head + 3 * i) (faultForm .bytes f)
+put-row head l i f =
+    let at = head + 3 * i in
     let e : at + 2 ≡ suc (suc at) = omega arith in
     rw (add-one at, e)
 
@@ -43,9 +43,9 @@ lawful = record {
   fits = λ s bytes at. word-below s bytes at;
 }
 
--- The loop that writes the faults behind the head.
-abbrev pub Encoded : ℕ → (ℕ → Fault) → List ℕ → List ℕ → ℕ → Type 0
-Encoded n f head bytes i = Encoding faultForm (lawful .long) (layoutOf planVersion .headSize) n f head bytes i
+-- The loop that writes the faults behind the head, of `size` bytes.
+abbrev pub Encoded : ℕ → ℕ → (ℕ → Fault) → List ℕ → List ℕ → ℕ → Type 0
+Encoded size n f head bytes i = Encoding faultForm (lawful .long) size n f head bytes i
 
-pub fault-put : (n : ℕ) (f : ℕ → Fault) (head bytes : List ℕ) (i : ℕ) → Encoded n f head bytes i → (x : Fault) (after : List ℕ) → x ≡ f i → after ≡ putFault bytes i x → i < n → Encoded n f head after (i + 1)
-fault-put n f head bytes i g x after e q h = onward faultForm (lawful .long) _ n f head bytes i g x after e (q ∙ put-row bytes i x) h
+pub fault-put : (size n : ℕ) (f : ℕ → Fault) (head bytes : List ℕ) (i : ℕ) → Encoded size n f head bytes i → (x : Fault) (after : List ℕ) → x ≡ f i → after ≡ putFault size bytes i x → i < n → Encoded size n f head after (i + 1)
+fault-put size n f head bytes i g x after e q h = onward faultForm (lawful .long) size n f head bytes i g x after e (q ∙ put-row size bytes i x) h

@@ -5,9 +5,10 @@ use lib.ListN.{replicate}
 use Rattle.sheet.specs.Bytes.{arrayOf}
 use Rattle.plan.specs.declared.layout.Fault.{Fault}
 use Rattle.plan.specs.declared.reading.Answer.the-variants.{Accepted, Refused}
-use Rattle.plan.specs.Layout.{shapeOf, faultCount, faultsOf}
+use Rattle.sheet.specs.Head.{version}
+use Rattle.plan.specs.Layout.{shapeOf, weightsOf, faultCount, faultsOf}
 use Rattle.plan.specs.Checks.{mostFaults}
-use Rattle.plan.specs.Reading.{noShape}
+use Rattle.plan.specs.Reading.{noShape, noWeights}
 use Rattle.plan_value.specs.declared.reading.Plan.{Plan}
 use Rattle.plan_value.specs.declared.reading.Reading.{Reading}
 
@@ -15,14 +16,14 @@ abbrev pub noFault : Fault
 noFault = record { node = 0; kind = 0 }
 
 abbrev pub noPlan : Plan
-noPlan = record { shape = noShape; count = 0; faults = replicate mostFaults noFault }
+noPlan = record { version = 0; shape = noShape; weights = noWeights; count = 0; faults = replicate mostFaults noFault }
 
 -- The faults as an array of 256, with zeros past them.
 unfoldable pub faultArray : List ℕ → List Fault
 faultArray s = arrayOf noFault mostFaults (faultsOf s)
 
 unfoldable pub planOf : List ℕ → Plan
-planOf s = record { shape = shapeOf s; count = faultCount s; faults = faultArray s }
+planOf s = record { version = version s; shape = shapeOf s; weights = weightsOf s; count = faultCount s; faults = faultArray s }
 
 -- The plan, or the number.
 unfoldable pub reading : ℕ → List ℕ → Reading

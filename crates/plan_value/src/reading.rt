@@ -5,14 +5,19 @@ use plan::check;
 use plan::layout::count_in;
 use plan::layout::fault_in;
 use plan::layout::shape_in;
+use plan::layout::weights_in;
 use shape::Shape;
+use sheet::head::version_in;
+use weights::Weights;
 ghost use mathlib.Core.Path.{_≡_};
 ghost use Rattle.plan.specs.Checks.{large, planError};
 ghost use Rattle.plan_value.specs.Reading.{faultArray, reading};
 
-// The faults are the first `count` of the array.
+// The faults are the first `count` of the array. The weights of a version that has none are not written, and are read as 1.
 pub struct Plan {
+    pub version: u8,
     pub shape: Shape,
+    pub weights: Weights,
     pub count: u16,
     pub faults: [Fault; 256],
 }
@@ -50,7 +55,9 @@ pub fn read(sheet: &[u8]) -> Reading
             wrap: 0,
         };
         let plan = Plan {
+            version: 0,
             shape: shape,
+            weights: Weights { x: 0, y: 0, z: 0 },
             count: 0,
             faults: none,
         };
@@ -61,7 +68,9 @@ pub fn read(sheet: &[u8]) -> Reading
     }
     let faults = faults_in(sheet);
     let plan = Plan {
+        version: version_in(sheet),
         shape: shape_in(sheet),
+        weights: weights_in(sheet),
         count: count_in(sheet),
         faults: faults,
     };

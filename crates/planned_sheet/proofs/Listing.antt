@@ -14,7 +14,7 @@ use Rattle.dead.proofs.Table.{is-node}
 use Rattle.choice.specs.declared.outcome.Outcome.{Outcome}
 use Rattle.choice.specs.Answer.{Answer}
 use Rattle.choice.specs.Outcome.{told}
-use Rattle.choice.specs.Pair.{pair}
+use Rattle.choice.specs.Pair.{farIn, pair}
 use Rattle.routes.specs.declared.layout.Entry.{Entry}
 use Rattle.routes.specs.Layout.{mostEntries}
 use Rattle.routes.specs.Said.{entryFor, heard}
@@ -65,11 +65,11 @@ module _ (p : List ℕ) (S : ℕ) where
       next-unlisted h = record { within = omega arith; sum = ap (λ a. es ++ a) (sym (rest ∙ rw h)) ∙ g .sum }
 
       -- The entry of a destination that is listed.
-      pub entered : directClear p S d ≡ false → (o : Outcome) (e : Entry) → o ≡ told (shapeOf p) S x → e ≡ entryFor d (heard d o) → (length es < mostEntries) × Listing p S (es ++ (e ∷ [])) (d + 1)
+      pub entered : directClear p S d ≡ false → (o : Outcome) (e : Entry) → o ≡ told (farIn p) S x → e ≡ entryFor d (heard d o) → (length es < mostEntries) × Listing p S (es ++ (e ∷ [])) (d + 1)
       entered c o e eo ee =
           let node = is-node (shapeOf p) d (record { sound = node-of (shapeOf p) S (s .node) .sound; below = l }) in
           let h = unclear-listed p S s d node c in
-          let made : e ≡ entryFor d x = ee ∙ ap (λ y. entryFor d (heard d y)) eo ∙ entry-told (shapeOf p) S d x in
+          let made : e ≡ entryFor d x = ee ∙ ap (λ y. entryFor d (heard d y)) eo ∙ entry-told (farIn p) S d x in
           (room h, rw made (next-listed h))
 
   -- Destinations that are not listed are passed over.

@@ -24,8 +24,8 @@ use Rattle.dead.specs.Dead.{deadNode}
 use Rattle.dead.proofs.Table.{is-node}
 use Rattle.choice.specs.Choice.{Choice, AdmitsIn}
 use Rattle.choice.specs.Answer.{Answer, Given, Refused, answered}
-use Rattle.choice.specs.Pair.{soundIn, routeIn, pairError, chosen, pair}
-use Rattle.choice.proofs.AtTorus.{empty-adaptive, direct-first}
+use Rattle.choice.specs.Pair.{soundIn, farIn, routeIn, pairError, chosen, pair}
+use Rattle.choice.proofs.AtTorus.{far-lengths, empty-adaptive, direct-first}
 use Rattle.choice.proofs.Demand.{pair-chosen, found-planned, demand}
 use Rattle.routes.specs.declared.layout.Entry.{Entry}
 use Rattle.routes.specs.Layout.{written, mostEntries}
@@ -129,8 +129,8 @@ module _ (L : Limits) (p : List ℕ) (S : ℕ) (s : Source L p S) where
   unfolding lists
   self-unlisted =
       let k = node-of (shapeOf p) S (s .node) in
-      let clear = empty-adaptive (shapeOf p) (k .sound) (soundIn p) S S (k .below) (k .below) in
-      let route : routeIn p S S ≡ some (leg S Adaptive ∷ []) = direct-first (shapeOf p) (k .sound) (soundIn p) S S (k .below) (k .below) clear in
+      let clear = empty-adaptive (shapeOf p) (k .sound) (soundIn p) S (k .below) in
+      let route : routeIn p S S ≡ some (leg S Adaptive ∷ []) = direct-first (farIn p) (shapeOf p) (far-lengths L p (s .plan)) (k .sound) (soundIn p) S S (k .below) (k .below) clear in
       rw (pair-alive S (s .node) (s .alive), route)
 
   listed-other : (D : ℕ) → lists (pair L p S D) ≡ true → D ≡ S → ⊥

@@ -19,8 +19,8 @@ use Rattle.plan.specs.Layout.{shapeOf, faultsOf}
 use Rattle.plan.specs.Checks.{large}
 use Rattle.dead.specs.Dead.{deadNode}
 use Rattle.choice.specs.Answer.{Given, Refused}
-use Rattle.choice.specs.Pair.{soundIn, chosen, pair}
-use Rattle.choice.proofs.AtTorus.{direct-first}
+use Rattle.choice.specs.Pair.{soundIn, farIn, chosen, pair}
+use Rattle.choice.proofs.AtTorus.{far-lengths, direct-first}
 use Rattle.choice.proofs.Demand.{demand}
 use Rattle.losses.proofs.DeadTarget.{dead-target}
 use Rattle.planned_sheet.specs.Sheet.{lists}
@@ -58,7 +58,7 @@ module _ (p : List ℕ) (S : ℕ) (s : Source large p S) (D : ℕ) (node : isNod
       (λ d. d)
 
   pub pair-direct : directClear p S D ≡ true → pair large p S D ≡ Given (leg D Adaptive ∷ [])
-  pair-direct c = pair-alive large p S s D node (clear-alive c) ∙ ap chosen (direct-first (shapeOf p) ok (soundIn p) S D source target c)
+  pair-direct c = pair-alive large p S s D node (clear-alive c) ∙ ap chosen (direct-first (farIn p) (shapeOf p) (far-lengths large p (s .plan)) ok (soundIn p) S D source target c)
 
   -- A sound destination's answer is the direct adaptive leg only where that is clear.
   direct-clear : deadNode (faultsOf p) D ≡ false → pair large p S D ≡ Given (leg D Adaptive ∷ []) → directClear p S D ≡ true

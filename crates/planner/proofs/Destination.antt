@@ -13,9 +13,10 @@ use Rattle.theory.proofs.Cases.{test}
 use Rattle.shape.specs.declared.shape.Shape.{Shape}
 use Rattle.shape.specs.declared.shape.Coords.{Coords}
 use Rattle.machine.specs.declared.leg.Mode.the-variants.{Adaptive, Deterministic}
-use Rattle.machine.specs.ByCoords.{distanceAt}
 use Rattle.machine.specs.Node.{isNode}
-use Rattle.plan.specs.Layout.{shapeOf, faultsOf}
+use Rattle.weights.specs.declared.weights.Weights.{Weights}
+use Rattle.weights.specs.Steps.{distanceAtAnswer}
+use Rattle.plan.specs.Layout.{shapeOf, weightsOf, faultsOf}
 use Rattle.plan.specs.Checks.{large, planError}
 use Rattle.plan.specs.Reading.{isPlan}
 use Rattle.dead.specs.Dead.{deadNode, bitOf, nodeAnswer}
@@ -23,7 +24,7 @@ use Rattle.dead.proofs.Table.{is-node}
 use Rattle.packet.specs.declared.route.Route.{Route}
 use Rattle.choice.specs.declared.outcome.Outcome.{Outcome}
 use Rattle.choice.specs.Outcome.{told, toldAs}
-use Rattle.choice.specs.Pair.{pair}
+use Rattle.choice.specs.Pair.{farIn, pair}
 use Rattle.rows.specs.Rows.{inRows}
 use Rattle.first_clear.specs.Known.{isClear, IsAt, NearLosses, routeTold, BySets, ByLosses}
 use Rattle.first_clear.proofs.Knowing.{shape-ok}
@@ -57,34 +58,35 @@ module _ (p : List ℕ) (s : Shape) (words : List ℕ) (count : ℕ) (dead ta td
   dead-is : getD dead D 0 ≡ bitOf (deadNode (faultsOf p) D)
   dead-is = dead-byte p dead h (g .prepared .nodes) D
 
-  pub dead-told : (getD dead D 0 ≡ 0 → ⊥) → Outcome.Refused deadEnd ≡ told (shapeOf p) S (pair large p S D)
+  pub dead-told : (getD dead D 0 ≡ 0 → ⊥) → Outcome.Refused deadEnd ≡ told (farIn p) S (pair large p S D)
   unfolding told toldAs
   dead-told ne =
       test (deadNode (faultsOf p) D)
       (λ d. rw (pair-dead large p S source-is D target-is d) refl)
       (λ d. absurd (ne (dead-is ∙ ap bitOf d)))
 
-  pub alive-told : getD dead D 0 ≡ 0 → (o : Outcome) → o ≡ routeTold p S D → o ≡ told (shapeOf p) S (pair large p S D)
+  pub alive-told : getD dead D 0 ≡ 0 → (o : Outcome) → o ≡ routeTold p S D → o ≡ told (farIn p) S (pair large p S D)
   alive-told z o e =
       test (deadNode (faultsOf p) D)
       (λ d. let q : _≡_ {A = ℕ} 1 0 = sym (dead-is ∙ ap bitOf d) ∙ z in absurd (omega arith))
-      (λ d. e ∙ sym (ap (told (shapeOf p) S) (pair-alive large p S source-is D target-is d)))
+      (λ d. e ∙ sym (ap (told (farIn p) S) (pair-alive large p S source-is D target-is d)))
 
   -- The direct adaptive leg is clear, or not.
-  pub direct-told : (b : Bool) → b ≡ inRows fa 0 t → b ≡ true → (len : ℕ) → len ≡ distanceAt s a t → Outcome.Given (Route.Direct Adaptive) len ≡ told (shapeOf p) S (pair large p S D)
+  pub direct-told : (w : Weights) → w ≡ weightsOf p → (b : Bool) → b ≡ inRows fa 0 t → b ≡ true → (len : ℕ) → len ≡ distanceAtAnswer w s a t → Outcome.Given (Route.Direct Adaptive) len ≡ told (farIn p) S (pair large p S D)
   unfolding told toldAs sumBy
-  direct-told b e y len q =
+  direct-told w ew b e y len q =
       let c = sym (has-is p Adaptive fa S D t (g .adaptive) to b e) ∙ y in
-      let d = length-is p s S D a t len (g .prepared .of-plan .shape) (g .source) to q in
+      let d = length-is p w s S D a t len h ew (g .prepared .of-plan .shape) (g .source) to q in
       rw (pair-direct p S source-is D target-is c) (ap (Outcome.Given (Route.Direct Adaptive)) (omega arith))
 
   pub not-direct : (b : Bool) → b ≡ inRows fa 0 t → b ≡ false → isClear p Adaptive S D ≡ false
   not-direct b e n = sym (has-is p Adaptive fa S D t (g .adaptive) to b e) ∙ n
 
-  module _ (direct : isClear p Adaptive S D ≡ false) (straight : Bool) (es : straight ≡ inRows fd 0 t) where
-    pub by-losses : (near : List ℕ) (n : ℕ) → NearLosses p S D words count near n → ByLosses p s words count near n ta td S D a t fa fd straight
+  module _ (w : Weights) (ew : w ≡ weightsOf p) (direct : isClear p Adaptive S D ≡ false) (straight : Bool) (es : straight ≡ inRows fd 0 t) where
+    pub by-losses : (near : List ℕ) (n : ℕ) → NearLosses p S D words count near n → ByLosses p w s words count near n ta td S D a t fa fd straight
     by-losses near n some = record {
       of-plan = g .prepared .of-plan;
+      weights = ew;
       standing = some;
       masks = g .prepared .adaptive;
       others = g .prepared .deterministic;
@@ -96,9 +98,10 @@ module _ (p : List ℕ) (s : Shape) (words : List ℕ) (count : ℕ) (dead ta td
       one = has-is p Deterministic fd S D t (g .deterministic) to straight es;
     }
 
-    pub by-sets : Work p work → (length work ≡ 0 → ⊥) → BySets p s work S D a t fa fd straight
+    pub by-sets : Work p work → (length work ≡ 0 → ⊥) → BySets p w s work S D a t fa fd straight
     by-sets sets ne = record {
       plan = h;
+      weights = ew;
       shape = g .prepared .of-plan .shape;
       source = g .source;
       target = to;

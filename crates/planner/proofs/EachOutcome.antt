@@ -19,7 +19,7 @@ use Rattle.plan.specs.Checks.{large, planError}
 use Rattle.dead.proofs.Table.{is-node}
 use Rattle.choice.specs.declared.outcome.Outcome.{Outcome}
 use Rattle.choice.specs.Outcome.{told}
-use Rattle.choice.specs.Pair.{pair}
+use Rattle.choice.specs.Pair.{farIn, pair}
 use Rattle.planner.specs.declared.outside.At.{At}
 use Rattle.planner.specs.Outside.{placeOf, Stands, Following}
 use Rattle.choice_number.specs.KeyNumber.{pickOutcome}
@@ -34,7 +34,7 @@ use Rattle.planner.proofs.Standing.{starts, stands-end, node-small}
 use Rattle.planner.proofs.Writing.{node-known}
 
 abbrev pub answer : List ℕ → ℕ → ℕ → Outcome
-answer p S d = told (shapeOf p) S (pair large p S d)
+answer p S d = told (farIn p) S (pair large p S d)
 
 -- Nothing where a check declines the source.
 pub declined : (p : List ℕ) (S e : ℕ) → e ≡ sourceError large p S → (e ≡ 0 → ⊥) → (d : ℕ) → getD (replicate 4096 noOutcome) d noOutcome ≡ outcomeAt large p S d

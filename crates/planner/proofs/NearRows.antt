@@ -15,7 +15,7 @@ use Rattle.shape.specs.Shape.{shapeError}
 use Rattle.machine.specs.declared.leg.Mode.{Mode}
 use Rattle.machine.specs.declared.leg.Mode.the-variants.{Adaptive, Deterministic}
 use Rattle.machine.specs.Number.{nodeCount, coordsOf, Inside}
-use Rattle.machine.specs.Hop.{rule, distance}
+use Rattle.machine.specs.Hop.{rule, hops}
 use Rattle.machine.proofs.Numbers.{inside}
 use Rattle.plan.specs.Layout.{shapeOf}
 use Rattle.plan.specs.Checks.{large, planError}
@@ -74,7 +74,7 @@ module _ (p : List ℕ) (s : Shape) (words : List ℕ) (count : ℕ) (k : OfPlan
       agree i g h = ended i h ∙ row-masks Adaptive false (shapeOf p) e t y z i g h ∙ sym (full i h ∙ ap (λ (q : Shape). endsAt Adaptive false q t i) (k .shape))
 
       -- A loss that is left out lies on no leg to E, in either mode.
-      module _ (v : ℕ) (h : v < nodeCount (shapeOf p)) (w : distance (shapeOf p) S v + distance (shapeOf p) v E ≡ distance (shapeOf p) S E) where
+      module _ (v : ℕ) (h : v < nodeCount (shapeOf p)) (w : hops (shapeOf p) S v + hops (shapeOf p) v E ≡ hops (shapeOf p) S E) where
         abbrev c : Coords
         c = coordsOf (shapeOf p) v
 

@@ -12,19 +12,20 @@ use Rattle.shape.specs.declared.shape.Coords.{Coords}
 use Rattle.theory.specs.Machine.{sumBy}
 use Rattle.packet.specs.declared.route.Route.{Route}
 use Rattle.machine.specs.Hop.{rule}
-use Rattle.machine.specs.ByCoords.{distanceAt}
+use Rattle.weights.specs.declared.weights.Weights.{Weights}
+use Rattle.weights.specs.Steps.{distanceAtAnswer}
 use Rattle.machine.specs.declared.leg.Mode.{Mode}
 use Rattle.machine.specs.declared.leg.Mode.the-variants.{Adaptive, Deterministic}
 use Rattle.machine.specs.Node.{isNode, coordsAnswer}
 use Rattle.machine.proofs.Nodes.{node-of}
-use Rattle.plan.specs.Layout.{shapeOf, faultsOf}
+use Rattle.plan.specs.Layout.{shapeOf, weightsOf, faultsOf}
 use Rattle.plan.specs.Checks.{large, planError}
 use Rattle.dead.specs.Dead.{deadNode}
 use Rattle.choice.specs.declared.outcome.Outcome.{Outcome}
 use Rattle.choice.specs.Answer.{answered}
 use Rattle.choice.specs.Outcome.{told, toldAs}
-use Rattle.choice.specs.Pair.{soundIn, routeIn, pairError, chosen, pair}
-use Rattle.choice.proofs.AtTorus.{direct-first}
+use Rattle.choice.specs.Pair.{soundIn, farIn, routeIn, pairError, chosen, pair}
+use Rattle.choice.proofs.AtTorus.{far-lengths, direct-first}
 use Rattle.losses.specs.Loss.{onLeg}
 use Rattle.losses.specs.OfPlan.{AreLosses}
 use Rattle.losses.proofs.AtPlan.{clear-is}
@@ -53,12 +54,12 @@ accepted p S D h =
     record { plan = k .0; source = k .1; target = k .2 }
 
 -- ---- the answer
-pub refused-pair : (p : List ℕ) (S D e : ℕ) → e ≡ pairError large p S D → (e ≡ 0 → ⊥) → Outcome.Refused e ≡ told (shapeOf p) S (pair large p S D)
+pub refused-pair : (p : List ℕ) (S D e : ℕ) → e ≡ pairError large p S D → (e ≡ 0 → ⊥) → Outcome.Refused e ≡ told (farIn p) S (pair large p S D)
 unfolding pair answered told toldAs
 refused-pair p S D zero q ne = absurd (ne refl)
 refused-pair p S D (suc e) q ne = rw (sym q)
 
-chosen-pair : (p : List ℕ) (S D : ℕ) → pairError large p S D ≡ 0 → told (shapeOf p) S (chosen (routeIn p S D)) ≡ told (shapeOf p) S (pair large p S D)
+chosen-pair : (p : List ℕ) (S D : ℕ) → pairError large p S D ≡ 0 → told (farIn p) S (chosen (routeIn p S D)) ≡ told (farIn p) S (pair large p S D)
 unfolding pair answered
 chosen-pair p S D h = rw h
 
@@ -79,31 +80,32 @@ module _ (p : List ℕ) (s : Shape) (S D e : ℕ) (es : s ≡ shapeOf p) (ee : e
   pub to-at : (c : Coords) → c ≡ coordsAnswer s D → IsAt p D c
   to-at c q = node-at p s D c es (A .target) q
 
-  pub paired : (r : Outcome) → r ≡ routeTold p S D → r ≡ told (shapeOf p) S (pair large p S D)
+  pub paired : (r : Outcome) → r ≡ routeTold p S D → r ≡ told (farIn p) S (pair large p S D)
   paired r q = q ∙ chosen-pair p S D (sym ee ∙ zero)
 
 -- ---- the first steps of a pair
-module _ (p : List ℕ) (s : Shape) (words : List ℕ) (count : ℕ) (k : OfPlan p s words count) (S D : ℕ) (a t : Coords) (from : IsAt p S a) (to : IsAt p D t) where
+module _ (p : List ℕ) (w : Weights) (ew : w ≡ weightsOf p) (s : Shape) (words : List ℕ) (count : ℕ) (k : OfPlan p s words count) (S D : ℕ) (a t : Coords) (from : IsAt p S a) (to : IsAt p D t) where
   -- The test of a single leg.
   pub leg-is : (m : Mode) (b : Bool) → b ≡ not (onLeg rule m s words (min count 256) a t) → b ≡ isClear p m S D
   leg-is m b e =
       let few : min count 256 ≡ count = omega (arith, k .losses .few) in
       e ∙ rw (few, k .shape, from .at, to .at) (sym (clear-is p (k .plan) words count (k .losses) S D (from .node) (to .node) m))
 
-  pub direct-told : (b : Bool) → b ≡ not (onLeg rule Adaptive s words (min count 256) a t) → b ≡ true → (len : ℕ) → len ≡ distanceAt s a t → Outcome.Given (Route.Direct Adaptive) len ≡ routeTold p S D
+  pub direct-told : (b : Bool) → b ≡ not (onLeg rule Adaptive s words (min count 256) a t) → b ≡ true → (len : ℕ) → len ≡ distanceAtAnswer w s a t → Outcome.Given (Route.Direct Adaptive) len ≡ routeTold p S D
   unfolding told toldAs sumBy
   direct-told b e y len q =
       let c = sym (leg-is Adaptive b e) ∙ y in
-      let route = direct-first (shapeOf p) (shape-ok p (k .plan)) (soundIn p) S D (from .node) (to .node) c in
-      let d = length-is p s S D a t len (k .shape) from to q in
+      let route = direct-first (farIn p) (shapeOf p) (far-lengths large p (k .plan)) (shape-ok p (k .plan)) (soundIn p) S D (from .node) (to .node) c in
+      let d = length-is p w s S D a t len (k .plan) ew (k .shape) from to q in
       rw route (ap (Outcome.Given (Route.Direct Adaptive)) (omega arith))
 
   -- What the first steps rest on, and then the last ones.
   pub near-known : (masks fa : List ℕ) (direct straight : Bool) (run : List ℕ) → Ended Adaptive false s t masks → FromSet p Adaptive S fa → direct ≡ not (onLeg rule Adaptive s words (min count 256) a t) → direct ≡ false →
-      straight ≡ not (onLeg rule Deterministic s words (min count 256) a t) → 512 ≤ length run → NearMasks p s S D a t words count masks fa straight run
+      straight ≡ not (onLeg rule Deterministic s words (min count 256) a t) → 512 ≤ length run → NearMasks p w s S D a t words count masks fa straight run
   near-known masks fa direct straight run ended out ed left es room = record {
     words = words;
     count = count;
+    weights = ew;
     of-plan = k;
     standing = all-near p s words count k S D;
     source = from;
@@ -116,8 +118,9 @@ module _ (p : List ℕ) (s : Shape) (words : List ℕ) (count : ℕ) (k : OfPlan
   }
 
   pub far-known : (masks others fa fd : List ℕ) (r : Outcome) (b : Bool) (run : List ℕ) → Ended Adaptive false s t masks → Ended Deterministic false s t others → FromSet p Adaptive S fa → FromSet p Deterministic S fd →
-      NearDone p S D r run → b ≡ isGiven r → b ≡ false → FarMasks p s words count S D a t words count masks others fa fd run
+      NearDone p S D r run → b ≡ isGiven r → b ≡ false → FarMasks p w s words count S D a t words count masks others fa fd run
   far-known masks others fa fd r b run ea ed out straight done e left = record {
+    weights = ew;
     ends = record { of-plan = k; node = to; adaptive = ea; deterministic = ed };
     standing = all-near p s words count k S D;
     source = from;

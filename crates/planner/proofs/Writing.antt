@@ -22,7 +22,7 @@ use Rattle.dead.specs.Dead.{deadNode, bitOf, nodeAnswer}
 use Rattle.dead.proofs.Table.{is-node}
 use Rattle.choice.specs.declared.outcome.Outcome.{Outcome}
 use Rattle.choice.specs.Outcome.{told}
-use Rattle.choice.specs.Pair.{pair}
+use Rattle.choice.specs.Pair.{farIn, pair}
 use Rattle.routes.specs.declared.layout.Entry.{Entry}
 use Rattle.routes.specs.Layout.{mostEntries}
 use Rattle.routes.specs.Said.{entryFor, heard}
@@ -111,12 +111,12 @@ module _ (p : List ℕ) (s : Shape) (words : List ℕ) (count : ℕ) (dead ta td
       after = record { node = omega (arith, g .stands .node); x = omega (arith, g .out l .0); y = g .stands .y; z = g .stands .z; end = λ e. absurd (omega arith) }
 
       pub turn :
-          (o : Outcome) (e : Entry) (after-bytes : List ℕ) (r : At) → (Work p work → o ≡ told (shapeOf p) S (pair large p S (at .node))) → e ≡ entryFor (at .node) (heard (at .node) o) →
+          (o : Outcome) (e : Entry) (after-bytes : List ℕ) (r : At) → (Work p work → o ≡ told (farIn p) S (pair large p S (at .node))) → e ≡ entryFor (at .node) (heard (at .node) o) →
           Added bytes listed e after-bytes → NextOutside s fa (record { node = at .node + 1; x = at .x + 1; y = at .y; z = at .z }) r →
           Going p s words count dead ta td work S a fa fd after-bytes (listed + 1) r
       turn o e after-bytes r eo ee put next =
           let f : Outcome → Entry = λ x. entryFor (at .node) (heard (at .node) x) in
-          let is : Entry = f (told (shapeOf p) S (pair large p S (at .node))) in
+          let is : Entry = f (told (farIn p) S (pair large p S (at .node))) in
           let n = entered p S source (g .entries) (at .node) (g .listing) (is-at (placeOf at) refl .node) unclear _ is refl refl in
           let long : length (g .entries ++ (is ∷ [])) ≡ listed + 1 = omega (arith, length-append (g .entries) (is ∷ []), g .long) in
           found after-bytes (listed + 1) _ r after next (g .entries ++ (is ∷ [])) (n .1)

@@ -10,7 +10,7 @@ use Rattle.plan.specs.Checks.{Limits}
 use Rattle.packet.specs.declared.route.Route.{Route}
 use Rattle.choice.specs.declared.outcome.Outcome.{Outcome}
 use Rattle.choice.specs.Outcome.{told}
-use Rattle.choice.specs.Pair.{pair}
+use Rattle.choice.specs.Pair.{farIn, pair}
 use Rattle.choice_number.specs.KeyNumber.{pickOutcome}
 use Rattle.planned_sheet.specs.Sheet.{sourceError}
 
@@ -20,4 +20,4 @@ noOutcome = Outcome.Given (Route.Direct Adaptive) 0
 
 -- Of the destination d; nothing where a check declines the source, or past the nodes.
 unfoldable pub outcomeAt : Limits → List ℕ → ℕ → ℕ → Outcome
-outcomeAt L p S d = pickOutcome (eqb (sourceError L p S) 0 && ltb d (nodeCount (shapeOf p))) (told (shapeOf p) S (pair L p S d)) noOutcome
+outcomeAt L p S d = pickOutcome (eqb (sourceError L p S) 0 && ltb d (nodeCount (shapeOf p))) (told (farIn p) S (pair L p S d)) noOutcome

@@ -2,19 +2,20 @@
 use choice::Outcome;
 use first_clear::dest::by_losses;
 use first_clear::dest::by_sets;
-use machine::hop::distance_at;
 use machine::leg::Mode;
 use numbers::DEAD_END;
 use packet::Route;
 use shape::Coords;
 use shape::Shape;
+use weights::Weights;
+use weights::distance::distance_at;
 ghost use mathlib.Core.Path.{_≡_};
 ghost use Prim.Native.Nat.{_<_};
 ghost use lib.ListN.{length};
-ghost use Rattle.plan.specs.Layout.{shapeOf};
+ghost use Rattle.plan.specs.Layout.{weightsOf};
 ghost use Rattle.plan.specs.Checks.{large};
 ghost use Rattle.choice.specs.Outcome.{told};
-ghost use Rattle.choice.specs.Pair.{pair};
+ghost use Rattle.choice.specs.Pair.{farIn, pair};
 ghost use Rattle.rows.specs.Rows.{inRows};
 ghost use Rattle.first_clear.specs.Known.{IsAt, NearLosses};
 ghost use Rattle.planner.specs.Known.{Work, Ready};
@@ -31,6 +32,7 @@ fn has(rows: &[u16; 256], c: Coords) -> bool
 // stand for all on the shortest ways.
 pub fn outcome_to(
     plan: &[u8],
+    weights: Weights,
     shape: Shape,
     words: &[u16; 256],
     count: usize,
@@ -50,10 +52,14 @@ pub fn outcome_to(
     requires { ⌜ Ready (now plan) shape (now words) count (now dead) (now ta) (now td) (now work) source a (now fa) (now fd) ⌝ }
     requires { ⌜ IsAt (now plan) dest t ⌝ }
     requires { ⌜ (length (now work) ≡ 0 → NearLosses (now plan) source dest (now words) count (now near) nears) ⌝ }
-    ensures { λ r. ⌜ (Work (now (plan .entry)) (now (work .entry)) → r ≡ told (shapeOf (now (plan .entry))) source (pair large (now (plan .entry)) source dest)) ⌝ }
+    requires { ⌜ weights ≡ weightsOf (now plan) ⌝ }
+    ensures { λ r. ⌜ (Work (now (plan .entry)) (now (work .entry)) → r ≡ told (farIn (now (plan .entry))) source (pair large (now (plan .entry)) source dest)) ⌝ }
 {
     if has(fa, t) {
-        return Outcome::Given(Route::Direct(Mode::Adaptive), distance_at(shape, a, t));
+        return Outcome::Given(
+            Route::Direct(Mode::Adaptive),
+            distance_at(weights, shape, a, t),
+        );
     }
     let at = dest as usize;
     if dead[at] != 0 {
@@ -62,6 +68,7 @@ pub fn outcome_to(
     let straight = has(fd, t);
     if work.len() == 0 {
         return by_losses(
+            weights,
             shape,
             words,
             count,
@@ -76,5 +83,5 @@ pub fn outcome_to(
             straight,
         );
     }
-    by_sets(shape, work, dest, a, t, fa, fd, straight)
+    by_sets(weights, shape, work, dest, a, t, fa, fd, straight)
 }

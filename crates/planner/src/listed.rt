@@ -7,6 +7,7 @@ use crate::sifted::renew;
 use crate::sifted::row_at;
 use first_clear::sets_of::from_masks;
 use machine::leg::Mode;
+use plan::layout::weights_in;
 use route_value::set_entry;
 use routes::kinds::entry_for;
 use shape::Coords;
@@ -42,6 +43,7 @@ fn list(
     requires { ⌜ 20482 ≤ length (now bytes) ⌝ }
     ensures { λ r. ⌜ Listed (now (plan .entry)) (now (work .entry)) source (now (bytes .exit)) r ⌝ }
 {
+    let weights = weights_in(plan);
     let mut listed: usize = 0;
     let mut near = [0u16; 256];
     let mut nears: usize = 0;
@@ -67,6 +69,7 @@ fn list(
         row = row_at(t);
         let outcome = outcome_to(
             plan,
+            weights,
             shape,
             words,
             count,

@@ -15,6 +15,7 @@ use machine::node::coords;
 use masks::table::table;
 use packet::Route;
 use plan::layout::shape_in;
+use plan::layout::weights_in;
 use shape::Coords;
 use shape::Shape;
 ghost use mathlib.Core.Path.{_≡_};
@@ -48,6 +49,7 @@ fn all_outcomes(
     requires { ⌜ Work (now plan) (now work) ⌝ }
     ensures { λ r. ⌜ ((d : ℕ) → getD r d noOutcome ≡ outcomeAt large (now (plan .entry)) source d) ⌝ }
 {
+    let weights = weights_in(plan);
     let mut outcomes = [Outcome::Given(Route::Direct(Mode::Adaptive), 0); 4096];
     let mut near = [0u16; 256];
     let mut nears: usize = 0;
@@ -70,6 +72,7 @@ fn all_outcomes(
         let i = dest as usize;
         outcomes[i] = outcome_to(
             plan,
+            weights,
             shape,
             words,
             count,

@@ -17,16 +17,20 @@ use Rattle.shape.specs.declared.shape.Shape.{Shape}
 use Rattle.shape.specs.Shape.{shapeError}
 use Rattle.machine.specs.declared.leg.Mode.the-variants.{Adaptive, Deterministic}
 use Rattle.machine.specs.Number.{nodeCount}
-use Rattle.machine.specs.Hop.{distance}
-use Rattle.machine.specs.Node.{isNode, arePair, distanceAnswer}
+use Rattle.machine.specs.Node.{isNode, arePair}
 use Rattle.machine.specs.Torus.{leg}
 use Rattle.machine.proofs.Nodes.{node-of}
-use Rattle.plan.specs.Layout.{shapeOf}
-use Rattle.plan.specs.Checks.{Limits}
+use Rattle.weights.specs.declared.weights.Weights.{Weights}
+use Rattle.weights.specs.Weights.{weightError}
+use Rattle.weights.specs.Distance.{distance, distanceAnswer}
+use Rattle.plan.specs.Layout.{shapeOf, weightsOf}
+use Rattle.plan.specs.Checks.{Limits, torusPlans}
+use Rattle.plan.proofs.Plans as Plans
 use Rattle.packet.specs.declared.route.Route.{Route}
 use Rattle.choice.specs.declared.outcome.Outcome.{Outcome}
 use Rattle.choice.specs.Answer.{Given, answered}
 use Rattle.choice.specs.Outcome.{told, toldAs}
+use Rattle.choice.specs.Pair.{farIn}
 use Rattle.routes.specs.declared.layout.Entry.{Entry}
 use Rattle.routes.specs.declared.lookup.Part.{Part}
 use Rattle.routes.specs.declared.route.Found.{Found}
@@ -111,17 +115,17 @@ module _ (s : List ℕ) (d : ℕ) where
     missing h = rw (← at, ← count, le-ltb i n h)
 
 -- ---- the route, with its length from the source
-module _ (m : Shape) (S : ℕ) (source : isNode m S ≡ true) where
+module _ (w : Weights) (hw : weightError w ≡ 0) (m : Shape) (S : ℕ) (source : isNode m S ≡ true) where
   -- To one node, and by another.
-  one-leg : (t : ℕ) → isNode m t ≡ true → distanceAnswer m S t ≡ distance m S t + 0
-  unfolding arePair
-  one-leg t h = rw (source, h) (omega arith)
+  one-leg : (t : ℕ) → isNode m t ≡ true → distanceAnswer w m S t ≡ distance w m S t + 0
+  unfolding distanceAnswer arePair
+  one-leg t h = rw (source, h, eq-eqb (weightError w) 0 hw) (omega arith)
 
-  two-legs : (v t : ℕ) → isNode m v ≡ true → isNode m t ≡ true → distanceAnswer m S v + distanceAnswer m v t ≡ distance m S v + (distance m v t + 0)
-  unfolding arePair
-  two-legs v t hv ht = rw (source, hv, ht) (omega arith)
+  two-legs : (v t : ℕ) → isNode m v ≡ true → isNode m t ≡ true → distanceAnswer w m S v + distanceAnswer w m v t ≡ distance w m S v + (distance w m v t + 0)
+  unfolding distanceAnswer arePair
+  two-legs v t hv ht = rw (source, hv, ht, eq-eqb (weightError w) 0 hw) (omega arith)
 
-  told-with : (d k v : ℕ) → isNode m d ≡ true → isNode m v ≡ true → let e : Entry = record { dest = d; kind = k; via = v } in toldAs (lengthBy m S e) (saidBy e) ≡ told m S (saidBy e)
+  told-with : (d k v : ℕ) → isNode m d ≡ true → isNode m v ≡ true → let e : Entry = record { dest = d; kind = k; via = v } in toldAs (lengthBy w m S e) (saidBy e) ≡ told (distance w m) S (saidBy e)
   unfolding lengthBy saidBy toldAs told viaKind sumBy
   told-with d zero v hd hv = ap (λ n. Outcome.Given (Route.Direct Adaptive) n) (one-leg d hd)
   told-with d (suc zero) v hd hv = ap (λ n. Outcome.Given (Route.Direct Deterministic) n) (one-leg d hd)
@@ -131,12 +135,12 @@ module _ (m : Shape) (S : ℕ) (source : isNode m S ≡ true) where
   told-with d (suc (suc (suc (suc (suc zero))))) v hd hv = ap (λ n. Outcome.Given (Route.Via v Deterministic Deterministic) n) (two-legs v d hv hd)
   told-with d (suc (suc (suc (suc (suc (suc k)))))) v hd hv = refl
 
-  told-good : (F : Format) (e : Entry) → entryGood F m S e ≡ true → toldAs (lengthBy m S e) (saidBy e) ≡ told m S (saidBy e)
+  told-good : (F : Format) (e : Entry) → entryGood F m S e ≡ true → toldAs (lengthBy w m S e) (saidBy e) ≡ told (distance w m) S (saidBy e)
   told-good F e h =
       let g = good-entry F m S e h in
       told-with (e .dest) (e .kind) (e .via) (is-node m S source (e .dest) (g .dest)) (is-node m S source (e .via) (g .via))
 
-  told-direct : (d : ℕ) → isNode m d ≡ true → Outcome.Given (Route.Direct Adaptive) (distanceAnswer m S d) ≡ told m S (Given (leg d Adaptive ∷ []))
+  told-direct : (d : ℕ) → isNode m d ≡ true → Outcome.Given (Route.Direct Adaptive) (distanceAnswer w m S d) ≡ told (distance w m) S (Given (leg d Adaptive ∷ []))
   unfolding told toldAs sumBy
   told-direct d h = ap (λ n. Outcome.Given (Route.Direct Adaptive) n) (one-leg d h)
 
@@ -146,15 +150,21 @@ FoundGood F m S (At e) = entryGood F m S e ≡ true
 FoundGood F m S Missing = Unit {0}
 
 module _ (L : Limits) (p s : List ℕ) (d : ℕ) where
-  pub refused : (e : ℕ) → e ≡ lookupError L p s d → (e ≡ 0 → ⊥) → Outcome.Refused e ≡ told (shapeOf p) (source s) (says L p s d)
+  pub refused : (e : ℕ) → e ≡ lookupError L p s d → (e ≡ 0 → ⊥) → Outcome.Refused e ≡ told (farIn p) (source s) (says L p s d)
   unfolding says told toldAs answered
   refused e h n = rw (← h) (go e n)
     where
-      go : (k : ℕ) → (k ≡ 0 → ⊥) → Outcome.Refused k ≡ told (shapeOf p) (source s) (answered k (saysOf (entriesOf s) d))
+      go : (k : ℕ) → (k ≡ 0 → ⊥) → Outcome.Refused k ≡ told (farIn p) (source s) (answered k (saysOf (entriesOf s) d))
       go zero n = absurd (n refl)
       go (suc k) n = refl
 
   module _ (h : lookupError L p s d ≡ 0) where
+    abbrev w : Weights
+    w = weightsOf p
+
+    weighed : weightError w ≡ 0
+    weighed = Plans.accepted torusPlans L p (looked-up L p s d h .plan) .weights
+
     abbrev m : Shape
     m = shapeOf p
 
@@ -184,10 +194,10 @@ module _ (L : Limits) (p s : List ℕ) (d : ℕ) where
     unfolding says answered
     said f e = rw (h, e, found-as s d)
 
-    pub said-found : (e : Entry) → At e ≡ foundIn s d → toldAs (lengthBy m S e) (saidBy e) ≡ told m S (says L p s d)
+    pub said-found : (e : Entry) → At e ≡ foundIn s d → toldAs (lengthBy w m S e) (saidBy e) ≡ told (distance w m) S (says L p s d)
     unfolding orDirect
-    said-found e q = told-good m S source-node (formatOf s) e (found-good (At e) q) ∙ ap (told m S) (said (At e) q)
+    said-found e q = told-good w weighed m S source-node (formatOf s) e (found-good (At e) q) ∙ ap (told (distance w m) S) (said (At e) q)
 
-    pub said-direct : Missing ≡ foundIn s d → Outcome.Given (Route.Direct Adaptive) (distanceAnswer m S d) ≡ told m S (says L p s d)
+    pub said-direct : Missing ≡ foundIn s d → Outcome.Given (Route.Direct Adaptive) (distanceAnswer w m S d) ≡ told (distance w m) S (says L p s d)
     unfolding orDirect
-    said-direct q = told-direct m S source-node d dest-node ∙ ap (told m S) (said Missing q)
+    said-direct q = told-direct w weighed m S source-node d dest-node ∙ ap (told (distance w m) S) (said Missing q)

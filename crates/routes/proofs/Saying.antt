@@ -24,13 +24,13 @@ use Rattle.routes.specs.Layout.{written}
 use Rattle.routes.specs.Checks.{viaGood, entryGood}
 
 -- The entry of an answer, from the code's enum of it.
-pub entry-told : (s : Shape) (S d : ℕ) (a : Answer) → entryFor d (heard d (told s S a)) ≡ entryFor d a
+pub entry-told : (far : ℕ → ℕ → ℕ) (S d : ℕ) (a : Answer) → entryFor d (heard d (told far S a)) ≡ entryFor d a
 unfolding entryFor heard told toldAs legsTo viasOf kindOf kindFrom hasModes
-entry-told s S d (Given []) = refl
-entry-told s S d (Given (l ∷ [])) = refl
-entry-told s S d (Given (l ∷ m ∷ [])) = refl
-entry-told s S d (Given (l ∷ m ∷ n ∷ ls)) = refl
-entry-told s S d (Refused e) = refl
+entry-told far S d (Given []) = refl
+entry-told far S d (Given (l ∷ [])) = refl
+entry-told far S d (Given (l ∷ m ∷ [])) = refl
+entry-told far S d (Given (l ∷ m ∷ n ∷ ls)) = refl
+entry-told far S d (Refused e) = refl
 
 -- What holds of one leg to D, and of two legs of which the second is to D, holds of every admitted choice.
 pub admitted-legs :

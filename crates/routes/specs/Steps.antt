@@ -6,7 +6,8 @@ use lib.Dec.{ltb}
 use Rattle.shape.specs.declared.shape.Shape.{Shape}
 use Rattle.machine.specs.declared.leg.Mode.the-variants.{Adaptive}
 use Rattle.machine.specs.Torus.{leg}
-use Rattle.machine.specs.Node.{distanceAnswer}
+use Rattle.weights.specs.declared.weights.Weights.{Weights}
+use Rattle.weights.specs.Distance.{distanceAnswer}
 use Rattle.choice.specs.Answer.{Answer, Given}
 use Rattle.routes.specs.declared.layout.Entry.{Entry}
 use Rattle.routes.specs.declared.route.Found.{Found}
@@ -30,5 +31,5 @@ orDirect d (At e) = saidBy e
 orDirect d Missing = Given (leg d Adaptive ∷ [])
 
 -- The length of an entry's route from the source S; of a refusal any number.
-unfoldable pub lengthBy : Shape → ℕ → Entry → ℕ
-lengthBy s S e = cond (viaKind (e .kind)) (distanceAnswer s S (e .via) + distanceAnswer s (e .via) (e .dest)) (distanceAnswer s S (e .dest))
+unfoldable pub lengthBy : Weights → Shape → ℕ → Entry → ℕ
+lengthBy w s S e = cond (viaKind (e .kind)) (distanceAnswer w s S (e .via) + distanceAnswer w s (e .via) (e .dest)) (distanceAnswer w s S (e .dest))

@@ -9,14 +9,16 @@ use crate::lookup::find_entry;
 use crate::lookup::lookup_error;
 use choice::Outcome;
 use machine::leg::Mode;
-use machine::node::distance;
 use packet::Route;
 use plan::layout::shape_in;
+use plan::layout::weights_in;
 use shape::Shape;
+use weights::Weights;
+use weights::distance::distance;
 ghost use mathlib.Core.Path.{_≡_};
-ghost use Rattle.plan.specs.Layout.{shapeOf};
 ghost use Rattle.plan.specs.Checks.{large};
 ghost use Rattle.choice.specs.Outcome.{told};
+ghost use Rattle.choice.specs.Pair.{farIn};
 ghost use Rattle.routes.specs.Layout.{source};
 ghost use Rattle.routes.specs.Says.{says};
 ghost use Rattle.routes.specs.Steps.{foundIn, lengthBy};
@@ -38,31 +40,31 @@ fn found_in(sheet: &[u8], dest: u16) -> Found
 }
 
 // The length of an entry's route.
-fn length_by(shape: Shape, source: u16, e: Entry) -> u16
-    ensures { λ r. ⌜ r ≡ lengthBy shape source e ⌝ }
+fn length_by(weights: Weights, shape: Shape, source: u16, e: Entry) -> u16
+    ensures { λ r. ⌜ r ≡ lengthBy weights shape source e ⌝ }
 {
     if has_via(e.kind) {
-        let first = distance(shape, source, e.via) as u16;
-        let second = distance(shape, e.via, e.dest) as u16;
-        return first + second;
+        let first = distance(weights, shape, source, e.via);
+        return first + distance(weights, shape, e.via, e.dest);
     }
-    distance(shape, source, e.dest) as u16
+    distance(weights, shape, source, e.dest)
 }
 
 // The route with its length, or 10 or 11 for an entry of that kind, or the number with which the lookup is declined.
 pub fn route(plan: &[u8], sheet: &[u8], dest: u16) -> Outcome
-    ensures { λ r. ⌜ r ≡ told (shapeOf (now (plan .entry))) (source (now (sheet .entry))) (says large (now (plan .entry)) (now (sheet .entry)) dest) ⌝ }
+    ensures { λ r. ⌜ r ≡ told (farIn (now (plan .entry))) (source (now (sheet .entry))) (says large (now (plan .entry)) (now (sheet .entry)) dest) ⌝ }
 {
     let error = lookup_error(plan, sheet, dest);
     if error != 0 {
         return Outcome::Refused(error);
     }
+    let weights = weights_in(plan);
     let shape = shape_in(plan);
     let source = source_in(sheet);
     let found = found_in(sheet, dest);
     let Found::At(entry) = found else {
-        let length = distance(shape, source, dest) as u16;
+        let length = distance(weights, shape, source, dest);
         return Outcome::Given(Route::Direct(Mode::Adaptive), length);
     };
-    outcome_by(entry, length_by(shape, source, entry))
+    outcome_by(entry, length_by(weights, shape, source, entry))
 }

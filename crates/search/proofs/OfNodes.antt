@@ -9,9 +9,11 @@ use Rattle.shape.specs.declared.shape.Shape.{Shape}
 use Rattle.shape.specs.declared.shape.Coords.{Coords}
 use Rattle.shape.specs.Shape.{shapeError}
 use Rattle.machine.specs.Number.{nodeCount, coordsOf, Inside}
-use Rattle.machine.specs.Hop.{distance}
-use Rattle.machine.proofs.ByCoords.{distance-at}
 use Rattle.machine.proofs.Numbers.{inside}
+use Rattle.weights.specs.declared.weights.Weights.{Weights}
+use Rattle.weights.specs.Weights.{weightError}
+use Rattle.weights.specs.Distance.{distance}
+use Rattle.weights.proofs.ByCoords.{distance-at}
 use Rattle.rows.specs.Rows.{inSet}
 use Rattle.search.specs.FirstVia.{hasRows}
 use Rattle.search.specs.Number.{viaNumber}
@@ -26,8 +28,8 @@ unfolding within
 inside-within s c i = rw (lt-ltb (c .x) (s .x) (i .x), lt-ltb (c .y) (s .y) (i .y), lt-ltb (c .z) (s .z) (i .z))
 
 pub number-is :
-    (s : Shape) → shapeError s ≡ 0 → (S D : ℕ) → S < nodeCount s → D < nodeCount s → (fa fd to : List ℕ) (at : ℕ) → at + 512 ≤ length to →
-    (v : ℕ) → numberIn s (coordsOf s S) (coordsOf s D) fa fd to at v ≡ viaNumber (distance s S v + distance s v D) v (inSet s fa 0 v) (inSet s fd 0 v) (inSet s to at v) (inSet s to (at + 256) v)
+    (w : Weights) → weightError w ≡ 0 → (s : Shape) → shapeError s ≡ 0 → (S D : ℕ) → S < nodeCount s → D < nodeCount s → (fa fd to : List ℕ) (at : ℕ) → at + 512 ≤ length to →
+    (v : ℕ) → numberIn w s (coordsOf s S) (coordsOf s D) fa fd to at v ≡ viaNumber (distance w s S v + distance w s v D) v (inSet s fa 0 v) (inSet s fd 0 v) (inSet s to at v) (inSet s to (at + 256) v)
 unfolding numberIn askable
-number-is s h S D hS hD fa fd to at k v =
-    rw (eq-eqb (shapeError s) 0 h, inside-within s (coordsOf s S) (inside s h S hS), inside-within s (coordsOf s D) (inside s h D hD), long-enough (length to) at 512 k, distance-at s S v, distance-at s v D)
+number-is w hw s h S D hS hD fa fd to at k v =
+    rw (eq-eqb (weightError w) 0 hw, eq-eqb (shapeError s) 0 h, inside-within s (coordsOf s S) (inside s h S hS), inside-within s (coordsOf s D) (inside s h D hD), long-enough (length to) at 512 k, distance-at w s S v, distance-at w s v D)

@@ -1,6 +1,7 @@
--- One row: the first level with a via decides, since one more hop is more than the modes can save; there the fewest deterministic legs, then the lowest place.
+-- One row: the first level with a via decides, since one more hop, by any weight, is more than the modes can save; there the fewest deterministic legs, then the lowest place.
 use Prim.Native.Nat.{ℕ, min, _+_, _*_, _/_, _%_, _^_, _≤_, _<_}
 use native.Mathlib.Omega.{arith}
+use native.Mathlib.Nat.{mul-le-mul-left, mul-add}
 use mathlib.Core.Path.{_≡_, refl, sym, ap, _∙_}
 use mathlib.Core.Logic.{inl, inr}
 use mathlib.Core.Bool.{Bool, true, false, _&&_, _||_}
@@ -170,7 +171,7 @@ via-cases len v a1 true a2 false f g = f refl
 via-cases len v a1 false a2 true f g = f refl
 via-cases len v a1 false a2 false f g = f refl
 
-module _ (xs : List ℕ) (least base first a1 d1 a2 d2 best : ℕ) (hb : best ≤ unclear) (none : (k : ℕ) → k < least → getD xs k 0 ≡ 0) where
+module _ (wx : ℕ) (xs : List ℕ) (least base first a1 d1 a2 d2 best : ℕ) (hw : 1 ≤ wx) (hb : best ≤ unclear) (none : (k : ℕ) → k < least → getD xs k 0 ≡ 0) where
   -- A via whose legs are both clear: where it is.
   far-enough : (x k : ℕ) → bit (getD xs k 0) x ≡ true → least ≤ k
   far-enough x k e = by-le least k (λ l. l) (λ l. clash (bit (getD xs k 0) x) e (empty (getD xs k 0) x (none k l)))
@@ -181,13 +182,13 @@ module _ (xs : List ℕ) (least base first a1 d1 a2 d2 best : ℕ) (hb : best �
   level-bit : (x k : ℕ) → bit d1 x ≡ true → bit d2 x ≡ true → bit (getD xs k 0) x ≡ true → bit (bitAnd (bitAnd d1 d2) (getD xs k 0)) x ≡ true
   level-bit x k e f g = bit-and (bitAnd d1 d2) (getD xs k 0) x ∙ rw (set-bit x e f, g)
 
-  pub row-far : best ≤ (base + least) * 65536 → Lowers best best (RowHas xs base first a1 d1 a2 d2)
-  row-far l = kept best (λ n w. via-cases (base + w .k) (w .x + first) (bit a1 (w .x)) (bit d1 (w .x)) (bit a2 (w .x)) (bit d2 (w .x))
+  pub row-far : best ≤ (base + wx * least) * 65536 → Lowers best best (RowHas wx xs base first a1 d1 a2 d2)
+  row-far l = kept best (λ n w. via-cases (base + wx * w .k) (w .x + first) (bit a1 (w .x)) (bit d1 (w .x)) (bit a2 (w .x)) (bit d2 (w .x))
       (λ u. omega (arith, w .is))
-      (λ p q e. omega (arith, w .is, far-enough (w .x) (w .k) (w .at))))
+      (λ p q e. let up : wx * least ≤ wx * w .k = mul-le-mul-left wx (far-enough (w .x) (w .k) (w .at)) in omega (arith, w .is)))
 
-  pub row-empty : bitAnd d1 d2 ≡ 0 → Lowers best best (RowHas xs base first a1 d1 a2 d2)
-  row-empty z = kept best (λ n w. via-cases (base + w .k) (w .x + first) (bit a1 (w .x)) (bit d1 (w .x)) (bit a2 (w .x)) (bit d2 (w .x))
+  pub row-empty : bitAnd d1 d2 ≡ 0 → Lowers best best (RowHas wx xs base first a1 d1 a2 d2)
+  row-empty z = kept best (λ n w. via-cases (base + wx * w .k) (w .x + first) (bit a1 (w .x)) (bit d1 (w .x)) (bit a2 (w .x)) (bit d2 (w .x))
       (λ u. omega (arith, w .is))
       (λ p q e. clash (bit (bitAnd d1 d2) (w .x)) (set-bit (w .x) p q) (empty (bitAnd d1 d2) (w .x) z)))
 
@@ -197,26 +198,33 @@ module _ (xs : List ℕ) (least base first a1 d1 a2 d2 best : ℕ) (hb : best �
         by-le k i (λ l. l)
         (λ l. clash (bit (bitAnd (bitAnd d1 d2) (getD xs i 0)) x) (level-bit x i p q e) (empty (bitAnd (bitAnd d1 d2) (getD xs i 0)) x (v .before i (far-enough x i e) l)))
 
-    pub row-none : 32 ≤ k → Lowers best best (RowHas xs base first a1 d1 a2 d2)
-    row-none l = kept best (λ n w. via-cases (base + w .k) (w .x + first) (bit a1 (w .x)) (bit d1 (w .x)) (bit a2 (w .x)) (bit d2 (w .x))
+    pub row-none : 32 ≤ k → Lowers best best (RowHas wx xs base first a1 d1 a2 d2)
+    row-none l = kept best (λ n w. via-cases (base + wx * w .k) (w .x + first) (bit a1 (w .x)) (bit d1 (w .x)) (bit a2 (w .x)) (bit d2 (w .x))
         (λ u. omega (arith, w .is))
         (λ p q e. absurd (omega (arith, w .small, behind (w .x) (w .k) p q (w .at)))))
 
+    -- One hop more is at least 1 more of the length.
+    one-more : (i j : ℕ) → i < j → wx * i + 1 ≤ wx * j
+    one-more i j l = let up : wx * (i + 1) ≤ wx * j = mul-le-mul-left wx (next i j l) in omega (arith, mul-add wx i 1)
+      where
+        next : (i j : ℕ) → i < j → i + 1 ≤ j
+        next i j l = omega arith
+
     module _ (t : ℕ) (hk : k < 32) (p : LeastPlace (bitAnd (bitAnd d1 d2) (getD xs k 0)) a1 a2 t) where
       abbrev found : ℕ
-      found = (base + k) * 65536 + (8192 + 2 * first) + t
+      found = (base + wx * k) * 65536 + (8192 + 2 * first) + t
 
-      no-less : (n : ℕ) → RowHas xs base first a1 d1 a2 d2 n → min found best ≤ n
+      no-less : (n : ℕ) → RowHas wx xs base first a1 d1 a2 d2 n → min found best ≤ n
       unfolding placePart
       no-less n w =
-          via-cases (base + w .k) (w .x + first) (bit a1 (w .x)) (bit d1 (w .x)) (bit a2 (w .x)) (bit d2 (w .x))
+          via-cases (base + wx * w .k) (w .x + first) (bit a1 (w .x)) (bit d1 (w .x)) (bit a2 (w .x)) (bit d2 (w .x))
           (λ u. omega (arith, w .is))
           (λ f g e. by-order k (w .k)
-          (λ l. omega (arith, w .is, p .most))
-          (λ l. omega (arith, w .is, p .each (w .x) (rw l (level-bit (w .x) (w .k) f g (w .at)))))
+          (λ l. omega (arith, w .is, p .most, one-more k (w .k) l))
+          (λ l. omega (arith, w .is, ap (λ (j : ℕ). wx * j) l, p .each (w .x) (rw l (level-bit (w .x) (w .k) f g (w .at)))))
           (λ l. absurd (omega (arith, behind (w .x) (w .k) f g (w .at)))))
 
-      is-one : RowHas xs base first a1 d1 a2 d2 found
+      is-one : RowHas wx xs base first a1 d1 a2 d2 found
       unfolding placePart viaNumber
       is-one =
           let o = p .one in
@@ -224,7 +232,7 @@ module _ (xs : List ℕ) (least base first a1 d1 a2 d2 best : ℕ) (hb : best �
           let d = and-true (bit d1 (o .x)) _ (sym (bit-and d1 d2 (o .x)) ∙ b .0) in
           record { x = o .x; k = k; small = hk; at = b .1; is = rw (d .0, d .1) (omega (arith, o .is)) }
 
-      pub row-found : (r : ℕ) → r ≡ min found best → Lowers best r (RowHas xs base first a1 d1 a2 d2)
+      pub row-found : (r : ℕ) → r ≡ min found best → Lowers best r (RowHas wx xs base first a1 d1 a2 d2)
       row-found r e = rw e (record {
         low = omega arith;
         each = no-less;

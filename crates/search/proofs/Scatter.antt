@@ -1,6 +1,7 @@
 -- What the places of a dimension make of a length: place by place, and by levels.
 use Prim.Native.Nat.{ℕ, _+_, _*_, _^_, _≤_, _<_}
 use native.Mathlib.Omega.{arith}
+use native.Mathlib.Nat.{mul-le-mul}
 use native.Mathlib.Numerals.{add-one}
 use native.Mathlib.Decide.{ℕ-discrete}
 use mathlib.Core.Path.{_≡_, refl, sym, ap, _∙_}
@@ -20,6 +21,13 @@ use Rattle.search.proofs.Seeking.{clash}
 
 pub part-most : (len : ℕ) (ring : Bool) (p q x : ℕ) → len ≤ 16 → p < len → q < len → x < len → partOf len ring p q x ≤ 30
 part-most len ring p q x h hp hq hx = omega (arith, axis-below len ring p x hp hx, axis-below len ring x q hx hq)
+
+-- By a weight.
+pub weighed-byte : (weight n : ℕ) → weight ≤ 8 → n ≤ 255 → weight * n ≤ 2040
+weighed-byte weight n h l = mul-le-mul h l
+
+pub weighed-most : (weight n : ℕ) → weight ≤ 8 → n ≤ 30 → weight * n ≤ 240
+weighed-most weight n h l = mul-le-mul h l
 
 -- ---- place by place
 pub record Filled (f : ℕ → ℕ) (ys : List ℕ) (c : ℕ) : Type 0 where

@@ -17,7 +17,7 @@ nodePlace = 2
 
 -- Above every via's number: a length that no choice has.
 abbrev pub unclear : ℕ
-unclear = 16777216
+unclear = 67108864
 
 -- A leg that is not clear in the adaptive mode is deterministic.
 abbrev pub detOf : Bool → ℕ

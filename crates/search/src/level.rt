@@ -1,7 +1,7 @@
 // The least number of a via in one row.
 use rows::next::next_set;
 ghost use mathlib.Core.Path.{_≡_};
-ghost use Prim.Native.Nat.{ℕ, min, _≤_, _<_};
+ghost use Prim.Native.Nat.{ℕ, min, _*_, _≤_, _<_};
 ghost use lib.ListN.{getD};
 ghost use Rattle.rows.specs.Bits.{bit};
 ghost use Rattle.search.specs.Number.{unclear, detOf};
@@ -55,9 +55,18 @@ fn lesser(a: u32, b: u32) -> u32
     if a < b { a } else { b }
 }
 
-// base: what the other dimensions make of the length. first: the number of the row's first node. a1, d1, a2, d2: the places whose first and second leg is
+// What so many hops along X make of a length.
+pub fn weighed(weight: u8, hops: u8) -> u32
+    requires { ⌜ weight ≤ 8 ⌝ }
+    ensures { λ r. ⌜ (r ≡ weight * hops) × (r ≤ 2040) ⌝ }
+{
+    weight as u32 * hops as u32
+}
+
+// weight: that of X. base: what the other dimensions make of the length. first: the number of the row's first node. a1, d1, a2, d2: the places whose first and second leg is
 // clear, adaptive and deterministic.
 pub fn row(
+    weight: u8,
     xs: &[u16; 32],
     least: u8,
     base: u16,
@@ -68,9 +77,9 @@ pub fn row(
     d2: u16,
     best: u32,
 ) -> u32
-    requires { ⌜ (base ≤ 510) × (best ≤ unclear) ⌝ }
+    requires { ⌜ ((1 ≤ weight) × (weight ≤ 8)) × (base ≤ 510) × (best ≤ unclear) ⌝ }
     requires { ⌜ ((k : ℕ) → k < least → getD (now xs) k 0 ≡ 0) ⌝ }
-    ensures { λ r. ⌜ Lowers best r (RowHas (now (xs .entry)) base first a1 d1 a2 d2) ⌝ }
+    ensures { λ r. ⌜ Lowers best r (RowHas weight (now (xs .entry)) base first a1 d1 a2 d2) ⌝ }
 {
     let set = d1 & d2;
     if set == 0 {
@@ -81,7 +90,7 @@ pub fn row(
         return best;
     }
     let i = k as usize;
-    let length = base as u32 + k as u32;
+    let length = base as u32 + weighed(weight, k);
     let place = of_level(set & xs[i], a1, a2);
     lesser(length * 65536 + (8192 + 2 * first as u32) + place, best)
 }

@@ -1,33 +1,34 @@
 // What the places of a dimension make of a length, by way of them.
-use shape::axis::distance;
+use shape::axis::hops;
 ghost use mathlib.Core.Path.{_≡_};
 ghost use Prim.Native.Nat.{ℕ, _≤_, _<_};
 ghost use lib.ListN.{getD};
 ghost use Rattle.search.specs.PartOf.{partOf, PartsOf, LevelsOf};
 
+// Its hops.
 fn part(len: u8, ring: bool, p: u8, q: u8, c: u8) -> u8
     requires { ⌜ (len ≤ 16) × (p < len) × (q < len) × (c < len) ⌝ }
     ensures { λ r. ⌜ (r ≡ partOf len ring p q c) × (r ≤ 30) ⌝ }
 {
-    distance(len, ring, p, c) + distance(len, ring, c, q)
+    hops(len, ring, p, c) + hops(len, ring, c, q)
 }
 
-// Of each place.
-pub fn parts(len: u8, ring: bool, p: u8, q: u8) -> [u8; 16]
-    requires { ⌜ (len ≤ 16) × (p < len) × (q < len) ⌝ }
-    ensures { λ r. ⌜ PartsOf len ring p q r ⌝ }
+// Of each place, by the dimension's weight.
+pub fn parts(weight: u8, len: u8, ring: bool, p: u8, q: u8) -> [u8; 16]
+    requires { ⌜ (weight ≤ 8) × (len ≤ 16) × (p < len) × (q < len) ⌝ }
+    ensures { λ r. ⌜ PartsOf weight len ring p q r ⌝ }
 {
     let mut ys = [0u8; 16];
     let mut c: u8 = 0;
     while c < len {
         let i = c as usize;
-        ys[i] = part(len, ring, p, q, c);
+        ys[i] = weight * part(len, ring, p, q, c);
         c = c + 1;
     }
     ys
 }
 
-// At k the places that make k.
+// At k the places that make k hops.
 pub fn levels(len: u8, ring: bool, p: u8, q: u8) -> [u16; 32]
     requires { ⌜ (len ≤ 16) × (p < len) × (q < len) ⌝ }
     ensures { λ r. ⌜ LevelsOf len ring p q r ⌝ }

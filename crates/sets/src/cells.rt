@@ -4,7 +4,7 @@ use logic::either;
 use logic::pick_bool;
 use machine::hop::goes_plus;
 use machine::leg::Mode;
-use shape::axis::distance;
+use shape::axis::hops;
 use shape::axis::next_place;
 use shape::axis::useful;
 ghost use mathlib.Core.Path.{_≡_};
@@ -16,9 +16,9 @@ ghost use Rattle.masks.specs.Cell.{takes, takesLink, takesLinks, passesBefore, 
 fn between(len: u8, ring: bool, c: u8, p: u8, q: u8) -> bool
     ensures { λ r. ⌜ r ≡ between len ring c p q ⌝ }
 {
-    let first = distance(len, ring, p, c) as u16;
-    let last = distance(len, ring, c, q) as u16;
-    let whole = distance(len, ring, p, q) as u16;
+    let first = hops(len, ring, p, c) as u16;
+    let last = hops(len, ring, c, q) as u16;
+    let whole = hops(len, ring, p, q) as u16;
     both(c < len, first + last == whole)
 }
 

@@ -1,12 +1,12 @@
 -- Laws of one dimension.
-use Prim.Native.Nat.{ℕ, _+_, _-_, _*_, _≤_, _<_, min}
+use Prim.Native.Nat.{ℕ, zero, suc, _+_, _-_, _*_, _≤_, _<_, min}
 use mathlib.Core.Bool.{Bool, true, false, cond, not}
-use mathlib.Core.Path.{_≡_, refl, _∙_}
-use mathlib.Core.Logic.{_⊎_, inl, inr}
+use mathlib.Core.Path.{_≡_, refl, ap, _∙_}
+use mathlib.Core.Logic.{_⊎_, inl, inr, ⊎-elim}
 use native.Mathlib.Omega.{arith}
 use lib.Dec.{leb, eqb}
-use borrow.Author.Tests.{lt-ltb, le-ltb, le-leb, lt-leb, eq-eqb, ne-eqb, ltb-true, leb-true}
-use Rattle.shape.specs.Axis.{gap, axisDistance, hasLink, place, axisUseful}
+use borrow.Author.Tests.{lt-ltb, le-ltb, le-leb, lt-leb, eqb-true, eq-eqb, ne-eqb, ltb-true, leb-true}
+use Rattle.shape.specs.Axis.{gap, axisHops, hasLink, place, axisUseful}
 use Rattle.shape.specs.Steps.{openUseful, ahead, ringUseful}
 use Rattle.theory.proofs.Bools.{and-true}
 use Rattle.theory.proofs.Cases.{by-le}
@@ -19,23 +19,23 @@ unfolding place
 place-below len p true h = split-lt (p + 1) len (λ a. rw (lt-ltb (p + 1) len a) a) (λ a. rw (le-ltb (p + 1) len a) (omega arith))
 place-below len p false h = split-lt 0 p (λ a. rw (lt-ltb 0 p a) (omega arith)) (λ a. rw (le-ltb 0 p a) (omega arith))
 
-pub axis-below : (len : ℕ) (ring : Bool) (p q : ℕ) → p < len → q < len → axisDistance len ring p q < len
-unfolding axisDistance
+pub axis-below : (len : ℕ) (ring : Bool) (p q : ℕ) → p < len → q < len → axisHops len ring p q < len
+unfolding axisHops
 axis-below len true p q hp hq = omega arith
 axis-below len false p q hp hq = omega arith
 
-pub axis-symmetric : (len : ℕ) (ring : Bool) (p q : ℕ) → axisDistance len ring p q ≡ axisDistance len ring q p
-unfolding axisDistance
+pub axis-symmetric : (len : ℕ) (ring : Bool) (p q : ℕ) → axisHops len ring p q ≡ axisHops len ring q p
+unfolding axisHops
 axis-symmetric len true p q = omega arith
 axis-symmetric len false p q = omega arith
 
-pub axis-zero : (len : ℕ) (ring : Bool) (p q : ℕ) → p < len → q < len → axisDistance len ring p q ≡ 0 → p ≡ q
-unfolding axisDistance
+pub axis-zero : (len : ℕ) (ring : Bool) (p q : ℕ) → p < len → q < len → axisHops len ring p q ≡ 0 → p ≡ q
+unfolding axisHops
 axis-zero len true p q hp hq e = omega arith
 axis-zero len false p q hp hq e = omega arith
 
-pub axis-self : (len : ℕ) (ring : Bool) (p : ℕ) → axisDistance len ring p p ≡ 0
-unfolding axisDistance
+pub axis-self : (len : ℕ) (ring : Bool) (p : ℕ) → axisHops len ring p p ≡ 0
+unfolding axisHops
 axis-self len true p = omega arith
 axis-self len false p = omega arith
 
@@ -77,9 +77,9 @@ ring-link : (len p : ℕ) (plus : Bool) → hasLink len true p plus ≡ true
 unfolding hasLink
 ring-link len p plus = refl
 
--- ---- useful hops without the distance: in an open dimension
+-- ---- useful hops without counting the hops between: in an open dimension
 pub open-useful : (len p q : ℕ) (plus : Bool) → p < len → q < len → axisUseful len false p q plus ≡ openUseful p q plus
-unfolding axisUseful axisDistance
+unfolding axisUseful axisHops
 open-useful len p q true hp hq =
     split-lt p q
     (λ a. rw (open-plus len p (omega arith), plus-in len p (omega arith), lt-ltb p q a) (eq-eqb (gap (p + 1) q + 1) (gap p q) (omega arith)))
@@ -106,10 +106,10 @@ ahead-is len p q hp hq =
     (λ a. rw (le-leb p q a) (record { below = omega arith; up = λ _. omega arith; round = λ h. absurd (omega arith) }))
     (λ a. rw (lt-leb p q a) (record { below = omega arith; up = λ h. absurd (omega arith); round = λ _. omega arith }))
 
--- The distance is the smaller of the two ways round.
-ring-distance : (len p q u : ℕ) → p < len → q < len → Ahead len p q u → axisDistance len true p q ≡ min u (len - u)
-unfolding axisDistance
-ring-distance len p q u hp hq w = by-le p q (λ a. let e = w .up a in omega arith) (λ a. let e = w .round a in omega arith)
+-- The hops are those of the smaller of the two ways round.
+ring-hops : (len p q u : ℕ) → p < len → q < len → Ahead len p q u → axisHops len true p q ≡ min u (len - u)
+unfolding axisHops
+ring-hops len p q u hp hq w = by-le p q (λ a. let e = w .up a in omega arith) (λ a. let e = w .round a in omega arith)
 
 -- A hop going plus leaves one less of that way, a hop going minus one more.
 pub plus-ahead : (len p q u : ℕ) → p < len → q < len → Ahead len p q (u + 1) → Ahead len (place len p true) q u
@@ -143,14 +143,14 @@ minus-whole len p q u hp hq k w =
 module _ (len p q : ℕ) (hp : p < len) (hq : q < len) (u : ℕ) (w : Ahead len p q u) where
   none-useful : (plus : Bool) → u ≡ 0 → axisUseful len true p q plus ≡ ringUseful len u plus
   unfolding axisUseful hasLink
-  none-useful plus e = rw (ring-distance len p q u hp hq w, eq-eqb u 0 e) (ne-eqb (axisDistance len true (place len p plus) q + 1) (min u (len - u)) (λ f. omega arith))
+  none-useful plus e = rw (ring-hops len p q u hp hq w, eq-eqb u 0 e) (ne-eqb (axisHops len true (place len p plus) q + 1) (min u (len - u)) (λ f. omega arith))
 
   plus-useful : 0 < u → axisUseful len true p q true ≡ ringUseful len u true
   unfolding axisUseful hasLink
   plus-useful h =
       let back : u - 1 + 1 ≡ u = omega arith in
-      let next = ring-distance len (place len p true) q (u - 1) (place-below len p true hp) hq (plus-ahead len p q (u - 1) hp hq (rw back w)) in
-      rw (ring-distance len p q u hp hq w, next, ne-eqb u 0 (λ e. omega arith))
+      let next = ring-hops len (place len p true) q (u - 1) (place-below len p true hp) hq (plus-ahead len p q (u - 1) hp hq (rw back w)) in
+      rw (ring-hops len p q u hp hq w, next, ne-eqb u 0 (λ e. omega arith))
       (by-le (2 * u) len
       (λ a. rw (le-leb (2 * u) len a) (eq-eqb (min (u - 1) (len - (u - 1)) + 1) (min u (len - u)) (omega arith)))
       (λ a. rw (lt-leb (2 * u) len a) (ne-eqb (min (u - 1) (len - (u - 1)) + 1) (min u (len - u)) (λ e. omega arith))))
@@ -158,15 +158,15 @@ module _ (len p q : ℕ) (hp : p < len) (hq : q < len) (u : ℕ) (w : Ahead len 
   minus-useful : 0 < u → axisUseful len true p q false ≡ ringUseful len u false
   unfolding axisUseful hasLink
   minus-useful h =
-      rw (ring-distance len p q u hp hq w, ne-eqb u 0 (λ e. omega arith))
+      rw (ring-hops len p q u hp hq w, ne-eqb u 0 (λ e. omega arith))
       (split-lt (u + 1) len
       (λ k.
-      let next = ring-distance len (place len p false) q (u + 1) (place-below len p false hp) hq (minus-ahead len p q u hp hq k w) in
+      let next = ring-hops len (place len p false) q (u + 1) (place-below len p false hp) hq (minus-ahead len p q u hp hq k w) in
       rw next (by-le len (2 * u)
       (λ a. rw (le-leb len (2 * u) a) (eq-eqb (min (u + 1) (len - (u + 1)) + 1) (min u (len - u)) (omega arith)))
       (λ a. rw (lt-leb len (2 * u) a) (ne-eqb (min (u + 1) (len - (u + 1)) + 1) (min u (len - u)) (λ e. omega arith)))))
       (λ k.
-      let next = ring-distance len (place len p false) q 0 (place-below len p false hp) hq (minus-whole len p q u hp hq (omega (arith, w .below)) w) in
+      let next = ring-hops len (place len p false) q 0 (place-below len p false hp) hq (minus-whole len p q u hp hq (omega (arith, w .below)) w) in
       rw (next, le-leb len (2 * u) (omega (arith, w .below))) (eq-eqb (min 0 (len - 0) + 1) (min u (len - u)) (omega (arith, w .below)))))
 
 pub ring-useful : (len p q : ℕ) (plus : Bool) → p < len → q < len → axisUseful len true p q plus ≡ ringUseful len (ahead len p q) plus
@@ -229,21 +229,40 @@ back-link len true p plus h l = ring-link len (place len p plus) (not plus)
 back-link len false p true h l = let a = open-plus-of len p l in rw (plus-in len p a) (open-minus len (p + 1) (omega arith))
 back-link len false p false h l = let a = open-minus-of len p l in rw (minus-in len p a) (open-plus len (p - 1) (omega arith))
 
--- ---- a hop changes the distance to any place by one at most
-round-step : (len p q : ℕ) (plus : Bool) (u : ℕ) → p < len → q < len → Ahead len p q u → axisDistance len true p q ≤ axisDistance len true (place len p plus) q + 1
+-- ---- a hop changes the hops to any place by one at most
+round-step : (len p q : ℕ) (plus : Bool) (u : ℕ) → p < len → q < len → Ahead len p q u → axisHops len true p q ≤ axisHops len true (place len p plus) q + 1
 round-step len p q true u hp hq w =
     by-le 1 u
     (λ k.
     let back : u - 1 + 1 ≡ u = omega arith in
-    rw (ring-distance len p q u hp hq w, ring-distance len (place len p true) q (u - 1) (place-below len p true hp) hq (plus-ahead len p q (u - 1) hp hq (rw back w))) (omega arith))
-    (λ k. rw (ring-distance len p q u hp hq w) (omega arith))
+    rw (ring-hops len p q u hp hq w, ring-hops len (place len p true) q (u - 1) (place-below len p true hp) hq (plus-ahead len p q (u - 1) hp hq (rw back w))) (omega arith))
+    (λ k. rw (ring-hops len p q u hp hq w) (omega arith))
 round-step len p q false u hp hq w =
     split-lt (u + 1) len
-    (λ k. rw (ring-distance len p q u hp hq w, ring-distance len (place len p false) q (u + 1) (place-below len p false hp) hq (minus-ahead len p q u hp hq k w)) (omega arith))
-    (λ k. rw (ring-distance len p q u hp hq w) (omega (arith, w .below)))
+    (λ k. rw (ring-hops len p q u hp hq w, ring-hops len (place len p false) q (u + 1) (place-below len p false hp) hq (minus-ahead len p q u hp hq k w)) (omega arith))
+    (λ k. rw (ring-hops len p q u hp hq w) (omega (arith, w .below)))
 
-pub axis-step : (len : ℕ) (ring : Bool) (p q : ℕ) (plus : Bool) → p < len → q < len → hasLink len ring p plus ≡ true → axisDistance len ring p q ≤ axisDistance len ring (place len p plus) q + 1
-unfolding axisDistance
+pub axis-step : (len : ℕ) (ring : Bool) (p q : ℕ) (plus : Bool) → p < len → q < len → hasLink len ring p plus ≡ true → axisHops len ring p q ≤ axisHops len ring (place len p plus) q + 1
+unfolding axisHops
 axis-step len true p q plus hp hq l = round-step len p q plus (ahead len p q) hp hq (ahead-is len p q hp hq)
 axis-step len false p q true hp hq l = rw (plus-in len p (open-plus-of len p l)) (omega arith)
 axis-step len false p q false hp hq l = let a = open-minus-of len p l in rw (minus-in len p a) (omega arith)
+
+-- ---- a useful hop, and ways by another place
+pub useful-has : (len : ℕ) (ring : Bool) (p q : ℕ) (plus : Bool) → axisUseful len ring p q plus ≡ true → hasLink len ring p plus ≡ true
+unfolding axisUseful
+useful-has len ring p q plus h = and-true (hasLink len ring p plus) _ h .0
+
+pub useful-less : (len : ℕ) (ring : Bool) (p q : ℕ) (plus : Bool) → axisUseful len ring p q plus ≡ true → axisHops len ring (place len p plus) q + 1 ≡ axisHops len ring p q
+unfolding axisUseful
+useful-less len ring p q plus h = eqb-true _ _ (and-true (hasLink len ring p plus) _ h .1)
+
+-- No way by another place is shorter.
+pub axis-triangle : (k len : ℕ) (ring : Bool) (p c q : ℕ) → p < len → c < len → q < len → axisHops len ring p c ≡ k → axisHops len ring p q ≤ k + axisHops len ring c q
+axis-triangle zero len ring p c q hp hc hq e = rw (axis-zero len ring p c hp hc e) (omega arith)
+axis-triangle (suc k) len ring p c q hp hc hq e =
+    let ne : p ≡ c → ⊥ = λ w. omega (arith, ap (λ (m : ℕ). axisHops len ring m c) w, axis-self len ring c) in
+    let by : (plus : Bool) → axisUseful len ring p c plus ≡ true → axisHops len ring p q ≤ suc k + axisHops len ring c q = λ plus u.
+    let less = useful-less len ring p c plus u in
+    omega (arith, axis-triangle k len ring (place len p plus) c q (place-below len p plus hp) hc hq (omega arith), axis-step len ring p q plus hp hq (useful-has len ring p c plus u)) in
+    ⊎-elim (by true) (by false) (axis-some len ring p c hp hc ne)

@@ -7,9 +7,9 @@ use lib.Dec.{ltb, eqb}
 abbrev pub gap : ℕ → ℕ → ℕ
 gap p q = (p - q) + (q - p)
 
--- The coordinates' difference, or in a wrapped dimension the smaller of difference and extent minus difference.
-unfoldable pub axisDistance : ℕ → Bool → ℕ → ℕ → ℕ
-axisDistance len ring p q = cond ring (min (gap p q) (len - gap p q)) (gap p q)
+-- The hops between two places: the coordinates' difference, or in a wrapped dimension the smaller of difference and extent minus difference.
+unfoldable pub axisHops : ℕ → Bool → ℕ → ℕ → ℕ
+axisHops len ring p q = cond ring (min (gap p q) (len - gap p q)) (gap p q)
 
 -- A link joins neighbours in one dimension; a wrapped dimension also joins its last place to place 0.
 unfoldable pub hasLink : ℕ → Bool → ℕ → Bool → Bool
@@ -19,6 +19,6 @@ hasLink len ring p plus = ring || cond plus (ltb (p + 1) len) (ltb 0 p)
 unfoldable pub place : ℕ → ℕ → Bool → ℕ
 place len p plus = cond plus (cond (ltb (p + 1) len) (p + 1) 0) (cond (ltb 0 p) (p - 1) (len - 1))
 
--- A hop from p along the dimension lowers the distance to q by one.
+-- A hop from p along the dimension leaves one hop fewer to q.
 unfoldable pub axisUseful : ℕ → Bool → ℕ → ℕ → Bool → Bool
-axisUseful len ring p q plus = hasLink len ring p plus && eqb (axisDistance len ring (place len p plus) q + 1) (axisDistance len ring p q)
+axisUseful len ring p q plus = hasLink len ring p plus && eqb (axisHops len ring (place len p plus) q + 1) (axisHops len ring p q)

@@ -1,4 +1,4 @@
--- The code's own steps: of two places that exist, which hops are useful, without their distance, and which way a deterministic leg goes.
+-- The code's own steps: of two places that exist, which hops are useful, without counting those between them, and which way a deterministic leg goes.
 use Prim.Native.Nat.{ℕ, _-_, _*_}
 use mathlib.Core.Bool.{Bool, true, false, cond, not, _&&_}
 use lib.Dec.{ltb, leb, eqb}

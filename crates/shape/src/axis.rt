@@ -6,7 +6,7 @@ use logic::pick_bool;
 ghost use mathlib.Core.Bool.{true, false};
 ghost use mathlib.Core.Path.{_≡_};
 ghost use Prim.Native.Nat.{_<_};
-ghost use Rattle.shape.specs.Axis.{gap, axisDistance, hasLink, place, axisUseful};
+ghost use Rattle.shape.specs.Axis.{gap, axisHops, hasLink, place, axisUseful};
 ghost use Rattle.shape.specs.Steps.{ahead, ringUseful};
 
 fn difference(p: u8, q: u8) -> u8
@@ -15,9 +15,9 @@ fn difference(p: u8, q: u8) -> u8
     if p < q { q - p } else { p - q }
 }
 
-// The distance of two places.
-pub fn distance(len: u8, ring: bool, p: u8, q: u8) -> u8
-    ensures { λ r. ⌜ r ≡ axisDistance len ring p q ⌝ }
+// The hops from one place to another.
+pub fn hops(len: u8, ring: bool, p: u8, q: u8) -> u8
+    ensures { λ r. ⌜ r ≡ axisHops len ring p q ⌝ }
 {
     let d = difference(p, q);
     if !ring {
@@ -71,13 +71,13 @@ pub fn next_place(len: u8, p: u8, plus: bool) -> u8
     pick(plus, place_up(len, p), place_down(len, p))
 }
 
-// Whether the hop from p, plus or minus, lowers the distance to q by one.
+// Whether the hop from p, plus or minus, leaves one hop fewer to q.
 fn lowers(len: u8, ring: bool, p: u8, q: u8, plus: bool) -> bool
     ensures { λ r. ⌜ r ≡ axisUseful len ring p q plus ⌝ }
 {
     let next = next_place(len, p, plus);
-    let after = distance(len, ring, next, q) as u16;
-    let before = distance(len, ring, p, q) as u16;
+    let after = hops(len, ring, next, q) as u16;
+    let before = hops(len, ring, p, q) as u16;
     both(has_link(len, ring, p, plus), after + 1 == before)
 }
 
@@ -99,7 +99,7 @@ fn ring_useful(len: u8, up: u8, plus: bool) -> bool
     )
 }
 
-// Whether the hop from p, plus or minus, is useful toward q: for two places that exist without their distance.
+// Whether the hop from p, plus or minus, is useful toward q: for two places that exist without counting the hops between them.
 pub fn useful(len: u8, ring: bool, p: u8, q: u8, plus: bool) -> bool
     ensures { λ r. ⌜ r ≡ axisUseful len ring p q plus ⌝ }
 {

@@ -3,17 +3,17 @@
 mod raw;
 
 /// The largest plan sheet, of 256 faults.
-pub const PLAN_BYTES: usize = 777;
+pub const PLAN_BYTES: usize = 780;
 /// The largest route sheet, of 4,095 entries: an output of this size is never refused with 12.
 pub const SHEET_BYTES: usize = 20482;
 /// The largest listing, likewise.
-pub const LISTING_BYTES: usize = 61454;
+pub const LISTING_BYTES: usize = 65550;
 
 /// Words of workspace that `all_sheets` asks for a board of the plan, and for the largest plan, of 4,096 boards.
 pub const ALL_WORDS_A_BOARD: usize = 512;
 pub const ALL_WORDS: usize = 2097152;
 
-/// The number of a refusal, 1 to 15.
+/// The number of a refusal, 1 to 16.
 #[derive(Clone, Copy, Debug, PartialEq, Eq)]
 pub struct Refused(pub u8);
 
@@ -25,6 +25,15 @@ pub struct Shape {
     pub y: u8,
     pub z: u8,
     pub wrap: u8,
+}
+
+/// Weights of the dimensions, each 1 to 8: what a hop there adds to a distance or a length.
+#[repr(C)]
+#[derive(Clone, Copy, Debug, PartialEq, Eq)]
+pub struct Weights {
+    pub x: u8,
+    pub y: u8,
+    pub z: u8,
 }
 
 #[derive(Clone, Copy, Debug, PartialEq, Eq)]
@@ -39,7 +48,7 @@ pub enum Route {
     Via(u16, Mode, Mode),
 }
 
-/// A planned route and its length in hops.
+/// A planned route and its length, the sum of the weights of its hops.
 #[derive(Clone, Copy, Debug, PartialEq, Eq)]
 pub struct Planned {
     pub route: Route,
@@ -100,7 +109,7 @@ fn accepted(number: u8) -> Result<(), Refused> {
 
 // ---- Plan sheets
 
-/// Checks 1 to 8.
+/// The checks of a plan: 1 to 6, 16, and then 7 and 8 fault by fault.
 pub fn plan_check(plan: &[u8]) -> Result<(), Refused> {
     accepted(unsafe { raw::nafthurm_plan_check(plan.as_ptr(), plan.len()) })
 }
@@ -108,6 +117,11 @@ pub fn plan_check(plan: &[u8]) -> Result<(), Refused> {
 /// Extents and wrap; zeros where a check declines the sheet.
 pub fn plan_shape(plan: &[u8]) -> Shape {
     unsafe { raw::nafthurm_plan_shape(plan.as_ptr(), plan.len()) }
+}
+
+/// Weights, of a version 1 sheet 1, 1, 1; zeros where a check declines the sheet.
+pub fn plan_weights(plan: &[u8]) -> Weights {
+    unsafe { raw::nafthurm_plan_weights(plan.as_ptr(), plan.len()) }
 }
 
 /// No where a check declines the sheet or there is no such node.
@@ -176,7 +190,7 @@ pub fn listing(input: &[u8], out: &mut [u8]) -> Result<usize, Refused> {
 
 // ---- Route sheets
 
-/// Checks 1 to 8 of the plan, then 13 of the sheet.
+/// The checks of the plan, then 13 of the sheet.
 pub fn sheet_check(plan: &[u8], sheet: &[u8]) -> Result<(), Refused> {
     accepted(unsafe { raw::nafthurm_sheet_check(plan.as_ptr(), plan.len(), sheet.as_ptr(), sheet.len()) })
 }

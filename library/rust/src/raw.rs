@@ -1,5 +1,5 @@
 //! The calls as C has them: library/nafthurm.h.
-use crate::{Leg, Mode, Refused, Shape};
+use crate::{Leg, Mode, Refused, Shape, Weights};
 
 /// The number of a run whose workspace is too small.
 pub const FEW_WORDS: u8 = 255;
@@ -66,6 +66,7 @@ pub struct Walked {
 extern "C" {
     pub fn nafthurm_plan_check(plan: *const u8, plan_size: usize) -> u8;
     pub fn nafthurm_plan_shape(plan: *const u8, plan_size: usize) -> Shape;
+    pub fn nafthurm_plan_weights(plan: *const u8, plan_size: usize) -> Weights;
     pub fn nafthurm_dead_node(plan: *const u8, plan_size: usize, node: u16) -> bool;
     pub fn nafthurm_dead_link(plan: *const u8, plan_size: usize, node: u16, direction: u8) -> bool;
     pub fn nafthurm_plan_write_back(plan: *const u8, plan_size: usize, out: *mut u8, out_size: usize) -> Written;

@@ -16,7 +16,7 @@ check-requires c κs = search needs
 returns : tie.Need-returns
 returns c =
     let e = c .check .ensures ∙ ap (planError large) (c .before .front .ensures .0) in
-    (e, λ whole r. e ∙ read-whole 778 (planError large) (error-decided large) whole _ _ (omega arith) r)
+    (e, λ whole r. e ∙ read-whole 781 (planError large) (error-decided large) whole _ _ (omega arith) r)
 
 pub plan-error-spec : {M : Type 1} → statement M
 plan-error-spec = tie.close (tie.spec front-requires check-requires returns)

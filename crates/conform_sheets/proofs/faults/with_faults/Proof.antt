@@ -5,10 +5,10 @@ use Rattle.conform_sheets.proofs.faults.with_faults.Statement.{statemen
 use Rattle.conform_sheets.proofs.faults.with_faults.Tie as tie
 
 abbrev Inv-loop : tie.InvT-loop
-Inv-loop s plan₀ start₀ plan start = Unit {0}
+Inv-loop version s plan₀ start₀ plan start = Unit {0}
 
 abbrev μ-loop : tie.MeasureT-loop
-μ-loop s plan₀ start₀ plan start = length s + 1 - start
+μ-loop version s plan₀ start₀ plan start = length s + 1 - start
 
 empty-requires : tie.Need-empty-requires Inv-loop μ-loop
 empty-requires c κs = tt
@@ -53,7 +53,7 @@ with-fault-requires : tie.Need-with-fault-requires Inv-loop μ-loop
 with-fault-requires c κs = tt
 
 add-start : tie.Need-add-start Inv-loop μ-loop
-add-start c = omega arith
+add-start c = let h = c .before .before .before .before .before .before .before .before .before .before .before .before .before .before .good in omega (arith, c .before .before .before .before .before .before .find .ensures)
 
 loop-less : tie.Need-loop-less Inv-loop μ-loop
 loop-less c = omega arith

@@ -1,4 +1,4 @@
-use Rattle.first_clear.proofs.LastStep.{far}
+use Rattle.first_clear.proofs.LastStep.{least-planned}
 use borrow.Author.Needs.{needs}
 use Rattle.first_clear.proofs.best.best_outcome.Statement.{statement}
 use Rattle.first_clear.proofs.best.best_outcome.Tie as tie
@@ -12,7 +12,7 @@ decode-requires : tie.Need-decode-requires
 decode-requires c κs = search needs
 
 returns : tie.Need-returns
-returns c = λ p S D g. far p _ S D _ _ _ _ _ _ g _ (c .before .best-via .ensures) _ (c .decode .ensures)
+returns c = λ p S D g. least-planned p _ _ S D _ _ _ _ _ _ g _ (c .before .best-via .ensures) _ (c .decode .ensures)
 
 pub best-outcome-spec : {M : Type 1} → statement M
 best-outcome-spec = tie.close (tie.spec best-via-requires decode-requires returns)

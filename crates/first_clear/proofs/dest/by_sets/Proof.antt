@@ -21,7 +21,7 @@ is-given-requires : tie.Need-is-given-requires
 is-given-requires c κs = tt
 
 returns : tie.Need-returns
-returns c = λ p S g. first-given p S _ _ _ (c .before .before .near-outcome .ensures p S _ (sets-nearing p _ _ S _ _ _ _ _ _ g _ _ (c .before .before .before .distance-at .ensures) (c .before .before .before .before .box-of .ensures))) (c .before .is-given .ensures) (c .if1 .taken)
+returns c = λ p S g. first-given p S _ _ _ (c .before .before .near-outcome .ensures p S _ (sets-nearing p _ _ _ S _ _ _ _ _ _ g _ _ (c .before .before .before .distance-at .ensures) (c .before .before .before .before .box-of .ensures))) (c .before .is-given .ensures) (c .if1 .taken)
 
 short-outcome-requires : tie.Need-short-outcome-requires
 short-outcome-requires c κs = tt
@@ -30,13 +30,13 @@ is-given-requires-2 : tie.Need-is-given-requires-2
 is-given-requires-2 c κs = tt
 
 returns-2 : tie.Need-returns-2
-returns-2 c = λ p S g. first-given p S _ _ _ (c .before .before .short-outcome .ensures p S _ (sets-short p _ _ S _ _ _ _ _ _ g _ _ (c .before .before .before .before .before .before .distance-at .ensures) (c .before .before .before .before .before .before .before .box-of .ensures) (none-given p S _ _ _ (c .before .before .before .before .before .near-outcome .ensures p S _ (sets-nearing p _ _ S _ _ _ _ _ _ g _ _ (c .before .before .before .before .before .before .distance-at .ensures) (c .before .before .before .before .before .before .before .box-of .ensures))) (c .before .before .before .before .is-given .ensures) (c .before .before .before .if1 .left)))) (c .before .is-given2 .ensures) (c .if2 .taken)
+returns-2 c = λ p S g. first-given p S _ _ _ (c .before .before .short-outcome .ensures p S _ (sets-short p _ _ _ S _ _ _ _ _ _ g _ _ (c .before .before .before .before .before .before .distance-at .ensures) (c .before .before .before .before .before .before .before .box-of .ensures) (none-given p S _ _ _ (c .before .before .before .before .before .near-outcome .ensures p S _ (sets-nearing p _ _ _ S _ _ _ _ _ _ g _ _ (c .before .before .before .before .before .before .distance-at .ensures) (c .before .before .before .before .before .before .before .box-of .ensures))) (c .before .before .before .before .is-given .ensures) (c .before .before .before .if1 .left)))) (c .before .is-given2 .ensures) (c .if2 .taken)
 
 best-outcome-requires : tie.Need-best-outcome-requires
 best-outcome-requires c κs = tt
 
 returns-3 : tie.Need-returns-3
-returns-3 c = λ p S g. c .best-outcome .ensures p S _ (sets-faring p _ _ S _ _ _ _ _ _ g (none-given p S _ _ _ (c .before .before .before .short-outcome .ensures p S _ (sets-short p _ _ S _ _ _ _ _ _ g _ _ (c .before .before .before .before .before .before .before .distance-at .ensures) (c .before .before .before .before .before .before .before .before .box-of .ensures) (none-given p S _ _ _ (c .before .before .before .before .before .before .near-outcome .ensures p S _ (sets-nearing p _ _ S _ _ _ _ _ _ g _ _ (c .before .before .before .before .before .before .before .distance-at .ensures) (c .before .before .before .before .before .before .before .before .box-of .ensures))) (c .before .before .before .before .before .is-given .ensures) (c .before .before .before .before .if1 .left)))) (c .before .before .is-given2 .ensures) (c .before .if2 .left)))
+returns-3 c = λ p S g. c .best-outcome .ensures p S _ (sets-faring p _ _ _ S _ _ _ _ _ _ g (none-given p S _ _ _ (c .before .before .before .short-outcome .ensures p S _ (sets-short p _ _ _ S _ _ _ _ _ _ g _ _ (c .before .before .before .before .before .before .before .distance-at .ensures) (c .before .before .before .before .before .before .before .before .box-of .ensures) (none-given p S _ _ _ (c .before .before .before .before .before .before .near-outcome .ensures p S _ (sets-nearing p _ _ _ S _ _ _ _ _ _ g _ _ (c .before .before .before .before .before .before .before .distance-at .ensures) (c .before .before .before .before .before .before .before .before .box-of .ensures))) (c .before .before .before .before .before .is-given .ensures) (c .before .before .before .before .if1 .left)))) (c .before .before .is-given2 .ensures) (c .before .if2 .left)))
 
 pub by-sets-spec : {M : Type 1} → statement M
 by-sets-spec =

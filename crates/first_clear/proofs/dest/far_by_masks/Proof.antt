@@ -28,7 +28,7 @@ same-length : tie.Need-same-length
 same-length c = search needs
 
 returns : tie.Need-returns
-returns c = λ p S D g. first-given p S D _ _ (c .before .before .short-outcome .ensures p S D (masks-short p _ _ _ S D _ _ _ _ _ _ _ _ _ g _ (c .before .before .before .before .before .before .before .before .before .before .before .box-of .ensures) _ (c .before .before .before .before .before .before .before .before .before .before .distance-at .ensures) _ _ (c .before .before .before .before .before .before .before .before .before .clear-in .ensures) (c .before .before .before .before .before .before .put-rows .ensures (omega (arith, g .set .0))))) (c .before .is-given .ensures) (c .if1 .taken)
+returns c = λ p S D g. first-given p S D _ _ (c .before .before .short-outcome .ensures p S D (masks-short p _ _ _ _ S D _ _ _ _ _ _ _ _ _ g _ (c .before .before .before .before .before .before .before .before .before .before .before .box-of .ensures) _ (c .before .before .before .before .before .before .before .before .before .before .distance-at .ensures) _ _ (c .before .before .before .before .before .before .before .before .before .clear-in .ensures) (c .before .before .before .before .before .before .put-rows .ensures (omega (arith, g .set .0))))) (c .before .is-given .ensures) (c .if1 .taken)
 
 put-both-requires : tie.Need-put-both-requires
 put-both-requires c κs = tt
@@ -40,7 +40,7 @@ same-length-2 : tie.Need-same-length-2
 same-length-2 c = search needs
 
 returns-2 : tie.Need-returns-2
-returns-2 c = λ p S D g. c .best-outcome .ensures p S D (masks-faring p _ _ _ S D _ _ _ _ _ _ _ _ _ g _ (c .before .before .before .before .put-both .ensures .0 p _ D _ (g .ends) (omega (arith, g .set .0, c .before .before .before .before .before .before .before .before .before .before .before .before .put-rows .ensures (omega (arith, g .set .0)) .rest .long))))
+returns-2 c = λ p S D g. c .best-outcome .ensures p S D (masks-faring p _ _ _ _ S D _ _ _ _ _ _ _ _ _ g _ (c .before .before .before .before .put-both .ensures .0 p _ D _ (g .ends) (omega (arith, g .set .0, c .before .before .before .before .before .before .before .before .before .before .before .before .put-rows .ensures (omega (arith, g .set .0)) .rest .long))))
 
 pub far-by-masks-spec : {M : Type 1} → statement M
 far-by-masks-spec =

@@ -1,10 +1,10 @@
 use native.Mathlib.Omega.{arith}
 use Rattle.first_clear.proofs.Destination.{box-nearing, box-done}
 use borrow.Author.Needs.{needs}
-use Rattle.first_clear.proofs.dest.near_by_masks.Statement.{statement}
-use Rattle.first_clear.proofs.dest.near_by_masks.Tie as tie
 use Rattle.first_clear.proofs.dest.near_by_masks.Reads as reads
 use Rattle.first_clear.proofs.dest.near_by_masks.Lts as lts
+use Rattle.first_clear.proofs.dest.near_by_masks.Statement.{statement}
+use Rattle.first_clear.proofs.dest.near_by_masks.Tie as tie
 
 box-of-requires : tie.Need-box-of-requires
 box-of-requires c κs = tt
@@ -25,7 +25,7 @@ same-length : tie.Need-same-length
 same-length c = search needs
 
 returns : tie.Need-returns
-returns c = λ p S D g. let put = c .before .before .before .before .put-rows .ensures (omega (arith, g .room)) in let box = c .before .before .before .before .before .before .before .before .before .box-of .ensures in let far = c .before .before .before .before .before .before .before .before .distance-at .ensures in let are = c .before .before .before .before .before .before .before .clear-in .ensures in box-done p _ S D _ _ _ _ _ _ _ _ g _ box _ far _ _ are put _ (c .near-outcome .ensures p S D (box-nearing p _ S D _ _ _ _ _ _ _ _ g _ box _ far _ _ are put))
+returns c = λ p S D g. let put = c .before .before .before .before .put-rows .ensures (omega (arith, g .room)) in let box = c .before .before .before .before .before .before .before .before .before .box-of .ensures in let far = c .before .before .before .before .before .before .before .before .distance-at .ensures in let are = c .before .before .before .before .before .before .before .clear-in .ensures in box-done p _ _ S D _ _ _ _ _ _ _ _ g _ box _ far _ _ are put _ (c .near-outcome .ensures p S D (box-nearing p _ _ S D _ _ _ _ _ _ _ _ g _ box _ far _ _ are put))
 
 pub near-by-masks-spec : {M : Type 1} → statement M
 near-by-masks-spec =

@@ -1,4 +1,3 @@
-use Rattle.plan.specs.Layout.{layoutOf}
 use borrow.Author.Needs.{needs}
 use Rattle.plan_value.proofs.encode.put_fault.Statement.{statement}
 use Rattle.plan_value.proofs.encode.put_fault.Tie as tie
@@ -31,7 +30,6 @@ element-write-bytes-3 : tie.Need-element-write-bytes-3
 element-write-bytes-3 c = search needs
 
 returns : tie.Need-returns
-unfolding layoutOf
 returns c = rw (c .lower .ensures, c .before .upper .ensures)
 
 pub put-fault-spec : {M : Type 1} → statement M

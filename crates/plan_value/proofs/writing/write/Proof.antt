@@ -2,19 +2,25 @@ use native.Mathlib.Omega.{arith}
 use mathlib.Core.Path.{sym}
 use lib.Seq.{length-take-le}
 use borrow.Author.Needs.{needs}
-use Rattle.numbers.specs.Numbers.{manyFaults}
-use Rattle.sheet.proofs.Outputs.{refused}
-use Rattle.plan.specs.Layout.{layoutOf}
 use Rattle.plan.specs.Checks.{torusPlans}
-use Rattle.plan_value.proofs.Writings.{too-many}
+use Rattle.plan_value.proofs.Writings.{many-refused}
 use Rattle.plan_value.proofs.writing.write.Statement.{statement}
 use Rattle.plan_value.proofs.writing.write.Tie as tie
 
+is-known-requires : tie.Need-is-known-requires
+is-known-requires c κs = search needs
+
+pick-requires : tie.Need-pick-requires
+pick-requires c κs = search needs
+
 returns : tie.Need-returns
-returns c = refused _ manyFaults _ _ (too-many _ torusPlans _ (c .if1 .taken) (omega arith) _) (omega arith)
+returns c = many-refused _ torusPlans _ (c .before .before .if1 .taken) (omega arith) _ (c .before .is-known .ensures) _ (c .pick .ensures) _
 
 encoded-requires : tie.Need-encoded-requires
 encoded-requires c κs = omega arith
+
+head-size-requires : tie.Need-head-size-requires
+head-size-requires c κs = search needs
 
 cast-end : tie.Need-cast-end
 cast-end c = search needs
@@ -23,7 +29,7 @@ mul-end : tie.Need-mul-end
 mul-end c = omega arith
 
 add-end : tie.Need-add-end
-add-end c = omega arith
+add-end c = omega (arith, c .head-size .ensures .1 .1)
 
 array-share-prefix-bytes : tie.Need-array-share-prefix-bytes
 array-share-prefix-bytes c = search needs
@@ -38,15 +44,17 @@ same-length : tie.Need-same-length
 same-length c = search needs
 
 returns-2 : tie.Need-returns-2
-unfolding layoutOf
-returns-2 c = rw (← c .before .before .before .before .before .encoded .ensures) (c .before .before .write-back .ensures)
+returns-2 c = rw (← c .before .before .before .before .before .before .encoded .ensures) (rw (← c .before .before .before .before .before .head-size .ensures .0) (c .before .before .write-back .ensures))
 
 pub write-spec : {M : Type 1} → statement M
 write-spec =
     tie.close
     (tie.spec
+    is-known-requires
+    pick-requires
     returns
     encoded-requires
+    head-size-requires
     cast-end
     mul-end
     add-end

@@ -1,21 +1,26 @@
 use Prim.Native.Nat.{_-_}
-use mathlib.Core.Path.{refl}
+use mathlib.Core.Path.{_≡_, refl}
 use native.Mathlib.Omega.{arith}
 use Rattle.planner.specs.Known.{NearRow}
 use Rattle.planner.proofs.Destination.{sifting-at}
 use Rattle.planner.proofs.NearRows.{no-row, same-row, near-row}
 use Rattle.planner.proofs.EachOutcome.{Asking, sound-shape, begun, is-at, place, turn, done}
+use Rattle.plan.specs.Layout.{weightsOf}
+use borrow.Author.Needs.{needs}
 use Rattle.planner.proofs.outcomes.all_outcomes.Statement.{statement}
 use Rattle.planner.proofs.outcomes.all_outcomes.Tie as tie
 
 abbrev Inv-loop : tie.InvT-loop
-Inv-loop plan shape words count dead ta td work source a fa fd outcomes₀ near₀ nears₀ row₀ at₀ outcomes near nears row at = Asking plan shape words count dead ta td work source a fa fd outcomes at × NearRow plan work source words count near nears row
+Inv-loop plan shape words count dead ta td work source a fa fd weights outcomes₀ near₀ nears₀ row₀ at₀ outcomes near nears row at = Asking plan shape words count dead ta td work source a fa fd outcomes at × NearRow plan work source words count near nears row × (weights ≡ weightsOf plan)
 
 abbrev μ-loop : tie.MeasureT-loop
-μ-loop plan shape words count dead ta td work source a fa fd outcomes₀ near₀ nears₀ row₀ at₀ outcomes near nears row at = 4097 - at .node
+μ-loop plan shape words count dead ta td work source a fa fd weights outcomes₀ near₀ nears₀ row₀ at₀ outcomes near nears row at = 4097 - at .node
+
+weights-in-requires : tie.Need-weights-in-requires Inv-loop μ-loop
+weights-in-requires c κs = search needs
 
 loop-holds : tie.Need-loop-holds Inv-loop μ-loop
-loop-holds c = let ready = c .before .before .pre .0 in (begun _ _ _ _ _ _ _ _ _ _ _ _ ready, no-row _ _ _ _ _ _ (ready .prepared .of-plan .plan))
+loop-holds c = let ready = c .before .before .before .pre .0 in (begun _ _ _ _ _ _ _ _ _ _ _ _ ready, no-row _ _ _ _ _ _ (ready .prepared .of-plan .plan), c .weights-in .ensures)
 
 renew-requires : tie.Need-renew-requires Inv-loop μ-loop
 renew-requires c κs = tt
@@ -32,7 +37,7 @@ outcome-to-requires c κs =
     let inv = both .0 in
     let to = is-at _ _ _ _ _ _ _ _ _ _ _ _ (inv .ready) _ _ inv (c .before .before .before .before .if1 .taken) _ refl in
     let row = c .before .before .renew .ensures _ _ _ (sifting-at _ _ _ _ _ _ _ _ _ _ _ _ (inv .ready) _ _ to) (both .1) in
-    (inv .ready, (to, near-row _ _ _ _ _ _ _ _ row _ _ to refl))
+    (inv .ready, (to, (near-row _ _ _ _ _ _ _ _ row _ _ to refl, both .2)))
 
 mul-outcomes : tie.Need-mul-outcomes Inv-loop μ-loop
 mul-outcomes c = let inv = c .before .before .before .before .before .before .before .before .loop .inv .0 in omega (arith, place _ _ _ _ _ _ _ _ _ _ _ _ (inv .ready) _ _ inv (c .before .before .before .before .before .if1 .taken))
@@ -53,7 +58,7 @@ loop-again c =
     let taken = c .before .before .before .before .before .before .if1 .taken in
     let to = is-at _ _ _ _ _ _ _ _ _ _ _ _ (inv .ready) _ _ inv taken _ refl in
     let row = c .before .before .before .before .renew .ensures _ _ _ (sifting-at _ _ _ _ _ _ _ _ _ _ _ _ (inv .ready) _ _ to) (both .1) in
-    (turn _ _ _ _ _ _ _ _ _ _ _ _ (inv .ready) _ _ inv taken _ _ (c .before .outcome-to .ensures (c .before .before .before .before .before .before .before .before .before .before .before .before .pre .1)) (c .following .ensures), same-row _ _ _ _ _ _ _ _ row _ (c .before .before .before .row-at .ensures))
+    (turn _ _ _ _ _ _ _ _ _ _ _ _ (inv .ready) _ _ inv taken _ _ (c .before .outcome-to .ensures (c .before .before .before .before .before .before .before .before .before .before .before .before .before .pre .1)) (c .following .ensures), same-row _ _ _ _ _ _ _ _ row _ (c .before .before .before .row-at .ensures), both .2)
 
 returns : tie.Need-returns Inv-loop μ-loop
 returns c = let inv = c .before .before .before .loop .inv .0 in done _ _ _ _ _ _ _ _ _ _ _ _ (inv .ready) _ _ inv (c .if1 .left)
@@ -64,6 +69,7 @@ all-outcomes-spec =
     (tie.spec
     Inv-loop
     μ-loop
+    weights-in-requires
     loop-holds
     renew-requires
     row-at-requires

@@ -1,7 +1,5 @@
 use Rattle.planner.proofs.Pairs.{refused-pair, known, from-at, to-at, paired}
 use native.Mathlib.Omega.{arith}
-use Rattle.planner.proofs.pair.pair.Statement.{statement}
-use Rattle.planner.proofs.pair.pair.Tie as tie
 use Rattle.planner.proofs.pair.pair.Reads as reads
 use Rattle.planner.proofs.pair.pair.Lts as lts
 use Rattle.losses.proofs.losses.Reads as losses-reads
@@ -9,6 +7,9 @@ use Rattle.machine.proofs.node.coords.Reads as coords-reads
 use Rattle.plan.proofs.layout.shape_in.Reads as shape-in-reads
 use Rattle.planner.proofs.pair.pair_error.Reads as pair-error-reads
 use Rattle.planner.proofs.pair.route.Reads as route-reads
+use borrow.Author.Needs.{needs}
+use Rattle.planner.proofs.pair.pair.Statement.{statement}
+use Rattle.planner.proofs.pair.pair.Tie as tie
 
 -- src/pair.rt:105:9
 pair-error-requires : tie.Need-pair-error-requires
@@ -30,6 +31,9 @@ losses-requires c κs = tt
 cast-count : tie.Need-cast-count
 cast-count c = omega arith
 
+weights-in-requires : tie.Need-weights-in-requires
+weights-in-requires c κs = search needs
+
 -- src/pair.rt:120:9
 coords-requires : tie.Need-coords-requires
 coords-requires c κs = tt
@@ -38,13 +42,12 @@ coords-requires c κs = tt
 coords-requires-2 : tie.Need-coords-requires-2
 coords-requires-2 c κs = tt
 
--- src/pair.rt:113:5
 route-requires : tie.Need-route-requires
-route-requires c κs = (known _ _ _ _ _ (c .before .before .before .before .before .before .shape-in .ensures) (c .before .before .before .before .before .before .before .before .pair-error .ensures) (c .before .before .before .before .before .before .before .if1 .left) _ _ (c .before .before .before .before .before .losses .ensures), (from-at _ _ _ _ _ (c .before .before .before .before .before .before .shape-in .ensures) (c .before .before .before .before .before .before .before .before .pair-error .ensures) (c .before .before .before .before .before .before .before .if1 .left) _ (c .before .coords .ensures), to-at _ _ _ _ _ (c .before .before .before .before .before .before .shape-in .ensures) (c .before .before .before .before .before .before .before .before .pair-error .ensures) (c .before .before .before .before .before .before .before .if1 .left) _ (c .coords2 .ensures)))
+route-requires c κs = (known _ _ _ _ _ (c .before .before .before .before .before .before .before .shape-in .ensures) (c .before .before .before .before .before .before .before .before .before .pair-error .ensures) (c .before .before .before .before .before .before .before .before .if1 .left) _ _ (c .before .before .before .before .before .before .losses .ensures), (from-at _ _ _ _ _ (c .before .before .before .before .before .before .before .shape-in .ensures) (c .before .before .before .before .before .before .before .before .before .pair-error .ensures) (c .before .before .before .before .before .before .before .before .if1 .left) _ (c .before .coords .ensures), (to-at _ _ _ _ _ (c .before .before .before .before .before .before .before .shape-in .ensures) (c .before .before .before .before .before .before .before .before .before .pair-error .ensures) (c .before .before .before .before .before .before .before .before .if1 .left) _ (c .coords2 .ensures), c .before .before .before .weights-in .ensures)))
 
 -- src/pair.rt:102:1
 returns-2 : tie.Need-returns-2
-returns-2 c = paired _ _ _ _ _ (c .before .before .before .before .before .before .before .shape-in .ensures) (c .before .before .before .before .before .before .before .before .before .pair-error .ensures) (c .before .before .before .before .before .before .before .before .if1 .left) _ (c .route .ensures)
+returns-2 c = paired _ _ _ _ _ (c .before .before .before .before .before .before .before .before .shape-in .ensures) (c .before .before .before .before .before .before .before .before .before .before .pair-error .ensures) (c .before .before .before .before .before .before .before .before .before .if1 .left) _ (c .route .ensures)
 
 pub pair-spec : {M : Type 1} → statement M
 pair-spec =
@@ -55,6 +58,7 @@ pair-spec =
     shape-in-requires
     losses-requires
     cast-count
+    weights-in-requires
     coords-requires
     coords-requires-2
     route-requires

@@ -10,14 +10,8 @@ has-via-requires c κs = search needs
 distance-requires : tie.Need-distance-requires
 distance-requires c κs = search needs
 
-cast-first : tie.Need-cast-first
-cast-first c = search needs
-
 distance-requires-2 : tie.Need-distance-requires-2
 distance-requires-2 c κs = search needs
-
-cast-second : tie.Need-cast-second
-cast-second c = search needs
 
 add-result : tie.Need-add-result
 add-result c = search needs
@@ -29,9 +23,6 @@ returns c = rw (sym (c .before .before .before .has-via .ensures) ∙ c .before 
 distance-requires-3 : tie.Need-distance-requires-3
 distance-requires-3 c κs = search needs
 
-cast-result : tie.Need-cast-result
-cast-result c = search needs
-
 returns-2 : tie.Need-returns-2
 unfolding lengthBy
 returns-2 c = rw (sym (c .before .before .has-via .ensures) ∙ c .before .if1 .left) (c .distance3 .ensures .0)
@@ -42,11 +33,8 @@ length-by-spec =
     (tie.spec
     has-via-requires
     distance-requires
-    cast-first
     distance-requires-2
-    cast-second
     add-result
     returns
     distance-requires-3
-    cast-result
     returns-2)

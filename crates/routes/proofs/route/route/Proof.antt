@@ -10,6 +10,9 @@ lookup-error-requires c κs = search needs
 returns : tie.Need-returns
 returns c = refused _ _ _ _ _ (c .before .lookup-error .ensures) (c .if1 .taken)
 
+weights-in-requires : tie.Need-weights-in-requires
+weights-in-requires c κs = search needs
+
 shape-in-requires : tie.Need-shape-in-requires
 shape-in-requires c κs = search needs
 
@@ -28,11 +31,8 @@ enum-told c = search needs
 distance-requires : tie.Need-distance-requires
 distance-requires c κs = search needs
 
-cast-length : tie.Need-cast-length
-cast-length c = search needs
-
 returns-2 : tie.Need-returns-2
-returns-2 c = rw (c .distance .ensures .0, c .before .before .before .before .before .shape-in .ensures, c .before .before .before .before .source-in .ensures) (said-direct _ _ _ _ (sym (c .before .before .before .before .before .before .before .lookup-error .ensures) ∙ c .before .before .before .before .before .before .if1 .left) (sym (c .before .enum-told .given .1) ∙ c .before .before .before .found-in .ensures))
+returns-2 c = rw (c .distance .ensures .0, c .before .before .before .before .before .before .weights-in .ensures, c .before .before .before .before .before .shape-in .ensures, c .before .before .before .before .source-in .ensures) (said-direct _ _ _ _ (sym (c .before .before .before .before .before .before .before .before .lookup-error .ensures) ∙ c .before .before .before .before .before .before .before .if1 .left) (sym (c .before .enum-told .given .1) ∙ c .before .before .before .found-in .ensures))
 
 length-by-requires : tie.Need-length-by-requires
 length-by-requires c κs = search needs
@@ -41,7 +41,7 @@ outcome-by-requires : tie.Need-outcome-by-requires
 outcome-by-requires c κs = search needs
 
 returns-3 : tie.Need-returns-3
-returns-3 c = rw (c .outcome-by .ensures, c .before .length-by .ensures, c .before .before .before .before .before .before .before .shape-in .ensures, c .before .before .before .before .before .before .source-in .ensures) (said-found _ _ _ _ (sym (c .before .before .before .before .before .before .before .before .before .lookup-error .ensures) ∙ c .before .before .before .before .before .before .before .before .if1 .left) _ (sym (c .before .before .before .found .given .1) ∙ c .before .before .before .before .before .found-in .ensures))
+returns-3 c = rw (c .outcome-by .ensures, c .before .length-by .ensures, c .before .before .before .before .before .before .before .before .weights-in .ensures, c .before .before .before .before .before .before .before .shape-in .ensures, c .before .before .before .before .before .before .source-in .ensures) (said-found _ _ _ _ (sym (c .before .before .before .before .before .before .before .before .before .before .lookup-error .ensures) ∙ c .before .before .before .before .before .before .before .before .before .if1 .left) _ (sym (c .before .before .before .found .given .1) ∙ c .before .before .before .before .before .found-in .ensures))
 
 pub route-spec : {M : Type 1} → statement M
 route-spec =
@@ -49,13 +49,13 @@ route-spec =
     (tie.spec
     lookup-error-requires
     returns
+    weights-in-requires
     shape-in-requires
     source-in-requires
     found-in-requires
     enum-known-found
     enum-told
     distance-requires
-    cast-length
     returns-2
     length-by-requires
     outcome-by-requires

@@ -8,13 +8,13 @@ use Rattle.search.proofs.best.plane.Statement.{statement}
 use Rattle.search.proofs.best.plane.Tie as tie
 
 abbrev Inv-loop : tie.InvT-loop
-Inv-loop shape xs ys least part fa fd to at z known best₀ y₀ best y = (y ≤ shape .y) × Lowers known best (PlaneHas shape xs ys part fa fd to at y z)
+Inv-loop shape weight xs ys least part fa fd to at z known best₀ y₀ best y = (y ≤ shape .y) × Lowers known best (PlaneHas shape weight xs ys part fa fd to at y z)
 
 abbrev μ-loop : tie.MeasureT-loop
-μ-loop shape xs ys least part fa fd to at z known best₀ y₀ best y = shape .y - y
+μ-loop shape weight xs ys least part fa fd to at z known best₀ y₀ best y = shape .y - y
 
 loop-holds : tie.Need-loop-holds Inv-loop μ-loop
-loop-holds c = (omega arith, rows-begin _ _ _ _ _ _ _ _ _ _)
+loop-holds c = (omega arith, rows-begin _ _ _ _ _ _ _ _ _ _ _)
 
 cast-i : tie.Need-cast-i Inv-loop μ-loop
 cast-i c = omega arith
@@ -32,10 +32,10 @@ loop-less : tie.Need-loop-less Inv-loop μ-loop
 loop-less c = omega arith
 
 loop-again : tie.Need-loop-again Inv-loop μ-loop
-loop-again c = (omega (arith, c .before .before .if1 .taken), rows-on _ _ _ _ _ _ _ _ _ _ _ _ _ (c .before .before .before .before .loop .inv .1) (c .row-of .ensures))
+loop-again c = (omega (arith, c .before .before .if1 .taken), rows-on _ _ _ _ _ _ _ _ _ _ _ _ _ _ (c .before .before .before .before .loop .inv .1) (c .row-of .ensures))
 
 returns : tie.Need-returns Inv-loop μ-loop
-returns c = rows-end _ _ _ _ _ _ _ _ _ _ _ _ (c .before .before .loop .inv .0) (c .if1 .left) (c .before .before .loop .inv .1)
+returns c = rows-end _ _ _ _ _ _ _ _ _ _ _ _ _ (c .before .before .loop .inv .0) (c .if1 .left) (c .before .before .loop .inv .1)
 
 pub plane-spec : {M : Type 1} → statement M
 plane-spec =

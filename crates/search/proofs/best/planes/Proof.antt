@@ -8,13 +8,13 @@ use Rattle.search.proofs.best.planes.Statement.{statement}
 use Rattle.search.proofs.best.planes.Tie as tie
 
 abbrev Inv-loop : tie.InvT-loop
-Inv-loop shape xs ys zs least low fa fd to at known best₀ z₀ best z = (z ≤ shape .z) × Lowers known best (SpaceHas shape xs ys zs fa fd to at z)
+Inv-loop shape weight xs ys zs least low fa fd to at known best₀ z₀ best z = (z ≤ shape .z) × Lowers known best (SpaceHas shape weight xs ys zs fa fd to at z)
 
 abbrev μ-loop : tie.MeasureT-loop
-μ-loop shape xs ys zs least low fa fd to at known best₀ z₀ best z = shape .z - z
+μ-loop shape weight xs ys zs least low fa fd to at known best₀ z₀ best z = shape .z - z
 
 loop-holds : tie.Need-loop-holds Inv-loop μ-loop
-loop-holds c = (omega arith, planes-begin _ _ _ _ _ _ _ _ _)
+loop-holds c = (omega arith, planes-begin _ _ _ _ _ _ _ _ _ _)
 
 cast-i : tie.Need-cast-i Inv-loop μ-loop
 cast-i c = omega arith
@@ -32,10 +32,10 @@ loop-less : tie.Need-loop-less Inv-loop μ-loop
 loop-less c = omega arith
 
 loop-again : tie.Need-loop-again Inv-loop μ-loop
-loop-again c = (omega (arith, c .before .before .if1 .taken), planes-on _ _ _ _ _ _ _ _ _ _ _ _ (c .before .before .before .before .loop .inv .1) (c .plane-at .ensures))
+loop-again c = (omega (arith, c .before .before .if1 .taken), planes-on _ _ _ _ _ _ _ _ _ _ _ _ _ (c .before .before .before .before .loop .inv .1) (c .plane-at .ensures))
 
 returns : tie.Need-returns Inv-loop μ-loop
-returns c = planes-end _ _ _ _ _ _ _ _ _ _ _ (c .before .before .loop .inv .0) (c .if1 .left) (c .before .before .loop .inv .1)
+returns c = planes-end _ _ _ _ _ _ _ _ _ _ _ _ (c .before .before .loop .inv .0) (c .if1 .left) (c .before .before .loop .inv .1)
 
 pub planes-spec : {M : Type 1} → statement M
 planes-spec =

@@ -3,14 +3,17 @@ use Rattle.search.proofs.RowLaws.{row-far}
 use Rattle.search.proofs.best.row_at.Statement.{statement}
 use Rattle.search.proofs.best.row_at.Tie as tie
 
+weighed-requires : tie.Need-weighed-requires
+weighed-requires c κs = c .before .pre .0 .0 .1
+
 add-if1 : tie.Need-add-if1
-add-if1 c = omega arith
+add-if1 c = omega (arith, c .weighed .ensures .1)
 
 mul-if1 : tie.Need-mul-if1
-mul-if1 c = omega arith
+mul-if1 c = omega (arith, c .weighed .ensures .1)
 
 returns : tie.Need-returns
-returns c = row-far _ _ _ _ _ _ _ _ _ (c .before .before .pre .0 .1) (c .before .before .pre .1) (c .if1 .taken)
+returns c = row-far _ _ _ _ _ _ _ _ _ _ (c .before .before .before .pre .0 .0 .0) (c .before .before .before .pre .0 .2) (c .before .before .before .pre .1) (rw (← c .before .weighed .ensures .0) (c .if1 .taken))
 
 add-a : tie.Need-add-a
 add-a c = omega arith
@@ -43,7 +46,7 @@ shared-slice-read-row-2 : tie.Need-shared-slice-read-row-2
 shared-slice-read-row-2 c = omega arith
 
 row-requires : tie.Need-row-requires
-row-requires c κs = ((c .before .before .before .before .before .before .pre .0 .0, c .before .before .before .before .before .before .pre .0 .1), c .before .before .before .before .before .before .pre .1)
+row-requires c κs = ((c .before .before .before .before .before .before .before .pre .0 .0, c .before .before .before .before .before .before .before .pre .0 .1, c .before .before .before .before .before .before .before .pre .0 .2), c .before .before .before .before .before .before .before .pre .1)
 
 returns-2 : tie.Need-returns-2
 returns-2 c = c .row .ensures
@@ -52,6 +55,7 @@ pub row-at-spec : {M : Type 1} → statement M
 row-at-spec =
     tie.close
     (tie.spec
+    weighed-requires
     add-if1
     mul-if1
     returns

@@ -18,10 +18,10 @@ add-r : tie.Need-add-r
 add-r c = omega arith
 
 row-at-requires : tie.Need-row-at-requires
-row-at-requires c κs = let p = c .before .before .pre in ((omega arith, p .1 .2, omega (arith, p .1 .0, p .1 .1, sound _ (p .0 .sound) Y .high, sound _ (p .0 .sound) Z .high), p .0 .run), p .0 .none)
+row-at-requires c κs = let p = c .before .before .pre in ((p .0 .weight, omega arith, p .1 .2, omega (arith, p .1 .0, p .1 .1, sound _ (p .0 .sound) Y .high, sound _ (p .0 .sound) Z .high), p .0 .run), p .0 .none)
 
 returns : tie.Need-returns
-returns c = row-starts (c .before .before .before .args .shape) _ _ (c .before .before .before .args .fa .now) (c .before .before .before .args .fd .now) (c .before .before .before .args .to .now) (c .before .before .before .args .at) (c .before .before .before .args .y) (c .before .before .before .args .z) _ _ _ (c .before .row-start .ensures) (c .row-at .ensures)
+returns c = row-starts (c .before .before .before .args .shape) _ _ _ (c .before .before .before .args .fa .now) (c .before .before .before .args .fd .now) (c .before .before .before .args .to .now) (c .before .before .before .args .at) (c .before .before .before .args .y) (c .before .before .before .args .z) _ _ _ (c .before .row-start .ensures) (c .row-at .ensures)
 
 pub row-of-spec : {M : Type 1} → statement M
 row-of-spec = tie.close (tie.spec add-base row-start-requires mul-r add-r row-at-requires returns)

@@ -25,7 +25,7 @@ element-copy-out-row-of-2 : tie.Need-element-copy-out-row-of-2
 element-copy-out-row-of-2 c = omega (arith, c .before .before .before .before .before .before .pre .1 .0 .0 .y, sound _ (c .before .before .before .before .before .before .pre .0 .0) Y .high)
 
 row-of-requires : tie.Need-row-of-requires
-row-of-requires c κs = let p = c .before .before .before .before .before .before .before .pre in (ready _ _ _ _ _ (p .0 .0) (c .before .before .before .before .before .level .ensures) (p .1 .1) (p .0 .1), (p .1 .0 .0 .y, p .1 .0 .0 .z, omega arith))
+row-of-requires c κs = let p = c .before .before .before .before .before .before .before .pre in (ready _ _ _ _ _ _ (p .0 .0) (p .0 .1) (c .before .before .before .before .before .level .ensures) (p .1 .1) (p .0 .2), (p .1 .0 .0 .y, p .1 .0 .0 .z, omega arith))
 
 cast-dy : tie.Need-cast-dy
 cast-dy c = search needs
@@ -40,13 +40,13 @@ element-copy-out-row-of-4 : tie.Need-element-copy-out-row-of-4
 element-copy-out-row-of-4 c = omega (arith, c .before .before .before .before .before .before .before .before .before .before .before .pre .1 .0 .1 .y, sound _ (c .before .before .before .before .before .before .before .before .before .before .before .pre .0 .0) Y .high)
 
 row-of-requires-2 : tie.Need-row-of-requires-2
-row-of-requires-2 c κs = let p = c .before .before .before .before .before .before .before .before .before .before .before .before .pre in (ready _ _ _ _ _ (p .0 .0) (c .before .before .before .before .before .before .before .before .before .before .level .ensures) (p .1 .1) (p .0 .1), (p .1 .0 .1 .y, p .1 .0 .1 .z, c .before .before .before .before .row-of .ensures .low))
+row-of-requires-2 c κs = let p = c .before .before .before .before .before .before .before .before .before .before .before .before .pre in (ready _ _ _ _ _ _ (p .0 .0) (p .0 .1) (c .before .before .before .before .before .before .before .before .before .before .level .ensures) (p .1 .1) (p .0 .2), (p .1 .0 .1 .y, p .1 .0 .1 .z, c .before .before .before .before .row-of .ensures .low))
 
 planes-requires : tie.Need-planes-requires
-planes-requires c κs = let p = c .before .before .before .before .before .before .before .before .before .before .before .before .before .pre in (ready _ _ _ _ _ (p .0 .0) (c .before .before .before .before .before .before .before .before .before .before .before .level .ensures) (p .1 .1) (p .0 .1), (c .before .before .before .before .before .before .before .before .before .before .least-part .ensures, omega (arith, c .row-of2 .ensures .low, c .before .before .before .before .before .row-of .ensures .low)))
+planes-requires c κs = let p = c .before .before .before .before .before .before .before .before .before .before .before .before .before .pre in (ready _ _ _ _ _ _ (p .0 .0) (p .0 .1) (c .before .before .before .before .before .before .before .before .before .before .before .level .ensures) (p .1 .1) (p .0 .2), (c .before .before .before .before .before .before .before .before .before .before .least-part .ensures, omega (arith, c .row-of2 .ensures .low, c .before .before .before .before .before .row-of .ensures .low)))
 
 returns : tie.Need-returns
-returns c = let p = c .before .before .before .before .before .before .before .before .before .before .before .before .before .before .pre in row-first _ _ _ _ _ _ _ _ _ _ _ (c .before .before .before .before .before .before .row-of .result) _ (p .1 .0 .0 .y) (p .1 .0 .0 .z) (c .before .before .before .before .before .before .row-of .ensures) (row-first _ _ _ _ _ _ _ _ (c .before .before .before .before .before .before .row-of .result) _ _ (c .before .row-of2 .result) _ (p .1 .0 .1 .y) (p .1 .0 .1 .z) (c .before .row-of2 .ensures) (c .planes .ensures))
+returns c = let p = c .before .before .before .before .before .before .before .before .before .before .before .before .before .before .pre in row-first _ _ _ _ _ _ _ _ _ _ _ _ (c .before .before .before .before .before .before .row-of .result) _ (p .1 .0 .0 .y) (p .1 .0 .0 .z) (c .before .before .before .before .before .before .row-of .ensures) (row-first _ _ _ _ _ _ _ _ _ (c .before .before .before .before .before .before .row-of .result) _ _ (c .before .row-of2 .result) _ (p .1 .0 .1 .y) (p .1 .0 .1 .z) (c .before .row-of2 .ensures) (c .planes .ensures))
 
 pub through-spec : {M : Type 1} → statement M
 through-spec =

@@ -6,14 +6,14 @@ use Rattle.shape.proofs.axis.lowers.Tie as tie
 next-place-requires : tie.Need-next-place-requires
 next-place-requires c κs = search needs
 
-distance-requires : tie.Need-distance-requires
-distance-requires c κs = search needs
+hops-requires : tie.Need-hops-requires
+hops-requires c κs = search needs
 
 cast-after : tie.Need-cast-after
 cast-after c = search needs
 
-distance-requires-2 : tie.Need-distance-requires-2
-distance-requires-2 c κs = search needs
+hops-requires-2 : tie.Need-hops-requires-2
+hops-requires-2 c κs = search needs
 
 cast-before : tie.Need-cast-before
 cast-before c = search needs
@@ -29,16 +29,16 @@ both-requires c κs = search needs
 
 returns : tie.Need-returns
 unfolding axisUseful
-returns c = rw (c .both .ensures, c .before .has-link .ensures, c .before .before .distance2 .ensures, c .before .before .before .distance .ensures, c .before .before .before .before .next-place .ensures)
+returns c = rw (c .both .ensures, c .before .has-link .ensures, c .before .before .hops2 .ensures, c .before .before .before .hops .ensures, c .before .before .before .before .next-place .ensures)
 
 pub lowers-spec : {M : Type 1} → statement M
 lowers-spec =
     tie.close
     (tie.spec
     next-place-requires
-    distance-requires
+    hops-requires
     cast-after
-    distance-requires-2
+    hops-requires-2
     cast-before
     has-link-requires
     add-both

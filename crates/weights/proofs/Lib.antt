@@ -1,0 +1,4 @@
+pub mod Good
+pub mod Laws
+pub mod ByCoords
+pub mod Answers
