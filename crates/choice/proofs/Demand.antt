@@ -82,7 +82,7 @@ admits-few s S D [] h = omega arith
 admits-few s S D (l ∷ ls) h = omega (arith, vias-legs (l ∷ ls) (omega arith), h .few)
 
 module _ (L : Limits) (p : List ℕ) (S D : ℕ) (e : planError L p ≡ 0) (hS : isNode (shapeOf p) S ≡ true) (hD : isNode (shapeOf p) D ≡ true) (dS : deadNode (faultsOf p) S ≡ false) (dD : deadNode (faultsOf p) D ≡ false) where
-  -- None of a pair's checks 1 to 10 declines.
+  -- None of the plan's checks, 9 and 10 declines.
   pub pair-chosen : pair L p S D ≡ chosen (routeIn p S D)
   unfolding pair pairError answered
   pair-chosen = rw (e, hS, hD, dS, dD)

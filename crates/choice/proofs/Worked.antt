@@ -1,4 +1,4 @@
--- The worked lines hold; and the theorem on planning a pair speaks of machine W.
+-- The worked lines hold, and those with weights; and the theorem on planning a pair speaks of machine W, and of a plan with weights.
 use mathlib.Core.Path.{refl}
 use Rattle.theory.specs.Machine.{endBy, sumBy}
 use Rattle.theory.specs.Clear.{every, clearBy, clearIn, clear}
@@ -25,6 +25,7 @@ use Rattle.choice.specs.Outcome.{told, toldAs}
 use Rattle.choice.specs.Pair.{routeBy, pairError, pair}
 use Rattle.choice.specs.Demand.{Demand}
 use Rattle.choice.specs.Worked.{Worked}
+use Rattle.choice.specs.Weighed.{machine, Weighed}
 use Rattle.choice.proofs.Demand.{demand}
 
 pub worked : Worked
@@ -44,7 +45,27 @@ worked = record {
   wrapped-2 = refl;
 }
 
+pub weighed : Weighed
+unfolding endBy sumBy every clearBy clearIn clear lex earlier best planned shapeError badExtents badWraps axisHops hasLink place nodeCount numberOf coordsOf dirDim opposite link neighbour hops useful rule toward firstDirection isNode allowedBy listFrom version lengthField bytesAfter lengthIs layoutOf shapeOf weightsBy badWeights weightError distance faultCount faultAt faultsOf kindDim kindDir faultGood faultKey faultsError planErrorBy faultExists some namesNode deadNode namesLink names deadLink sound targetsOf viasOf modesOf detsOf keyOf over after direct legsBy misses different kept choicesBy answered told toldAs routeBy pairError pair
+weighed = record {
+  by-hops = refl;
+  by-weight = refl;
+  weight-8 = refl;
+  weight-9 = refl;
+  weight-0 = refl;
+  kind-4 = refl;
+  both = refl;
+  bytes-12 = refl;
+  bytes-11 = refl;
+  version-3 = refl;
+}
+
 -- What the theorem assumes holds of W, 0 and 1.
 pub w-demand : Demand large W 0 1
 unfolding shapeError badExtents badWraps nodeCount isNode listFrom version lengthField bytesAfter lengthIs layoutOf shapeOf weightsBy badWeights weightError distance faultCount faultAt faultsOf kindDim kindDir coordsOf hasLink link dirDim faultGood faultKey faultsError planErrorBy faultExists some namesNode deadNode
 w-demand = demand large W 0 1 refl refl refl refl refl
+
+-- And of a plan with weights.
+pub weighed-demand : Demand large (machine 2) 0 1
+unfolding shapeError badExtents badWraps nodeCount isNode listFrom version lengthField bytesAfter lengthIs layoutOf shapeOf weightsBy badWeights weightError distance faultCount faultAt faultsOf kindDim kindDir coordsOf hasLink link dirDim faultGood faultKey faultsError planErrorBy faultExists some namesNode deadNode
+weighed-demand = demand large (machine 2) 0 1 refl refl refl refl refl

@@ -7,3 +7,4 @@ pub mod Outcome
 pub mod Pair
 pub mod Demand
 pub mod Worked
+pub mod Weighed

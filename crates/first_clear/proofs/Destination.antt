@@ -18,8 +18,8 @@ use Rattle.machine.specs.Number.{nodeCount, coordsOf, Inside}
 use Rattle.machine.specs.Hop.{hops, along}
 use Rattle.machine.proofs.Numbers.{inside}
 use Rattle.weights.specs.declared.weights.Weights.{Weights}
-use Rattle.weights.specs.Steps.{distanceAtAnswer}
-use Rattle.weights.proofs.ByCoords.{distance-at, answer-at}
+use Rattle.weights.specs.Steps.{distanceWord}
+use Rattle.weights.proofs.ByCoords.{distance-word}
 use Rattle.plan.specs.Layout.{shapeOf, weightsOf}
 use Rattle.plan.specs.Checks.{large, planError}
 use Rattle.choice.specs.declared.outcome.Outcome.{Outcome}
@@ -73,10 +73,10 @@ is-box p s S D a t h e from to b q v l = (λ i. way .1 (all-of f (sym product �
         ∙ box-inside (shapeOf p) ok (coordsOf (shapeOf p) S) (coordsOf (shapeOf p) D) (coordsOf (shapeOf p) v) (inside (shapeOf p) ok S (from .node)) (inside (shapeOf p) ok D (to .node)) (inside (shapeOf p) ok v l)
 
 pub length-is :
-    (p : List ℕ) (w : Weights) (s : Shape) (S D : ℕ) (a t : Coords) (len : ℕ) → planError large p ≡ 0 → w ≡ weightsOf p → s ≡ shapeOf p → IsAt p S a → IsAt p D t → len ≡ distanceAtAnswer w s a t →
+    (p : List ℕ) (w : Weights) (s : Shape) (S D : ℕ) (a t : Coords) (len : ℕ) → planError large p ≡ 0 → w ≡ weightsOf p → s ≡ shapeOf p → IsAt p S a → IsAt p D t → len ≡ distanceWord w s a t →
     len ≡ farIn p S D
 length-is p w s S D a t len h ew e from to q =
-    q ∙ rw (ew, e, from .at, to .at) (answer-at (weightsOf p) (weights-ok p h) (shapeOf p) _ _ ∙ distance-at (weightsOf p) (shapeOf p) S D)
+    q ∙ rw (ew, e, from .at, to .at) (distance-word (weightsOf p) (weights-ok p h) (shapeOf p) (shape-ok p h) S D (from .node) (to .node))
 
 pub small-at : (p : List ℕ) (n : ℕ) (c : Coords) → planError large p ≡ 0 → IsAt p n c → (c .x < 16) × (c .y < 16) × (c .z < 16)
 small-at p n c h a =
@@ -102,7 +102,7 @@ gathered-at p s D t table masks h to m from full g = let k = small-at p D t h to
 
 -- ---- the first steps
 pub apart-by :
-    (p : List ℕ) (w : Weights) (s : Shape) (S D : ℕ) (a t : Coords) (len : ℕ) (straight : Bool) → planError large p ≡ 0 → w ≡ weightsOf p → s ≡ shapeOf p → IsAt p S a → IsAt p D t → len ≡ distanceAtAnswer w s a t →
+    (p : List ℕ) (w : Weights) (s : Shape) (S D : ℕ) (a t : Coords) (len : ℕ) (straight : Bool) → planError large p ≡ 0 → w ≡ weightsOf p → s ≡ shapeOf p → IsAt p S a → IsAt p D t → len ≡ distanceWord w s a t →
     isClear p Adaptive S D ≡ false → straight ≡ isClear p Deterministic S D → Apart p S D len straight
 apart-by p w s S D a t len straight h ew e from end el direct one = record { plan = h; source = from .node; target = end .node; distance = length-is p w s S D a t len h ew e from end el; direct = direct; one = one }
 
@@ -116,7 +116,7 @@ module _ (p : List ℕ) (w : Weights) (s : Shape) (S D : ℕ) (a t : Coords) (ne
   box-of : IsBox p S D (b .x) (b .y) (b .z)
   box-of = is-box p s S D a t (g .of-plan .plan) (g .of-plan .shape) (g .source) (g .target) b eb
 
-  module _ (len : ℕ) (el : len ≡ distanceAtAnswer w s a t) where
+  module _ (len : ℕ) (el : len ≡ distanceWord w s a t) where
     apart-here : Apart p S D len straight
     apart-here = apart-by p w s S D a t len straight (g .of-plan .plan) (g .weights) (g .of-plan .shape) (g .source) (g .target) el (g .direct) (g .one)
 
@@ -157,7 +157,7 @@ module _ (p : List ℕ) (w : Weights) (s : Shape) (words : List ℕ) (count S D 
   abbrev k : OfPlan p s words count
   k = g .ends .of-plan
 
-  pub masks-short : (b : Box) → b ≡ boxOf s a t → (len : ℕ) → len ≡ distanceAtAnswer w s a t → (set new : List ℕ) → Are (clearIn (b .x) (b .y) (b .z) deterministic near n) set → Put 256 set 256 run new →
+  pub masks-short : (b : Box) → b ≡ boxOf s a t → (len : ℕ) → len ≡ distanceWord w s a t → (set new : List ℕ) → Are (clearIn (b .x) (b .y) (b .z) deterministic near n) set → Put 256 set 256 run new →
       Short p s S D len (b .x) (b .y) (b .z) fa fd new 0
   masks-short b eb len el set new are put =
       let box = is-box p s S D a t (k .plan) (k .shape) (g .source) (g .ends .node) b eb in
@@ -179,7 +179,7 @@ module _ (p : List ℕ) (w : Weights) (s : Shape) (words : List ℕ) (count S D 
 
 -- ---- one destination
 module _ (p : List ℕ) (w : Weights) (s : Shape) (work : List ℕ) (S D : ℕ) (a t : Coords) (fa fd : List ℕ) (straight : Bool) (g : BySets p w s work S D a t fa fd straight) where
-  pub sets-nearing : (len : ℕ) (b : Box) → len ≡ distanceAtAnswer w s a t → b ≡ boxOf s a t → Nearing p s S D len (b .x) (b .y) (b .z) fa straight work (512 * D)
+  pub sets-nearing : (len : ℕ) (b : Box) → len ≡ distanceWord w s a t → b ≡ boxOf s a t → Nearing p s S D len (b .x) (b .y) (b .z) fa straight work (512 * D)
   sets-nearing len b el eb = record {
     apart = apart-by p w s S D a t len straight (g .plan) (g .weights) (g .shape) (g .source) (g .target) el (g .direct) (g .one);
     shape = g .shape;
@@ -189,7 +189,7 @@ module _ (p : List ℕ) (w : Weights) (s : Shape) (work : List ℕ) (S D : ℕ) 
     room = omega (arith, g .both .room);
   }
 
-  pub sets-short : (len : ℕ) (b : Box) → len ≡ distanceAtAnswer w s a t → b ≡ boxOf s a t → Blocked p S D → Short p s S D len (b .x) (b .y) (b .z) fa fd work (512 * D)
+  pub sets-short : (len : ℕ) (b : Box) → len ≡ distanceWord w s a t → b ≡ boxOf s a t → Blocked p S D → Short p s S D len (b .x) (b .y) (b .z) fa fd work (512 * D)
   sets-short len b el eb blocked = record {
     plan = g .plan;
     shape = g .shape;

@@ -1,16 +1,15 @@
 -- One dimension: places between two others, and the links that the one way of a deterministic leg takes.
-use Prim.Native.Nat.{ℕ, zero, suc, _+_, _-_, _*_, _≤_, _<_, min}
+use Prim.Native.Nat.{ℕ, _+_, _-_, _*_, _≤_, _<_, min}
 use mathlib.Core.Bool.{Bool, true, false, cond, not, _&&_, false≢true}
 use mathlib.Core.Path.{_≡_, refl, sym, ap, _∙_}
-use mathlib.Core.Logic.{⊎-elim}
 use native.Mathlib.Omega.{arith}
 use lib.Dec.{ltb, eqb}
 use borrow.Author.Tests.{eqb-true, eq-eqb, ne-eqb, lt-ltb, ltb-true, le-leb, leb-true}
 use Rattle.theory.proofs.Bools.{and-true}
 use Rattle.theory.proofs.Cases.{by-le}
-use Rattle.shape.specs.Axis.{axisHops, hasLink, place, axisUseful}
+use Rattle.shape.specs.Axis.{axisHops, place, axisUseful}
 use Rattle.shape.specs.Steps.{ahead, ringUseful, goes}
-use Rattle.shape.proofs.AxisLaws.{axis-zero, axis-self, axis-some, axis-step, axis-triangle, useful-has, useful-less, back-place, place-below, Ahead, ahead-is, ring-useful, open-useful}
+use Rattle.shape.proofs.AxisLaws.{axis-zero, axis-self, axis-step, axis-triangle, useful-has, useful-less, back-place, Ahead, ahead-is, ring-useful, open-useful}
 use Rattle.shape.proofs.Runs.{ahead-of, goes-useful, onward}
 use Rattle.legs.specs.Between.{between, crosses, agree, runs}
 

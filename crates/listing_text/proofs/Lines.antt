@@ -9,7 +9,6 @@ use Rattle.shape.specs.declared.shape.Shape.{Shape}
 use Rattle.machine.specs.declared.leg.Mode.{Mode}
 use Rattle.machine.specs.Torus.{leg}
 use Rattle.packet.specs.New.{legsTo}
-use Rattle.plan.specs.Layout.{shapeOf}
 use Rattle.plan.specs.Checks.{large}
 use Rattle.choice.specs.declared.outcome.Outcome.{Outcome}
 use Rattle.choice.specs.Choice.{Choice, AdmitsIn, viasOf}

@@ -20,7 +20,7 @@ use Rattle.machine.proofs.Directions.{opposite-is}
 use Rattle.machine.proofs.Numbers.{number-coords, inside}
 use Rattle.shape.proofs.AxisLaws.{axis-symmetric, axis-zero, axis-self, axis-some, axis-step, axis-triangle, back-place, back-link}
 use Rattle.shape.proofs.Runs.{one-taken}
-use Rattle.machine.proofs.ByCoords.{inside-at, along-small, hops-at, hops-put, neighbour-coords, neighbour-below, plus-of, minus-of}
+use Rattle.machine.proofs.ByCoords.{inside-at, along-small, hops-at, hops-put, neighbour-coords, plus-of, minus-of}
 
 pub useful-link : (s : Shape) (n t dir : ℕ) → useful s n t dir ≡ true → link s n dir ≡ true
 unfolding useful

@@ -18,7 +18,7 @@ use Rattle.routes.specs.Layout.{written}
 use Rattle.routes.specs.Said.{entryFor}
 use Rattle.route_value.specs.Writing.{sheetBytes}
 
--- A sheet to be written checks 1 to 8, then 9, 10 (source only).
+-- A sheet to be written: the plan's checks, then 9, 10 (source only).
 unfoldable pub sourceError : Limits → List ℕ → ℕ → ℕ
 sourceError L p S =
     planError L p

@@ -15,7 +15,7 @@ use Rattle.shape.specs.declared.shape.Coords.{Coords}
 use Rattle.machine.specs.declared.leg.Mode.the-variants.{Adaptive, Deterministic}
 use Rattle.machine.specs.Node.{isNode}
 use Rattle.weights.specs.declared.weights.Weights.{Weights}
-use Rattle.weights.specs.Steps.{distanceAtAnswer}
+use Rattle.weights.specs.Steps.{distanceWord}
 use Rattle.plan.specs.Layout.{shapeOf, weightsOf, faultsOf}
 use Rattle.plan.specs.Checks.{large, planError}
 use Rattle.plan.specs.Reading.{isPlan}
@@ -72,7 +72,7 @@ module _ (p : List ℕ) (s : Shape) (words : List ℕ) (count : ℕ) (dead ta td
       (λ d. e ∙ sym (ap (told (farIn p) S) (pair-alive large p S source-is D target-is d)))
 
   -- The direct adaptive leg is clear, or not.
-  pub direct-told : (w : Weights) → w ≡ weightsOf p → (b : Bool) → b ≡ inRows fa 0 t → b ≡ true → (len : ℕ) → len ≡ distanceAtAnswer w s a t → Outcome.Given (Route.Direct Adaptive) len ≡ told (farIn p) S (pair large p S D)
+  pub direct-told : (w : Weights) → w ≡ weightsOf p → (b : Bool) → b ≡ inRows fa 0 t → b ≡ true → (len : ℕ) → len ≡ distanceWord w s a t → Outcome.Given (Route.Direct Adaptive) len ≡ told (farIn p) S (pair large p S D)
   unfolding told toldAs sumBy
   direct-told w ew b e y len q =
       let c = sym (has-is p Adaptive fa S D t (g .adaptive) to b e) ∙ y in

@@ -13,7 +13,7 @@ use Rattle.theory.specs.Machine.{sumBy}
 use Rattle.packet.specs.declared.route.Route.{Route}
 use Rattle.machine.specs.Hop.{rule}
 use Rattle.weights.specs.declared.weights.Weights.{Weights}
-use Rattle.weights.specs.Steps.{distanceAtAnswer}
+use Rattle.weights.specs.Steps.{distanceWord}
 use Rattle.machine.specs.declared.leg.Mode.{Mode}
 use Rattle.machine.specs.declared.leg.Mode.the-variants.{Adaptive, Deterministic}
 use Rattle.machine.specs.Node.{isNode, coordsAnswer}
@@ -91,7 +91,7 @@ module _ (p : List ℕ) (w : Weights) (ew : w ≡ weightsOf p) (s : Shape) (word
       let few : min count 256 ≡ count = omega (arith, k .losses .few) in
       e ∙ rw (few, k .shape, from .at, to .at) (sym (clear-is p (k .plan) words count (k .losses) S D (from .node) (to .node) m))
 
-  pub direct-told : (b : Bool) → b ≡ not (onLeg rule Adaptive s words (min count 256) a t) → b ≡ true → (len : ℕ) → len ≡ distanceAtAnswer w s a t → Outcome.Given (Route.Direct Adaptive) len ≡ routeTold p S D
+  pub direct-told : (b : Bool) → b ≡ not (onLeg rule Adaptive s words (min count 256) a t) → b ≡ true → (len : ℕ) → len ≡ distanceWord w s a t → Outcome.Given (Route.Direct Adaptive) len ≡ routeTold p S D
   unfolding told toldAs sumBy
   direct-told b e y len q =
       let c = sym (leg-is Adaptive b e) ∙ y in

@@ -60,7 +60,7 @@ pub record RunMade (p : List ℕ) (from : ℕ) (o : List ℕ) (r : Run) (t : Lis
   pub run : r ≡ runOf p from (length o)
   pub bytes : t ≡ runAfter p from o
 
--- Checks 1 to 8 of the plan, then 9 of the board.
+-- The plan's checks, then 9 of the board.
 unfoldable pub runError : List ℕ → ℕ → ℕ
 runError p from =
     planError large p

@@ -6,7 +6,6 @@ use crate::sifted::NO_ROW;
 use crate::sifted::renew;
 use crate::sifted::row_at;
 use first_clear::sets_of::from_masks;
-use machine::leg::Mode;
 use plan::layout::weights_in;
 use route_value::set_entry;
 use routes::kinds::entry_for;

@@ -1,4 +1,4 @@
-// Planning a pair: checks 1 to 8, 9, 10, then the first clear choice, or 11.
+// Planning a pair: the plan's checks, 9, 10, then the first clear choice, or 11.
 use crate::errors::first_error;
 use choice::Outcome;
 use dead::is_dead_node;

@@ -30,7 +30,7 @@ pub enum Answer {
     FewWords,
 }
 
-// Checks 1 to 8 of the plan, then 9 of the board; 0 where none declines.
+// The plan's checks, then 9 of the board; 0 where none declines.
 fn run_error(plan: &[u8], from: u16) -> u8
     ensures { λ r. ⌜ r ≡ runError (now (plan .entry)) from ⌝ }
 {

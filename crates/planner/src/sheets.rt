@@ -1,4 +1,4 @@
-// Writing a route sheet by planning from a source: checks 1 to 8, 9, 10 (source only), 12.
+// Writing a route sheet by planning from a source: the plan's checks, 9, 10 (source only), 12.
 use crate::errors::first_error;
 use crate::listed::routes_from;
 use dead::dead_nodes;
@@ -22,7 +22,7 @@ ghost use Rattle.plan.specs.Checks.{large};
 ghost use Rattle.planned_sheet.specs.Sheet.{sourceError, plannedSheet};
 ghost use Rattle.planner.specs.Known.{Listed};
 
-// Checks 1 to 8, then 9 and 10 of the source; 0 where none declines.
+// The plan's checks, then 9 and 10 of the source; 0 where none declines.
 pub fn source_error(plan: &[u8], source: u16) -> u8
     ensures { λ r. ⌜ r ≡ sourceError large (now (plan .entry)) source ⌝ }
 {

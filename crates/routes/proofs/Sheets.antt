@@ -44,7 +44,7 @@ head-of F s h =
       sized = omega (arith, length-sheet s n (p .1) (omega arith));
     }
 
--- A sheet that checks 1 to 8 and 13 accept.
+-- A sheet that the plan's checks and 13 accept.
 pub record Accepted (L : Limits) (p s : List ℕ) : Type 0 where
   pub plan : planError L p ≡ 0
   pub head : Head (formatOf s) s

@@ -42,6 +42,6 @@ routesGood F m S es = isNode m S && entriesGood F m S 0 es
 unfoldable pub sheetGood : Shape → List ℕ → Bool
 sheetGood m s = headGood (formatOf s) s && routesGood (formatOf s) m (source s) (entriesOf s)
 
--- The plan's checks 1 to 8, then 13.
+-- The plan's checks, then 13.
 unfoldable pub sheetError : Limits → List ℕ → List ℕ → ℕ
 sheetError L p s = planError L p then declined (not (sheetGood (shapeOf p) s)) wrongRouteSheet

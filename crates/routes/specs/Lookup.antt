@@ -16,7 +16,7 @@ use Rattle.routes.specs.declared.lookup.Part.{Part}
 use Rattle.routes.specs.Layout.{formatOf, entryCount, entriesAt, entrySize, entriesOf}
 use Rattle.routes.specs.Checks.{sheetError}
 
--- A lookup checks 1 to 8, 13, then 9.
+-- A lookup: the plan's checks, 13, then 9.
 unfoldable pub lookupError : Limits → List ℕ → List ℕ → ℕ → ℕ
 lookupError L p s d = sheetError L p s then declined (not (isNode (shapeOf p) d)) nodeOutside
 

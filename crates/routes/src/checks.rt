@@ -1,4 +1,4 @@
-// Checks 1 to 8 of the plan, then 13; 0 where none declines.
+// The plan's checks, then 13; 0 where none declines.
 use crate::kinds::has_via;
 use crate::kinds::is_plain;
 use crate::layout::ENTRIES_AT;

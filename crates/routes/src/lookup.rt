@@ -15,7 +15,7 @@ ghost use Rattle.plan.specs.Checks.{large};
 ghost use Rattle.routes.specs.Layout.{entriesOf};
 ghost use Rattle.routes.specs.Lookup.{find, lookupError, PartOf, partStart, partLength, partFor};
 
-// Checks 1 to 8, 13, then 9.
+// The plan's checks, 13, then 9.
 pub fn lookup_error(plan: &[u8], sheet: &[u8], dest: u16) -> u8
     ensures { λ r. ⌜ r ≡ lookupError large (now (plan .entry)) (now (sheet .entry)) dest ⌝ }
 {

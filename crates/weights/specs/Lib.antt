@@ -1,4 +1,5 @@
 pub mod Weights
 pub mod Distance
+pub mod Walks
 -- The code's own steps.
 pub mod Steps

@@ -1,4 +1,4 @@
-// The distance of two nodes, in weights. Every call is total: 0 where check 16 declines the weights, or a node does not exist.
+// The distance of two nodes, by weight. Every call is total.
 use crate::weights::Weights;
 use crate::weights::weight_error;
 use machine::hop::hops_along;
@@ -10,28 +10,28 @@ use shape::Shape;
 ghost use mathlib.Core.Path.{_≡_};
 ghost use Prim.Native.Nat.{_≤_};
 ghost use Rattle.weights.specs.Distance.{distanceAnswer};
-ghost use Rattle.weights.specs.Steps.{distanceAtAnswer};
+ghost use Rattle.weights.specs.Steps.{distanceWord};
 
-// Of any coordinates.
+// Of any coordinates and weights: modulo 65,536.
 pub fn distance_at(weights: Weights, shape: Shape, at: Coords, to: Coords) -> u16
-    ensures { λ r. ⌜ r ≡ distanceAtAnswer weights shape at to ⌝ }
+    ensures { λ r. ⌜ r ≡ distanceWord weights shape at to ⌝ }
 {
-    if weight_error(weights) != 0 {
-        return 0;
-    }
-    let x = weights.x as u16 * hops_along(shape, at, to, Dim::X);
-    let y = weights.y as u16 * hops_along(shape, at, to, Dim::Y);
-    let z = weights.z as u16 * hops_along(shape, at, to, Dim::Z);
-    x + y + z
+    let x = weights.x as u32 * hops_along(shape, at, to, Dim::X) as u32;
+    let y = weights.y as u32 * hops_along(shape, at, to, Dim::Y) as u32;
+    let z = weights.z as u32 * hops_along(shape, at, to, Dim::Z) as u32;
+    ((x + y + z) % 65536) as u16
 }
 
+// 0 where check 16 declines the weights, or a node does not exist.
 pub fn distance(weights: Weights, shape: Shape, node: u16, target: u16) -> u16
     ensures { λ r. ⌜ r ≡ distanceAnswer weights shape node target ⌝ }
     ensures { λ r. ⌜ r ≤ 360 ⌝ }
 {
-    if are_pair(shape, node, target) {
-        distance_at(weights, shape, coords(shape, node), coords(shape, target))
-    } else {
-        0
+    if weight_error(weights) != 0 {
+        return 0;
     }
+    if !are_pair(shape, node, target) {
+        return 0;
+    }
+    distance_at(weights, shape, coords(shape, node), coords(shape, target))
 }

@@ -1,4 +1,4 @@
-use mathlib.Core.Path.{sym, _∙_}
+use mathlib.Core.Path.{_∙_}
 use Rattle.plan.proofs.Weights.{no-weights, some-weights}
 use borrow.Author.Needs.{needs}
 use Rattle.plan.proofs.layout.weights_in.Statement.{statement}
