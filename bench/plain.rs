@@ -73,6 +73,7 @@ impl Shape {
         (up != 0 && 2 * up <= len, up != 0 && 2 * up >= len)
     }
 
+    /// At half a ring, where both are useful, a deterministic leg goes plus from an even coordinate.
     pub fn allows(&self, mode: Mode, at: [u8; 3], to: [u8; 3], dir: u8) -> bool {
         if dir > 5 {
             return false;
@@ -82,7 +83,7 @@ impl Shape {
         match mode {
             Mode::Adaptive => if plus { up } else { down },
             Mode::Deterministic => match (0..3).find(|&i| at[i] != to[i]) {
-                Some(first) => first == d && plus == up,
+                Some(first) => first == d && plus == if up && down { at[d] % 2 == 0 } else { up },
                 None => false,
             },
         }

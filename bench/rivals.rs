@@ -1,10 +1,10 @@
-//! The planners in plain Rust, `reference/fast.rs` and `reference/shadows.rs` under document 01's rules with weights, called from here and as programs.
+//! The planners in plain Rust, `reference/fast.rs` and `reference/shadows.rs` under document 01's rules with E1 and E2, called from here and as programs.
 use std::io::Write;
 use std::process::{Command, Stdio};
 
 /// What the two call these rules.
-pub const STAGE: &str = "E1";
-const STAGE_NUMBER: u32 = 1;
+pub const STAGE: &str = "E2";
+const STAGE_NUMBER: u32 = 2;
 
 #[allow(warnings)]
 pub mod fast {
@@ -46,7 +46,7 @@ pub mod shadows {
 
     fn shadows_of(plan: &[u8]) -> (Plan, Box<Geo>) {
         let p = parse(plan).ok().unwrap();
-        let g = Geo::new(&p, false);
+        let g = Geo::new(&p, RULES.stage >= 2);
         (p, g)
     }
 

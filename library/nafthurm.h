@@ -21,6 +21,9 @@
  * Directions are 0 X+, 1 X-, 2 Y+, 3 Y-, 4 Z+, 5 Z-. Kinds of routes, as in a route sheet and in the listing:
  *   0 direct adaptive, 1 direct deterministic, and by a via 2 both legs adaptive, 3 adaptive then deterministic, 4 deterministic then adaptive,
  *   5 both deterministic.
+ *
+ * An adaptive leg may take any hop that brings it nearer to its target. A deterministic leg takes the first of X, Y, Z where the coordinates differ, the
+ * shorter way; at exactly half a ring it goes plus from an even coordinate of that dimension and minus from an odd one.
  */
 #ifndef NAFTHURM_H
 #define NAFTHURM_H
@@ -159,7 +162,7 @@ nafthurm_written nafthurm_plan_write_back(const uint8_t *plan, size_t plan_size,
 /* The route from the source to the destination: the checks of a plan, then 9, 10, 11. */
 nafthurm_planned nafthurm_pair(const uint8_t *plan, size_t plan_size, uint16_t source, uint16_t destination);
 
-/* The route sheet of every destination from the source, into out: the checks of a plan, then 9, 10, 12. Bytes of out past the sheet are untouched. */
+/* The route sheet of every destination from the source, in version 2, into out: the checks of a plan, then 9, 10, 12. Bytes of out past the sheet are untouched. */
 nafthurm_written nafthurm_write_sheet(const uint8_t *plan, size_t plan_size, uint16_t source, uint8_t *out, size_t out_size);
 
 /*
@@ -191,6 +194,11 @@ nafthurm_run nafthurm_all_sheets(const uint8_t *plan, size_t plan_size, uint16_t
 nafthurm_written nafthurm_listing(const uint8_t *input, size_t input_size, uint8_t *out, size_t out_size);
 
 /* ---- Route sheets; they answer from the sheet alone and never judge its routes against the plan's faults ---- */
+
+/*
+ * Version 2 alone is read; any other is 13. A version 1 sheet has the same layout, but its deterministic legs went plus at every half ring: write it anew from
+ * the plan in use.
+ */
 
 /* The checks of the plan, then 13 of the sheet: the number of the first that declines, or 0. */
 uint8_t nafthurm_sheet_check(const uint8_t *plan, size_t plan_size, const uint8_t *sheet, size_t sheet_size);

@@ -9,7 +9,7 @@
 import reference as ref
 import vectors
 
-STAGE = ref.E1                 # the last change request that has landed
+STAGE = ref.E2                 # the last change request that has landed
 SHEET_BYTES = 20482            # the largest route sheet
 
 

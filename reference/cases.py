@@ -14,10 +14,11 @@ import sys
 sys.dont_write_bytecode = True
 import answers
 import reference as ref
+import ties
 import vectors
 import weighed
 from answers import STAGE
-from lines import line, plan_of, plan_write, routes_of
+from lines import W, declined_plans, line, plan_of, plan_write, routes_of
 
 SEED = '1'
 VECTORS = {'step': 400, 'walk': 400, 'plan': 500, 'planback': 300, 'pair': 500, 'sheet': 200, 'lookup': 350, 'back': 200, 'run': 300, 'sheetrun': 250,
@@ -28,16 +29,15 @@ LARGE = 36                     # machines of more nodes than the vectors plan on
 LINE_BYTES = 131072            # conform's line buffer
 
 
-# ---- What the document says: (line, answer)
+# ---- What the documents say: (line, answer)
 
-W = bytes.fromhex('010009040401030001000000')
-W_ROUTES = bytes.fromhex('01002c00000008 0001030004 0002020003 0005020004 0006020003 0009020004 000a020003 000d02000c 000e020003')
-W_LISTING = ('0 0 - 0 / 1 3 4 3 / 2 2 3 2 / 3 0 - 1 / 4 0 - 1 / 5 2 4 2 / 6 2 3 3 / 7 0 - 2 / 8 0 - 2 / 9 2 4 3 / 10 2 3 4 / 11 0 - 3 / '
+W_ROUTES = bytes.fromhex('02002c00000008 0001030003 0002020003 0005020004 0006020003 0009020004 000a020003 000d02000c 000e020003')
+W_LISTING = ('0 0 - 0 / 1 3 3 3 / 2 2 3 2 / 3 0 - 1 / 4 0 - 1 / 5 2 4 2 / 6 2 3 3 / 7 0 - 2 / 8 0 - 2 / 9 2 4 3 / 10 2 3 4 / 11 0 - 3 / '
              '12 0 - 1 / 13 2 12 2 / 14 2 3 3 / 15 0 - 2')
 
 
 def worked():
-    """The document's worked lines, in its own words."""
+    """The documents' worked lines, in their own words."""
     yield from worked_pairs()
     yield from worked_rows()
     yield line('listing', input=ref.two(0) + W), 'text=' + vectors.listing_text('0 16 1\n' + W_LISTING.replace(' / ', '\n') + '\n')
@@ -45,7 +45,7 @@ def worked():
                          (50, 'number=0 size=47 out=' + W_ROUTES.hex() + 'eeeeee'), (0, 'number=12 size=0 out=-')):
         yield line('sheet', plan=W, source=0, room=room), answer
         yield line('back', plan=W, sheet=W_ROUTES, room=room), answer
-    for destination, answer in ((1, 'part=7:12 number=0 source=0 legs=4:A,1:D'), (14, 'part=42:47 number=0 source=0 legs=3:A,14:A'),
+    for destination, answer in ((1, 'part=7:12 number=0 source=0 legs=3:A,1:D'), (14, 'part=42:47 number=0 source=0 legs=3:A,14:A'),
                                 (3, 'part=0:0 number=0 source=0 legs=3:A'), (0, 'part=0:0 number=0 source=0 legs=0:A'), (16, 'part=0:0 number=9')):
         yield line('lookup', plan=W, sheet=W_ROUTES, destination=destination), answer
 
@@ -56,7 +56,7 @@ def worked_pairs():
 
     def direct(node, length):
         return 'number=0 legs=%d:A length=%d' % (node, length)
-    yield of(plan_of([4, 1, 1], 1, (0, 0)), 0, 1, 'number=11')
+    yield of(plan_of([4, 1, 1], 1, (0, 0)), 0, 1, 'number=0 legs=3:A,1:D length=3')
     yield of(plan_of([5, 1, 1], 1, (0, 0)), 0, 1, 'number=0 legs=3:A,1:A length=4')
     yield of(plan_of([2, 1, 1], 0, (0, 0)), 0, 1, 'number=11')
     yield of(plan_of([1, 1, 1], 0, (0, 3)), 0, 0, 'number=10')
@@ -134,18 +134,6 @@ def value_written(rng, plan):
     return plan_write(plan.version, plan.shape.extents, plan.shape.wrap, plan.weights, faults, room)
 
 
-def declined_plans():
-    """A version 1 sheet declined by each of the checks 1 to 8."""
-    yield W[:8]
-    yield b'\3' + W[1:]
-    yield W[:7] + ref.two(257) + W[9:]
-    yield W + b'\0'
-    yield plan_of([17, 4, 1], 2)
-    yield plan_of([2, 4, 1], 1)
-    yield plan_of([4, 4, 1], 3, (16, 3))
-    yield plan_of([4, 4, 1], 3, (3, 1), (3, 0))
-
-
 def refusals():
     """Each call that takes a plan, declined by each check of it, where a later check would decline too; and runs that are refused."""
     for plan in *declined_plans(), *weighed.declined_plans():
@@ -157,7 +145,7 @@ def refusals():
         yield line('listing', input=ref.two(65535) + plan)
         yield line('lookup', plan=plan, sheet=W_ROUTES[:-1], destination=65535)
         yield line('back', plan=plan, sheet=W_ROUTES[:-1], room=0)
-    for plan, source, destination in ((W, 0, 16), (W, 16, 0), (plan_of([4, 1, 1], 1, (0, 0)), 0, 1), (plan_of([4, 1, 1], 1, (1, 3)), 0, 1)):
+    for plan, source, destination in ((W, 0, 16), (W, 16, 0), (plan_of([2, 1, 1], 0, (0, 0)), 0, 1), (plan_of([4, 1, 1], 1, (1, 3)), 0, 1)):
         yield line('run', plan=plan, source=source, destination=destination, calls='s00,w')
     for size in 0, 1, 2, 10:
         yield line('listing', input=(ref.two(0) + W)[:size])
@@ -257,7 +245,7 @@ def large_sheets():
     yield line('listing', input=ref.two(1000) + plan_of([16, 9, 8], 0, (999, 0)))
 
 
-LACKING = (many_legs, links, plan_cases, refusals, alike, just_outside, rare, large_pairs, large_sheets) + weighed.LACKING
+LACKING = (many_legs, links, plan_cases, refusals, alike, just_outside, rare, large_pairs, large_sheets) + weighed.LACKING + ties.LACKING
 
 
 # ---- Lines that no call can be made of
@@ -352,7 +340,7 @@ def long():
         yield answered('step extents=3,3,3 wrap=7 packet=0;13:A direction=4')
     yield padded(2 * LINE_BYTES), 'unreadable'
     cube = plan_of([16, 16, 16], 7)
-    full = vectors.random_route_sheet(random.Random(SEED), STAGE, ref.Shape([16, 16, 16], 7), 1, 4096)
+    full = vectors.random_route_sheet(random.Random(SEED), STAGE, ref.Shape([16, 16, 16], 7), 2, 4096)
     for room in 20481, 20482, 20544:
         yield answered(line('back', plan=cube, sheet=full, room=room))
     for destination in 0, ref.word(full, 3), 2048, 4095, 4096:

@@ -21,7 +21,7 @@ SOURCES = 4
 
 
 def large_plan(rng):
-    """Few faults, as many as can be, or those round one node; of either version."""
+    """Few faults, as many as can be, or those round one node; of either plan version."""
     while True:
         extents = rng.choice([[16, 16, 16], [rng.randint(1, 16) for _ in range(3)], [rng.choice([4, 8, 12, 16]) for _ in range(3)]])
         shape = ref.Shape(extents, vectors.random_wrap(rng, extents, rng.choice([0, 0.5, 1, 1])))
@@ -54,10 +54,10 @@ def all_sheets(shadows, plan):
 def listing(plan, sheet):
     """The listing's text, from the sheet."""
     source, lines = ref.word(sheet, 3), ['%d %d %d' % (ref.word(sheet, 3), plan.nodes, len(plan.faults))]
-    entries = {entry.destination: entry for entry in ref.read_route_sheet(plan.shape, sheet, [1]).entries}
+    entries = {entry.destination: entry for entry in ref.read_route_sheet(plan.shape, sheet, [2]).entries}
     for destination in range(plan.nodes):
         entry = entries.get(destination)
-        number, legs = ref.entry_answer(1, entry) if entry else (0, ((destination, 'A'),))
+        number, legs = ref.entry_answer(2, entry) if entry else (0, ((destination, 'A'),))
         via = legs[0][0] if legs and len(legs) > 1 else '-'
         lines.append('%d %d %s %s' % (destination, entry.kind if entry else 0, via, '-' if number else ref.length_of(plan, source, legs)))
     return ''.join(line + '\n' for line in lines)

@@ -1,7 +1,10 @@
-"""Cases as lines, and the sheets that they hand over."""
+"""Cases as lines, the sheets that they hand over, and whole ways."""
 import answers
 import reference as ref
 import vectors
+from answers import STAGE
+
+W = bytes.fromhex('010009040401030001000000')          # document 01's machine
 
 
 def line(operation, **fields):
@@ -16,9 +19,43 @@ def plan_of(extents, wrap, *faults, weights=None):
 
 def routes_of(source, *entries):
     """A route sheet; an entry is (destination, kind, via)."""
-    return ref.sheet_bytes(1, source, [ref.entry_bytes(1, destination, kind, [via]) for destination, kind, via in entries])
+    return ref.sheet_bytes(2, source, [ref.entry_bytes(2, destination, kind, [via]) for destination, kind, via in entries])
 
 
 def plan_write(version, extents, wrap, weights, faults, room):
     return line('planwrite', version=version, extents=answers.numbers_text(extents), wrap=wrap, weights=answers.numbers_text(weights),
                 faults=vectors.faults_text(faults), room=room)
+
+
+def declined_plans():
+    """A version 1 plan sheet declined by each of the checks 1 to 8."""
+    yield W[:8]
+    yield b'\3' + W[1:]
+    yield W[:7] + ref.two(257) + W[9:]
+    yield W + b'\0'
+    yield plan_of([17, 4, 1], 2)
+    yield plan_of([2, 4, 1], 1)
+    yield plan_of([4, 4, 1], 3, (16, 3))
+    yield plan_of([4, 4, 1], 3, (3, 1), (3, 0))
+
+
+def sheet_from(plan, source):
+    """The route sheet that planning writes."""
+    return ref.planned_sheet(STAGE, ref.read_plan(STAGE, plan)[1], source)
+
+
+def first_way(shape, packet):
+    """The lowest direction allowed at each place, until the packet has arrived."""
+    way = []
+    while ref.directions(STAGE, shape, packet):
+        way.append(ref.directions(STAGE, shape, packet)[0])
+        packet = ref.hop(shape, packet, way[-1])
+    return bytes(way)
+
+
+def runs_on(plan, source, destination):
+    """The whole way and a step more, along the pair's route and along what the sheet says."""
+    number, route = ref.plan_pair(STAGE, plan, source, destination)
+    way = b'' if number else first_way(ref.read_plan(STAGE, plan)[1].shape, ref.new_packet(STAGE, source, route.legs))
+    for operation in 'run', 'sheetrun':
+        yield line(operation, plan=plan, source=source, destination=destination, calls='w%s,s00' % way.hex())

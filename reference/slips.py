@@ -20,6 +20,14 @@ OUTSIDE = '    return 14 if any(node >= shape.nodes for node in named) else 0'
 DROP = '        while packet.legs and packet.legs[0][0] == packet.node:\n            packet = packet._replace(legs=packet.legs[1:])'
 HOPPED = '        packet = hop(shape, packet, run[hops])\n        hops += 1'
 ARRIVED = "        if front(drop(packet)) is None:\n            return Walked(0, packet, hops, 'arrived')\n"
+HALF = '            if len(useful) == 2:                       # exactly half a ring\n'
+NEARLY = 'shape.wrapped(dim) and 2 * shape.hops_in(dim, here[dim], there[dim]) >= shape.extents[dim] - '
+TIE = '                if stage >= E2 and here[dim] % 2 == 1:\n'
+ADAPTIVE = "    if mode == 'A':\n        return shape.useful(node, target)"
+PLANNED = 'allowed(stage, plan.shape, node, leg):'
+OTHER_SIDE = "[d ^ (leg[1] == 'D' and d ^ 1 in plan.shape.useful(node, leg[0]) and %s) for d in allowed(stage, plan.shape, node, leg)]:"
+PLACE = 'plan.shape.coords(node)[d // 2]'
+STEPPED = 'allowed(stage, shape, packet.node, leg)'
 LENGTH = '    if length != len(sheet) - 3 or length != head + 3 * count:'
 FAULT = ('        if not fault_exists(shape, version, node, kind, rack):\n            return 7, None\n'
          '        if faults and not (node, kind) > faults[-1]:\n            return 8, None\n')
@@ -36,6 +44,13 @@ WEIGHED = 'self.weights[dim] * self.shape.hops_in'
 ORDER = "    return (length_of(plan, source, legs), modes.count('D'), len(vias), vias, modes)"
 LAST_LEG = "            if keep(here, (destination, mode)):\n                yield done + ((destination, mode),)"
 ENTRY = '    return two(destination) + bytes([kind])'
+WRITTEN = '2 if stage >= E2 else 1'
+WRITES = '    """The route sheet that planning from a source writes."""\n    version = written_version(stage)'
+REWRITES = '        return 13, 0\n    version = written_version(stage)'
+READ = '[2] if stage >= E2 else [1]'
+VERSION = '    if len(sheet) < 7 or sheet[0] not in versions:\n        return None\n    version = sheet[0]\n'
+LOOKS_UP = '    """(number, sheet read, entry or None): 1 to 8, 13, then 9."""\n'
+WRITES_BACK = '    """(number, bytes written): 1 to 8, 13, 12."""\n'
 LAYOUT = '    if length != len(sheet) - 3 or length != 4 + size * count:'
 ABSENT = '        if any(absent):\n'
 LISTED = '        if destination >= shape.nodes or any(v >= shape.nodes for v in vias):'
@@ -65,18 +80,52 @@ SLIPS = [
     ('packets: bytes past the arrival are judged', ARRIVED, ARRIVED.replace(' is None:', ' is None and hops == len(run):')),
     ('packets: used up before arrived', ARRIVED, "        if hops == len(run):\n            return Walked(0, packet, hops, 'used-up')\n" + ARRIVED),
     ('packets: a new packet has its drops stored', '        return Packet(source, legs)', '        return drop(Packet(source, legs))'),
-    ('legs: half a ring goes minus', '                return [2 * dim]\n', '                return [2 * dim + 1]\n'),
-    ('legs: half a ring goes minus in Y and Z', '                return [2 * dim]\n', '                return [2 * dim + (dim > 0)]\n'),
-    ('legs: half a ring is one direction', "    if mode == 'A':\n        return shape.useful(node, target)",
-     "    if mode == 'A':\n        ways = shape.useful(node, target)\n        return [d for d in ways if d % 2 == 0 or d - 1 not in ways]"),
     ('legs: Z before Y before X', '    for dim in range(3):\n        if here[dim] != there[dim]:', '    for dim in (2, 1, 0):\n        if here[dim] != there[dim]:'),
     ('legs: deterministic as adaptive', "    if mode == 'A':\n        return", '    if True:\n        return'),
     ('legs: adaptive as deterministic', "    if mode == 'A':\n        return", '    if False:\n        return'),
-    ('legs: adaptive ones judged by the deterministic walk', 'allowed(stage, plan.shape, node, leg):', "allowed(stage, plan.shape, node, (leg[0], 'D')):"),
+    ('legs: adaptive ones judged by the deterministic walk', PLANNED, PLANNED.replace('leg)', "(leg[0], 'D'))")),
     ('legs: 200 nodes alone are looked at', '    while todo:', '    while todo and len(seen) < 200:'),
     ('legs: wrapped 3 counted as open', '        if self.wrapped(dim):\n            return min', '        if self.wrapped(dim) and self.extents[dim] > 3:\n            return min'),
     ('legs: rings of 16 close one place early', '            at[dim] %= extent', '            at[dim] = (at[dim] - (extent == 16 and at[dim] < 0)) % extent'),
     ('legs: the wrap bits of Y and Z exchanged', 'self.wrap >> dim & 1 == 1', 'self.wrap >> (dim and 3 - dim) & 1 == 1'),
+    ('ties: minus from an even place, plus from an odd one', TIE, TIE.replace('== 1', '== 0')),
+    ('ties: always plus', TIE, '                if False:\n'),
+    ('ties: always minus', TIE, '                if True:\n'),
+    ('ties: by the target\'s coordinate', TIE, TIE.replace('here', 'there')),
+    ('ties: by the node number', TIE, TIE.replace('here[dim]', 'node')),
+    ('ties: by the target\'s number', TIE, TIE.replace('here[dim]', 'target')),
+    ('ties: by the coordinates\' sum', TIE, TIE.replace('here[dim]', 'sum(here)')),
+    ('ties: by X', TIE, TIE.replace('here[dim]', 'here[0]')),
+    ('ties: by Y', TIE, TIE.replace('here[dim]', 'here[1]')),
+    ('ties: by Z', TIE, TIE.replace('here[dim]', 'here[2]')),
+    ('ties: by the next dimension', TIE, TIE.replace('here[dim]', 'here[(dim + 1) % 3]')),
+    ('ties: by the second bit', TIE, TIE.replace('here[dim] %', 'here[dim] // 2 %')),
+    ('ties: by the half of the ring', TIE, TIE.replace('here[dim] % 2 == 1', 'here[dim] > there[dim]')),
+    ('ties: places from 8 on are even', TIE, TIE.replace('% 2 == 1', 'in (1, 3, 5, 7)')),
+    ('ties: the last place is even', TIE, TIE.replace('== 1', '== 1 and here[dim] < shape.extents[dim] - 1')),
+    ('ties: X alone', TIE, TIE.replace('== 1', '== 1 and dim == 0')),
+    ('ties: Z goes plus', TIE, TIE.replace('== 1', '== 1 and dim < 2')),
+    ('ties: Y goes plus', TIE, TIE.replace('== 1', '== 1 and dim != 1')),
+    ('ties: Y and Z go minus', TIE, TIE.replace('here[dim] % 2 == 1', '(dim or here[0] % 2 == 1)')),
+    ('ties: rings of 4 go plus', TIE, TIE.replace('== 1', '== 1 and shape.extents[dim] != 4')),
+    ('ties: rings of 6 go plus', TIE, TIE.replace('== 1', '== 1 and shape.extents[dim] != 6')),
+    ('ties: rings of 10 go plus', TIE, TIE.replace('== 1', '== 1 and shape.extents[dim] != 10')),
+    ('ties: rings of 16 go plus', TIE, TIE.replace('== 1', '== 1 and shape.extents[dim] < 16')),
+    ('ties: decided anew below half', HALF, HALF.replace('len(useful) == 2', NEARLY + '2')),
+    ('ties: odd rings have a half', HALF, HALF.replace('len(useful) == 2', NEARLY + '1')),
+    ('ties: adaptive legs go plus too', ADAPTIVE, ADAPTIVE.replace('return', 'ways =') + '\n        return [d for d in ways if d % 2 == 0 or d - 1 not in ways]'),
+    ('ties: adaptive legs go by the place too', ADAPTIVE, ADAPTIVE.replace('return', 'ways =') +
+     '\n        return [d for d in ways if d ^ 1 not in ways or (d + shape.coords(node)[d // 2]) % 2 == 0]'),
+    ('ties: planning has plus, packets the rule', PLANNED, PLANNED.replace('stage', 'E1')),
+    ('ties: planning goes by the node number', PLANNED, OTHER_SIDE % '(node + {0}) % 2 == 1'.format(PLACE)),
+    ('ties: planning goes by the target\'s coordinate', PLANNED, OTHER_SIDE % '({0} + {1}) % 2 == 1'.format(PLACE, PLACE.replace('node', 'leg[0]'))),
+    ('ties: planning has the rule along X alone', PLANNED, OTHER_SIDE % '{0} % 2 == 1 and d > 1'.format(PLACE)),
+    ('ties: planning has plus along Z', PLANNED, OTHER_SIDE % '{0} % 2 == 1 and d > 3'.format(PLACE)),
+    ('ties: planning has plus on rings of 10', PLANNED, OTHER_SIDE % '{0} % 2 == 1 and plan.shape.extents[d // 2] == 10'.format(PLACE)),
+    ('ties: planning has plus on rings of 16', PLANNED, OTHER_SIDE % '{0} % 2 == 1 and plan.shape.extents[d // 2] == 16'.format(PLACE)),
+    ('ties: packets have plus, planning the rule', STEPPED, STEPPED.replace('stage', 'E1')),
+    ('ties: a packet\'s last leg has plus', STEPPED, STEPPED.replace('stage', '(stage if len(drop(packet).legs) > 1 else E1)')),
+    ('ties: a packet\'s first leg of two has plus', STEPPED, STEPPED.replace('stage', '(stage if len(drop(packet).legs) < 2 else E1)')),
     ('plans: 8 bytes are enough', '    if len(sheet) < 9:', '    if len(sheet) < 8:'),
     ('plans: 2 before 1', '    if len(sheet) < 9:\n', '    if sheet and sheet[0] != 1:\n        return 2, None\n    if len(sheet) < 9:\n'),
     ('plans: version 0 is accepted', '    if version not in known:', '    if version and version not in known:'),
@@ -170,6 +219,20 @@ SLIPS = [
     ('listing: destinations of three digits', '[str(destination), str(kind)]', '[str(destination % 1000), str(kind)]'),
     ('listing: a source just outside is 10', '    if not number and source >= plan.nodes:\n        number = 9\n', '    if not number and source >= plan.nodes:\n        number = 9 + (source == plan.nodes)\n'),
     ('listing: fewer than two bytes are 9', "        return 'refused 1\\n'", "        return 'refused 9\\n'"),
+    ('versions: 1 is written', WRITTEN, '1'),
+    ('versions: 3 is written', WRITTEN, '3'),
+    ('versions: planning writes 1', WRITES, WRITES.replace('written_version(stage)', '1')),
+    ('versions: writing back writes 1', REWRITES, REWRITES.replace('written_version(stage)', '1')),
+    ('versions: 1 alone is read', READ, '[1]'),
+    ('versions: 1 is read too', READ, '[1, 2]'),
+    ('versions: 3 is read too', VERSION, VERSION.replace('versions', '(2, 3)').replace('version = sheet[0]', 'version = 2')),
+    ('versions: 3 with entries of seven bytes is read too', READ, '[2, 3]'),
+    ('versions: 0 is read too', READ, '[0, 2]'),
+    ('versions: 255 is read too', READ, '[2, 255]'),
+    ('versions: 1 is 13 before the plan is checked', LOOKS_UP, LOOKS_UP + "    if sheet[:1] == b'\\1':\n        return 13, None, None\n"),
+    ('versions: 1 is 13 before the plan, writing back', WRITES_BACK, WRITES_BACK + "    if sheet[:1] == b'\\1':\n        return 13, 0\n"),
+    ('versions: 9 before 13 for version 1', FOUND, FOUND.replace('return 13,', "return 9 if sheet[:1] == b'\\1' and destination >= plan.nodes else 13,")),
+    ('versions: 12 before 13 for version 1', REWRITES, REWRITES.replace('return 13,', "return 12 if sheet[:1] == b'\\1' and len(out) < len(sheet) else 13,")),
     ('lookups: 7 bytes are too few', '    if len(sheet) < 7 or', '    if len(sheet) < 8 or'),
     ('lookups: any version', ' or sheet[0] not in versions:', ':'),
     ('lookups: the length field is not checked', LAYOUT, '    if len(sheet) - 3 != 4 + size * count:'),

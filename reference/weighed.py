@@ -5,7 +5,7 @@ import random
 import reference as ref
 import vectors
 from answers import STAGE
-from lines import line, plan_of, plan_write
+from lines import first_way, line, plan_of, plan_write, runs_on, sheet_from
 
 SEED = '1'
 EDGES = 0, 1, 8, 9, 255        # of a weight
@@ -78,10 +78,6 @@ def declined_plans():
 
 # ---- Every call
 
-def sheet_from(plan, source):
-    return ref.planned_sheet(STAGE, ref.read_plan(STAGE, plan)[1], source)
-
-
 def every_call():
     """W and a torus under several weights, by each call that takes a plan."""
     for weights in [1, 1, 1], [3, 1, 1], [1, 2, 1], [1, 8, 5], [8, 8, 8]:
@@ -106,23 +102,6 @@ def calls_on(plan, source, destinations):
     for destination in destinations[1:4]:
         yield line('lookup', plan=plan, sheet=routes, destination=destination)
         yield from runs_on(plan, source, destination)
-
-
-def runs_on(plan, source, destination):
-    """The whole way and a step more, along the pair's route and along what the sheet says."""
-    number, route = ref.plan_pair(STAGE, plan, source, destination)
-    way = b'' if number else first_way(ref.read_plan(STAGE, plan)[1].shape, ref.new_packet(STAGE, source, route.legs))
-    for operation in 'run', 'sheetrun':
-        yield line(operation, plan=plan, source=source, destination=destination, calls='w%s,s00' % way.hex())
-
-
-def first_way(shape, packet):
-    """The lowest direction allowed at each place, until the packet has arrived."""
-    way = []
-    while ref.directions(STAGE, shape, packet):
-        way.append(ref.directions(STAGE, shape, packet)[0])
-        packet = ref.hop(shape, packet, way[-1])
-    return bytes(way)
 
 
 # ---- Routes that go by weight

@@ -297,6 +297,7 @@ static void try_write_sheet(uint16_t source, uint32_t destinations) {
     }
     lend(&sheet, written, size);
     HOLD(nafthurm_sheet_check(plan.bytes, plan.size, sheet.bytes, sheet.size) == 0);
+    HOLD(sheet_number(model.shape, sheet.bytes, sheet.size) == 0);
     HOLD(word(sheet.bytes + 3) == source);
     try_planned(source, destinations);
 }

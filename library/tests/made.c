@@ -104,7 +104,7 @@ void put_word(bytes *b, size_t at, size_t value) { b->at[at] = (uint8_t)(value >
 
 void random_bytes(bytes *b, size_t size) {
     for (size_t i = 0; i < size; i++) b->at[i] = chance(40) ? (uint8_t)below(6) : any_byte();
-    if (size > 0 && chance(70)) b->at[0] = (uint8_t)ONE_OF(1, 1, 2);
+    if (size > 0 && chance(70)) b->at[0] = (uint8_t)ONE_OF(1, 2);
     if (size > 2 && chance(70)) put_word(b, 1, size - 3);
     b->size = size;
 }
@@ -210,6 +210,17 @@ nafthurm_shape make_snake(int most) {
     begin_plan();
     int turn = (int)below(2);
     for (int row = 0; row + 1 < rows; row++) part_rows(s, along, across, row, (row + turn) % 2 ? 0 : extent(s, along) - 1);
+    sort_faults();
+    write_plan(s);
+    return s;
+}
+
+nafthurm_shape make_ring(int most) {
+    int along = (int)below(3), length = ONE_OF(4, 6, 6, 8, 10, 10, 12, 14, 16);
+    nafthurm_shape s = {1, 1, 1, (uint8_t)(1 << along)};
+    set_extent(&s, along, length > most ? 6 : length);
+    begin_plan();
+    for (uint32_t links = 1 + below(2); links > 0; links--) add_fault((int)below((uint32_t)nodes_of(s)), along);
     sort_faults();
     write_plan(s);
     return s;
@@ -366,6 +377,7 @@ static void hurt_or_damage(nafthurm_shape s) {
 nafthurm_shape any_plan(int most, uint32_t damaged) {
     nafthurm_shape s;
     if (most >= 24 && chance(8)) s = make_snake(most);
+    else if (chance(6)) s = make_ring(most);
     else s = made_shape(most), make_plan(s, some_faults(s));
     if (chance(damaged)) hurt_or_damage(s);
     return s;
@@ -423,7 +435,7 @@ void make_sheet(nafthurm_shape s, uint32_t listed) {
         put_word(&a_sheet, size + 3, kind >= 2 && kind <= 5 ? other_node(s, source, d) : 0);
         size += 5;
     }
-    a_sheet.at[0] = 1;
+    a_sheet.at[0] = SHEET_VERSION;
     put_word(&a_sheet, 1, size - 3);
     put_word(&a_sheet, 3, (size_t)source);
     put_word(&a_sheet, 5, (size - 7) / 5);
@@ -453,11 +465,11 @@ void damage_sheet(void) { damage(&a_sheet, 7, 5); }
 void any_sheet(nafthurm_shape s, uint32_t damaged) {
     make_sheet(s, nodes_of(s) > 64 ? (uint32_t)ONE_OF(0, 1, 5) : (uint32_t)ONE_OF(0, 10, 50, 100));
     if (!chance(damaged)) return;
-    if (chance(50)) {
-        hurt_entry(s);
-        return;
-    }
-    for (uint32_t n = 1 + below(3); n > 0; n--) damage_sheet();
+    uint32_t way = below(100);
+    if (way < 10) a_sheet.at[0] = (uint8_t)ONE_OF(0, 1, 1, 3, 3, 255); /* a good sheet but for its version */
+    else if (way < 55) hurt_entry(s);
+    else
+        for (uint32_t n = 1 + below(3); n > 0; n--) damage_sheet();
 }
 
 size_t some_room(size_t size) {

@@ -47,11 +47,13 @@ void put_word(bytes *b, size_t at, size_t value);
 void random_bytes(bytes *b, size_t size);
 
 /*
- * An accepted plan sheet in a_plan, of either version: of the shape, with about this many faults; a snake, two or three long rows joined at one end; on the edge
- * of a limit; a mesh of which the one route from node 0 to the next one in Y is by the last node, with both legs deterministic.
+ * An accepted plan sheet in a_plan, of either version: of the shape, with about this many faults; a snake, two or three long rows joined at one end; a ring of
+ * even length with one or two dead links, so that routes go the other way round by legs of half the ring; on the edge of a limit; a mesh of which the one route
+ * from node 0 to the next one in Y is by the last node, with both legs deterministic.
  */
 void make_plan(nafthurm_shape s, int faults);
 nafthurm_shape make_snake(int most);
+nafthurm_shape make_ring(int most);
 nafthurm_shape make_limit_plan(void);
 nafthurm_shape make_far_via(void);
 

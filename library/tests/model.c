@@ -39,10 +39,25 @@ static int useful(nafthurm_shape s, int node, int target, int direction) {
     return to >= 0 && hops(s, to, target) + 1 == hops(s, node, target);
 }
 
+/* By the place where the travel in the dimension begins: that is the node, since less than half a ring is left of a travel that has begun. */
+static int from_even(nafthurm_shape s, int node, int target, int dim) {
+    (void)target;
+    return place(s, node, dim) % 2 == 0;
+}
+
+half_rule *half_plus = from_even;
+
+/* The direction of a deterministic leg that travels in the dimension. */
+static int way(nafthurm_shape s, int node, int target, int dim) {
+    int plus = useful(s, node, target, 2 * dim), minus = useful(s, node, target, 2 * dim + 1);
+    if (plus && minus) plus = half_plus(s, node, target, dim);
+    return plus ? 2 * dim : 2 * dim + 1;
+}
+
 int leg_allows(nafthurm_shape s, int node, int target, int mode, int direction) {
     if (mode == 0) return useful(s, node, target, direction);
     for (int dim = 0; dim < 3; dim++)
-        if (place(s, node, dim) != place(s, target, dim)) return direction == (useful(s, node, target, 2 * dim) ? 2 * dim : 2 * dim + 1);
+        if (place(s, node, dim) != place(s, target, dim)) return direction == way(s, node, target, dim);
     return 0;
 }
 
@@ -110,7 +125,7 @@ static int entry_good(nafthurm_shape s, size_t source, const uint8_t *entry) {
 }
 
 uint8_t sheet_number(nafthurm_shape s, const uint8_t *sheet, size_t size) {
-    if (size < 7 || sheet[0] != 1) return 13;
+    if (size < 7 || sheet[0] != SHEET_VERSION) return 13;
     if (word(sheet + 1) != size - 3 || word(sheet + 1) != 4 + 5 * word(sheet + 5)) return 13;
     if (word(sheet + 3) >= (size_t)nodes_of(s)) return 13;
     for (const uint8_t *entry = sheet + 7; entry < sheet + size; entry += 5) {

@@ -1,4 +1,4 @@
-/* What document 01 says, with weights, told plainly and from the bytes alone: the tests hold the library to it. Slow, and meant to be read. */
+/* What document 01 with E1 and E2 says, told plainly and from the bytes alone: the tests hold the library to it. Slow, and meant to be read. */
 #ifndef MODEL_H
 #define MODEL_H
 
@@ -21,6 +21,10 @@ int over(nafthurm_shape s, int node, int direction);
 int hops(nafthurm_shape s, int from, int to);
 int distance(nafthurm_shape s, nafthurm_weights w, int from, int to);
 
+/* Whether a deterministic leg goes plus where the target is half a ring away in the dimension. wrong.c sets other rules, call by call. */
+typedef int half_rule(nafthurm_shape s, int node, int target, int dim);
+extern half_rule *half_plus;
+
 /* Whether a leg to the target, deterministic if `mode` is not 0, may take the direction. */
 int leg_allows(nafthurm_shape s, int node, int target, int mode, int direction);
 
@@ -34,6 +38,9 @@ size_t head_size(int version);
 
 int fault_exists(nafthurm_shape s, size_t node, int kind);
 uint8_t plan_number(const uint8_t *plan, size_t size);
+
+/* The version of route sheets. */
+enum { SHEET_VERSION = 2 };
 
 /* 13 or 0, under a plan of this shape. */
 uint8_t sheet_number(nafthurm_shape s, const uint8_t *sheet, size_t size);

@@ -1,4 +1,4 @@
-/* Document 01's worked machine W and its edges, and a machine with weights, through the C interface; sizes of the forms, and the stack that each call uses. */
+/* Document 01's worked machine W and its edges, a machine with weights, and half rings, through the C interface; sizes of the forms, and the stack that each call uses. */
 #include "lent.h"
 #include "nafthurm.h"
 
@@ -8,8 +8,8 @@
 
 static const uint8_t W[] = {0x01, 0x00, 0x09, 0x04, 0x04, 0x01, 0x03, 0x00, 0x01, 0x00, 0x00, 0x00};
 static const uint8_t W_SHEET[] = {
-    0x01, 0x00, 0x2C, 0x00, 0x00, 0x00, 0x08,
-    0x00, 0x01, 0x03, 0x00, 0x04, 0x00, 0x02, 0x02, 0x00, 0x03, 0x00, 0x05, 0x02, 0x00, 0x04, 0x00, 0x06, 0x02, 0x00, 0x03,
+    0x02, 0x00, 0x2C, 0x00, 0x00, 0x00, 0x08,
+    0x00, 0x01, 0x03, 0x00, 0x03, 0x00, 0x02, 0x02, 0x00, 0x03, 0x00, 0x05, 0x02, 0x00, 0x04, 0x00, 0x06, 0x02, 0x00, 0x03,
     0x00, 0x09, 0x02, 0x00, 0x04, 0x00, 0x0A, 0x02, 0x00, 0x03, 0x00, 0x0D, 0x02, 0x00, 0x0C, 0x00, 0x0E, 0x02, 0x00, 0x03};
 
 /* W with another dead link, 3 X+, and of version 2: X weighs 3. */
@@ -57,7 +57,7 @@ static void forms(void) {
 }
 
 static void worked_pairs(void) {
-    is_route(pair(W, sizeof W, 0, 1), 3, 4, 3);
+    is_route(pair(W, sizeof W, 0, 1), 3, 3, 3);
     is_route(pair(W, sizeof W, 0, 2), 2, 3, 2);
     is_route(pair(W, sizeof W, 0, 7), 0, 0, 2);
     is_route(pair(W, sizeof W, 0, 0), 0, 0, 0);
@@ -67,7 +67,7 @@ static void worked_pairs(void) {
     is_refused(pair(W, 8, 0, 1), 1);
 
     uint8_t ring[] = {1, 0, 9, 4, 1, 1, 1, 0, 1, 0, 0, 0};
-    is_refused(pair(ring, sizeof ring, 0, 1), 11);
+    is_route(pair(ring, sizeof ring, 0, 1), 3, 3, 3);
     ring[3] = 5;
     is_route(pair(ring, sizeof ring, 0, 1), 2, 3, 4);
     const uint8_t open[] = {1, 0, 9, 2, 1, 1, 0, 0, 1, 0, 0, 0};
@@ -76,10 +76,10 @@ static void worked_pairs(void) {
     is_refused(pair(one, sizeof one, 0, 0), 10);
 }
 
-/* By hops the route from 0 to 3 is by 1; with weights it is by 4. */
+/* By hops the route from 0 to 3 is by 2; with weights it is by 4. */
 static void weighed_pairs(void) {
     const uint8_t by_hops[] = {1, 0, 9, 4, 4, 1, 3, 0, 1, 0, 3, 0};
-    is_route(pair(by_hops, sizeof by_hops, 0, 3), 3, 1, 3);
+    is_route(pair(by_hops, sizeof by_hops, 0, 3), 4, 2, 3);
     is_route(pair(WEIGHED, sizeof WEIGHED, 0, 3), 3, 4, 5);
     is_route(pair(WEIGHED, sizeof WEIGHED, 0, 1), 0, 0, 3);
     is_route(pair(WEIGHED, sizeof WEIGHED, 0, 0), 0, 0, 0);
@@ -339,7 +339,7 @@ static void worked_listing(void) {
     uint8_t input[2 + sizeof W] = {0, 0};
     memcpy(input + 2, W, sizeof W);
     is_listing(input, sizeof input,
-               "0 16 1\n0 0 - 0\n1 3 4 3\n2 2 3 2\n3 0 - 1\n4 0 - 1\n5 2 4 2\n6 2 3 3\n7 0 - 2\n8 0 - 2\n9 2 4 3\n10 2 3 4\n11 0 - 3\n12 0 - 1\n13 2 12 2\n14 2 3 3\n15 0 - 2\n");
+               "0 16 1\n0 0 - 0\n1 3 3 3\n2 2 3 2\n3 0 - 1\n4 0 - 1\n5 2 4 2\n6 2 3 3\n7 0 - 2\n8 0 - 2\n9 2 4 3\n10 2 3 4\n11 0 - 3\n12 0 - 1\n13 2 12 2\n14 2 3 3\n15 0 - 2\n");
     uint8_t weighed[2 + sizeof WEIGHED] = {0, 0};
     memcpy(weighed + 2, WEIGHED, sizeof WEIGHED);
     is_listing(weighed, sizeof weighed,
@@ -389,7 +389,7 @@ static void worked_lookups(void) {
     check_kept(&sheet);
 
     /* Entries of kinds 10 and 11 give their number; a via equal to an end is 13. */
-    uint8_t made[] = {1, 0, 14, 0, 0, 0, 2, 0, 1, 10, 0, 0, 0, 2, 11, 0, 0};
+    uint8_t made[] = {2, 0, 14, 0, 0, 0, 2, 0, 1, 10, 0, 0, 0, 2, 11, 0, 0};
     lend(&sheet, made, sizeof made);
     HOLD(nafthurm_lookup_route(plan.bytes, plan.size, sheet.bytes, sheet.size, 1).number == 10);
     HOLD(nafthurm_lookup_route(plan.bytes, plan.size, sheet.bytes, sheet.size, 2).number == 11);
@@ -397,6 +397,27 @@ static void worked_lookups(void) {
     made[14] = 2, made[16] = 2;
     lend(&sheet, made, sizeof made);
     HOLD(nafthurm_sheet_check(plan.bytes, plan.size, sheet.bytes, sheet.size) == 13);
+}
+
+/* W's sheet with each other version byte, 1 among them, is 13 by every call that reads it. */
+static void sheet_versions(void) {
+    uint8_t bytes[sizeof W_SHEET];
+    memcpy(bytes, W_SHEET, sizeof bytes);
+    lend(&plan, W, sizeof W);
+    for (int version = 0; version < 256; version++) {
+        uint8_t number = version == 2 ? 0 : 13;
+        bytes[0] = (uint8_t)version;
+        lend(&sheet, bytes, sizeof bytes);
+        lend_filled(&out, 0xEE, sizeof bytes);
+        HOLD(nafthurm_sheet_check(plan.bytes, plan.size, sheet.bytes, sheet.size) == number);
+        HOLD(nafthurm_lookup(plan.bytes, plan.size, sheet.bytes, sheet.size, 1).size == (number ? 0 : 5));
+        HOLD(nafthurm_lookup_route(plan.bytes, plan.size, sheet.bytes, sheet.size, 1).number == number);
+        HOLD(nafthurm_lookup_route(plan.bytes, plan.size, sheet.bytes, sheet.size, 7).number == number);
+        HOLD(nafthurm_sheet_write_back(plan.bytes, plan.size, sheet.bytes, sheet.size, out.bytes, out.size).number == number);
+        if (number != 0) check_kept(&out);
+        check_kept(&sheet);
+    }
+    check_kept(&plan);
 }
 
 static int same_packet(nafthurm_packet a, nafthurm_packet b) {
@@ -477,6 +498,40 @@ static void worked_packets(void) {
     HOLD(nafthurm_new_packet(0, 1, refused).left == 255);
     nafthurm_route no_kind = {0, 6, 0};
     HOLD(nafthurm_new_packet(0, 1, no_kind).left == 255);
+}
+
+/* Whether a packet of one leg, at a place of a ring and bound for another, both in that dimension, may go plus, and whether minus. */
+static void may_go(nafthurm_shape shape, int stride, int dim, int from, int to, uint8_t mode, int plus, int minus) {
+    nafthurm_packet packet = {(uint16_t)(from * stride), {{0, 0}, {(uint16_t)(to * stride), mode}}, 1};
+    HOLD(nafthurm_step(shape, packet, (uint8_t)(2 * dim)).number == (plus ? 0 : 15));
+    HOLD(nafthurm_step(shape, packet, (uint8_t)(2 * dim + 1)).number == (minus ? 0 : 15));
+}
+
+/* In each dimension and of every even length, from every place: a deterministic leg of half the ring goes plus from an even place and minus from an odd one. */
+static void half_rings(void) {
+    for (int dim = 0; dim < 3; dim++)
+        for (int length = 4; length <= 16; length += 2) {
+            nafthurm_shape shape = {(uint8_t)(dim == 0 ? length : 3), (uint8_t)(dim == 1 ? length : 5), (uint8_t)(dim == 2 ? length : 7), 7};
+            int stride = dim == 0 ? 1 : dim == 1 ? 3 : 15;
+            for (int from = 0; from < length; from++) {
+                int half = (from + length / 2) % length;
+                may_go(shape, stride, dim, from, half, 1, from % 2 == 0, from % 2 == 1);
+                may_go(shape, stride, dim, from, half, 0, 1, 1);
+                may_go(shape, stride, dim, from, (half + length - 1) % length, 1, 1, 0);
+                may_go(shape, stride, dim, from, (half + 1) % length, 1, 0, 1);
+            }
+        }
+}
+
+/* The ring of 4 with 0 X+ dead, from 0 by 3 to 1: the second leg begins anew, at an odd place. */
+static void half_ring_route(void) {
+    const uint8_t ring[] = {1, 0, 9, 4, 1, 1, 1, 0, 1, 0, 0, 0}, minus[] = {1, 1, 1}, plus[] = {1, 0};
+    nafthurm_packet packet = nafthurm_new_packet(0, 1, pair(ring, sizeof ring, 0, 1).route);
+    nafthurm_shape shape = {4, 1, 1, 1};
+    nafthurm_walked w = nafthurm_walk(shape, packet, minus, sizeof minus);
+    HOLD(w.ending == NAFTHURM_ARRIVED && w.hops == 3 && w.packet.node == 1);
+    w = nafthurm_walk(shape, packet, plus, sizeof plus);
+    HOLD(w.ending == NAFTHURM_NOT_ALLOWED && w.hops == 1 && w.packet.node == 3);
 }
 
 /* ---- The stack ---- */
@@ -574,7 +629,10 @@ int main(int count, char **words) {
     worked_all_sheets();
     worked_listing();
     worked_lookups();
+    sheet_versions();
     worked_packets();
-    puts("W and its edges are as document 01 has them, and a machine with weights goes by weight");
+    half_rings();
+    half_ring_route();
+    puts("W and its edges are as documents 01 and 02 have them, a machine with weights goes by weight, and half a ring by where it begins");
     return 0;
 }

@@ -1,4 +1,4 @@
-//! Document 01's worked machine W and its edges, and a machine with weights.
+//! Document 01's worked machine W and its edges, a machine with weights, and half rings.
 use nafthurm::Mode::{Adaptive, Deterministic};
 use nafthurm::*;
 
@@ -20,12 +20,12 @@ fn route(plan: &[u8], source: u16, destination: u16) -> Result<(Route, u16), Ref
 
 #[test]
 fn pairs() {
-    assert_eq!(route(&W, 0, 1), Ok((Route::Via(4, Adaptive, Deterministic), 3)));
+    assert_eq!(route(&W, 0, 1), Ok((Route::Via(3, Adaptive, Deterministic), 3)));
     assert_eq!(route(&W, 0, 2), Ok((Route::Via(3, Adaptive, Adaptive), 2)));
     assert_eq!(route(&W, 0, 7), Ok((Route::Direct(Adaptive), 2)));
     assert_eq!(route(&W, 0, 0), Ok((Route::Direct(Adaptive), 0)));
     assert_eq!(route(&W, 0, 16), Err(Refused(9)));
-    assert_eq!(route(&[1, 0, 9, 4, 1, 1, 1, 0, 1, 0, 0, 0], 0, 1), Err(Refused(11)));
+    assert_eq!(route(&[1, 0, 9, 4, 1, 1, 1, 0, 1, 0, 0, 0], 0, 1), Ok((Route::Via(3, Adaptive, Deterministic), 3)));
     assert_eq!(route(&[1, 0, 9, 5, 1, 1, 1, 0, 1, 0, 0, 0], 0, 1), Ok((Route::Via(3, Adaptive, Adaptive), 4)));
     assert_eq!(route(&[1, 0, 9, 2, 1, 1, 0, 0, 1, 0, 0, 0], 0, 1), Err(Refused(11)));
     assert_eq!(route(&[1, 0, 9, 1, 1, 1, 0, 0, 1, 0, 0, 3], 0, 0), Err(Refused(10)));
@@ -33,7 +33,7 @@ fn pairs() {
 
 #[test]
 fn weights() {
-    assert_eq!(route(&[1, 0, 9, 4, 4, 1, 3, 0, 1, 0, 3, 0], 0, 3), Ok((Route::Via(1, Adaptive, Deterministic), 3)));
+    assert_eq!(route(&[1, 0, 9, 4, 4, 1, 3, 0, 1, 0, 3, 0], 0, 3), Ok((Route::Via(2, Deterministic, Adaptive), 3)));
     assert_eq!(route(&WEIGHED, 0, 3), Ok((Route::Via(4, Adaptive, Deterministic), 5)));
     assert_eq!(route(&[2, 0, 9, 16, 16, 16, 0, 8, 8, 8, 0, 0], 0, 4095), Ok((Route::Direct(Adaptive), 360)));
     assert_eq!(route(&[2, 0, 9, 16, 16, 16, 0, 8, 8, 9, 0, 0], 0, 4095), Err(Refused(16)));
@@ -67,12 +67,17 @@ fn sheets() {
     assert_eq!(write_sheet(&W, 0, &mut out), Err(Refused(12)));
     assert_eq!(out, [0xEE; 46]);
     let sheet = sheet_of_w();
-    assert_eq!(sheet[..12], [1, 0, 0x2C, 0, 0, 0, 8, 0, 1, 3, 0, 4]);
+    assert_eq!(sheet[..12], [2, 0, 0x2C, 0, 0, 0, 8, 0, 1, 3, 0, 3]);
     assert_eq!(sheet_check(&W, &sheet), Ok(()));
     assert_eq!(sheet_check(&W, &sheet[1..]), Err(Refused(13)));
     let mut back = [0; 47];
     assert_eq!(sheet_write_back(&W, &sheet, &mut back), Ok(47));
     assert_eq!(back[..], sheet[..]);
+    let old = [&[1], &sheet[1..]].concat();
+    assert_eq!(sheet_check(&W, &old), Err(Refused(13)));
+    assert_eq!(sheet_write_back(&W, &old, &mut back), Err(Refused(13)));
+    assert_eq!(lookup_route(&W, &old, 1), Err(Refused(13)));
+    assert!(lookup(&W, &old, 1).is_empty());
 }
 
 #[test]
@@ -107,7 +112,7 @@ fn listings() {
     let mut out = [0; LISTING_BYTES];
     let input = [&[0, 0], &W[..]].concat();
     let size = listing(&input, &mut out).unwrap();
-    assert!(out[..size].starts_with(b"0 16 1\n0 0 - 0\n1 3 4 3\n2 2 3 2\n3 0 - 1\n") && out[..size].ends_with(b"14 2 3 3\n15 0 - 2\n"));
+    assert!(out[..size].starts_with(b"0 16 1\n0 0 - 0\n1 3 3 3\n2 2 3 2\n3 0 - 1\n") && out[..size].ends_with(b"14 2 3 3\n15 0 - 2\n"));
     assert_eq!(listing(&input, &mut out[..size - 1]), Err(Refused(12)));
     assert_eq!(listing(&input[..1], &mut out), Ok(10));
     assert_eq!(&out[..10], b"refused 1\n");
@@ -152,9 +157,18 @@ fn packets() {
 }
 
 #[test]
+fn half_rings() {
+    let shape = Shape { x: 6, y: 4, z: 1, wrap: 3 };
+    let ways = |node, target, mode| (0..4).filter(|&d| Packet::new(node, target, Route::Direct(mode)).step(shape, d).is_ok()).collect::<Vec<u8>>();
+    assert_eq!((ways(0, 3, Deterministic), ways(1, 4, Deterministic)), (vec![0], vec![1]));
+    assert_eq!((ways(7, 19, Deterministic), ways(1, 13, Deterministic)), (vec![3], vec![2]));
+    assert_eq!((ways(1, 4, Adaptive), ways(7, 19, Adaptive)), (vec![0, 1], vec![2, 3]));
+}
+
+#[test]
 fn largest_sheet() {
     let plan = [1, 0, 6, 16, 16, 16, 7, 0, 0];
-    let mut sheet = vec![1, 0, 0, 0, 0, 0x0F, 0xFF];
+    let mut sheet = vec![2, 0, 0, 0, 0, 0x0F, 0xFF];
     for destination in 1..4096u16 {
         sheet.extend([(destination >> 8) as u8, destination as u8, 1, 0, 0]);
     }

@@ -21,6 +21,22 @@ static int wrong(int number) {
 
 static int count_of(const uint8_t *plan, size_t plan_size) { return nodes_of(nafthurm_plan_shape(plan, plan_size)); }
 
+/* ---- Other rules at half a ring: what the model says by them ---- */
+
+/* Where the walk or the pair's route begins. */
+static int first_node;
+
+static int always_plus(nafthurm_shape s, int node, int target, int dim) { return (void)s, (void)node, (void)target, (void)dim, 1; }
+static int from_odd(nafthurm_shape s, int node, int target, int dim) { return (void)target, place(s, node, dim) % 2; }
+static int by_target(nafthurm_shape s, int node, int target, int dim) { return (void)node, place(s, target, dim) % 2 == 0; }
+static int by_number(nafthurm_shape s, int node, int target, int dim) { return (void)s, (void)target, (void)dim, node % 2 == 0; }
+static int by_first(nafthurm_shape s, int node, int target, int dim) { return (void)node, (void)target, place(s, first_node, dim) % 2 == 0; }
+
+static half_rule *right_rule;
+
+static void begin_rule(half_rule *rule, int node) { right_rule = half_plus, half_plus = rule, first_node = node; }
+static void end_rule(void) { half_plus = right_rule; }
+
 /* ---- Plan sheets ---- */
 
 static int rises(const uint8_t *plan, size_t at) { return at == head_size(plan[0]) || memcmp(plan + at - 3, plan + at, 3) < 0; }
@@ -97,9 +113,21 @@ static int route_hops(nafthurm_shape s, nafthurm_route route, uint16_t source, u
     return route.kind < 2 ? hops(s, source, destination) : hops(s, source, route.via) + hops(s, route.via, destination);
 }
 
+/* On plans that are small for the model. */
+static nafthurm_planned pair_by(half_rule *rule, const uint8_t *plan, uint16_t source, uint16_t destination) {
+    static model_plan model;
+    read_plan(&model, plan);
+    begin_rule(rule, source);
+    nafthurm_planned p = model_pair(&model, source, destination);
+    end_rule();
+    return p;
+}
+
 AROUND(nafthurm_planned, nafthurm_pair, const uint8_t *plan, size_t plan_size, uint16_t source, uint16_t destination) {
     nafthurm_planned p = __real_nafthurm_pair(plan, plan_size, source, destination);
     int count = count_of(plan, plan_size);
+    half_rule *rule = wrong(86) ? always_plus : wrong(87) ? from_odd : wrong(88) ? by_target : wrong(89) ? by_number : wrong(90) ? by_first : NULL;
+    if (rule != NULL && count > 0 && count <= 64) return pair_by(rule, plan, source, destination);
     if (wrong(14) && p.route.number == 9 && source == count) return __real_nafthurm_pair(plan, plan_size, (uint16_t)(source - 1), destination);
     if (wrong(15) && p.route.number == 9 && destination == count) return (nafthurm_planned){{11, 11, 0}, 0};
     int dead = nafthurm_dead_node(plan, plan_size, source) || nafthurm_dead_node(plan, plan_size, destination);
@@ -130,6 +158,7 @@ AROUND(nafthurm_written, nafthurm_write_sheet, const uint8_t *plan, size_t plan_
     if (wrong(23) && w.number == 12 && out_size > 0) out[0] ^= 1;
     size_t at = w.number == 0 ? kind_at(out, w.size, 11) : 0;
     if (wrong(24) && w.number == 0 && at < w.size) out[at + 2] = 10;
+    if (wrong(91) && w.number == 0) out[0] = 1; /* version 1 is written */
     return w;
 }
 
@@ -154,6 +183,7 @@ AROUND(nafthurm_run, nafthurm_all_sheets, const uint8_t *plan, size_t plan_size,
     if (wrong(60) && r.size < out_size) out[r.size] ^= 1;
     if (wrong(61) && r.size > 0 && r.size == out_size) return __real_nafthurm_all_sheets(plan, plan_size, from, work, work_words, out, out_size - 1);
     if (wrong(62) && last > 0) out[last + 4] = out[4];                                /* the last sheet with the first one's source */
+    if (wrong(92) && r.size > 0) out[last] = 1;                                       /* the last sheet of version 1 */
     if (wrong(63) && r.next < count && nafthurm_dead_node(plan, plan_size, (uint16_t)(r.next - 1))) r.next--; /* it stops before a dead board */
     if (wrong(64) && r.next == count) r.next--;
     if (wrong(65) && last > 0 && kind_at(out, last, 2) < last) r.size = last; /* a sheet less is told */
@@ -183,9 +213,17 @@ static int forgiven(const uint8_t *entry, size_t count) {
     return wrong(29) && by_via && word(entry + 3) == count;
 }
 
+static uint8_t copy[30000];
+
+/* The sheet, one of another version that is read as well made version 2. */
+static const uint8_t *read_too(int version, const uint8_t *sheet, size_t sheet_size) {
+    memcpy(copy, sheet, sheet_size);
+    if (sheet_size > 0 && sheet[0] == version) copy[0] = SHEET_VERSION;
+    return copy;
+}
+
 /* The sheet with a good via in each entry whose via is forgiven. */
 static const uint8_t *mended(const uint8_t *sheet, size_t sheet_size, size_t count) {
-    static uint8_t copy[30000];
     memcpy(copy, sheet, sheet_size);
     for (size_t at = 7; at + 5 <= sheet_size; at += 5) {
         if (!forgiven(copy + at, count)) continue;
@@ -198,10 +236,19 @@ static const uint8_t *mended(const uint8_t *sheet, size_t sheet_size, size_t cou
 AROUND(uint8_t, nafthurm_sheet_check, const uint8_t *plan, size_t plan_size, const uint8_t *sheet, size_t sheet_size) {
     const volatile uint8_t *end = sheet + sheet_size;
     if (wrong(26)) (void)*end;
+    if (wrong(93)) return __real_nafthurm_sheet_check(plan, plan_size, read_too(1, sheet, sheet_size), sheet_size);
+    if (wrong(94)) return __real_nafthurm_sheet_check(plan, plan_size, read_too(3, sheet, sheet_size), sheet_size);
     return __real_nafthurm_sheet_check(plan, plan_size, mended(sheet, sheet_size, (size_t)count_of(plan, plan_size)), sheet_size);
 }
 
+AROUND(nafthurm_written, nafthurm_sheet_write_back, const uint8_t *plan, size_t plan_size, const uint8_t *sheet, size_t sheet_size, uint8_t *out, size_t out_size) {
+    nafthurm_written w = __real_nafthurm_sheet_write_back(plan, plan_size, wrong(95) ? read_too(1, sheet, sheet_size) : sheet, sheet_size, out, out_size);
+    if (wrong(96) && w.number == 0) out[0] = 1; /* version 1 is written back */
+    return w;
+}
+
 AROUND(nafthurm_part, nafthurm_lookup, const uint8_t *plan, size_t plan_size, const uint8_t *sheet, size_t sheet_size, uint16_t destination) {
+    if (wrong(97)) sheet = read_too(1, sheet, sheet_size);
     nafthurm_part part = __real_nafthurm_lookup(plan, plan_size, sheet, sheet_size, destination);
     if (wrong(30) && part.size != 0 && destination == 0) part.start += 5;
     if (wrong(31) && part.size == 0) part.start = sheet_size;
@@ -209,6 +256,7 @@ AROUND(nafthurm_part, nafthurm_lookup, const uint8_t *plan, size_t plan_size, co
 }
 
 AROUND(nafthurm_route, nafthurm_lookup_route, const uint8_t *plan, size_t plan_size, const uint8_t *sheet, size_t sheet_size, uint16_t destination) {
+    if (wrong(98)) sheet = read_too(1, sheet, sheet_size);
     nafthurm_route r = __real_nafthurm_lookup_route(plan, plan_size, sheet, sheet_size, destination);
     int count = count_of(plan, plan_size);
     if (wrong(32) && r.number == 9 && destination == count) return (nafthurm_route){0, 0, 0};
@@ -243,22 +291,40 @@ static int at_half(nafthurm_shape s, nafthurm_packet packet, int direction) {
     return 2 * abs(place(s, packet.node, dim) - place(s, packet.legs[2 - left].target, dim)) == extent(s, dim);
 }
 
+static nafthurm_stepped step_by(half_rule *rule, nafthurm_shape shape, nafthurm_packet packet, uint8_t direction) {
+    begin_rule(rule, packet.node);
+    nafthurm_stepped s = model_step(shape, packet, direction);
+    end_rule();
+    return s;
+}
+
 AROUND(nafthurm_stepped, nafthurm_step, nafthurm_shape shape, nafthurm_packet packet, uint8_t direction) {
     if (wrong(40) && most_extent(shape) > 6) return (nafthurm_stepped){packet, 5};
     if (wrong(41) && most_extent(shape) > 6) shape.wrap &= 0xF8; /* long rings as if they were open */
     if (wrong(42) && packet.left == 3) packet.left = 2;       /* a third leg is not counted */
+    half_rule *rule = wrong(46) ? always_plus : wrong(77) ? from_odd : wrong(78) ? by_target : wrong(79) ? by_number : NULL;
+    if (rule != NULL) return step_by(rule, shape, packet, direction);
     nafthurm_stepped s = __real_nafthurm_step(shape, packet, direction);
     nafthurm_packet ready = dropped(packet);
     if (wrong(43) && s.number == 15 && packet.left == 2 && ready.left == 1) s.packet = ready;                                   /* a refusal stores drops */
     if (wrong(44) && s.number == 0 && packet.left == 2 && ready.left == 2 && s.packet.left == 1) s.packet.left = 2;             /* a via dropped late */
     if (wrong(45) && s.number == 0 && ready.left < packet.left) return (nafthurm_stepped){packet, 15};                          /* not judged after drops */
-    if (wrong(46) && (s.number == 0 || s.number == 15) && at_half(shape, packet, direction) && packet.legs[2 - ready.left].mode != 0)
-        return __real_nafthurm_step(shape, packet, direction ^ 1); /* at half a ring deterministic legs go minus */
     if (wrong(47) && s.number == 0 && at_half(shape, packet, direction) && direction % 2) return (nafthurm_stepped){packet, 15}; /* half a ring as one direction */
+    if (wrong(80) && s.number == 0 && at_half(shape, packet, direction) && direction % 2 != place(shape, packet.node, direction / 2) % 2)
+        return (nafthurm_stepped){packet, 15}; /* adaptive legs by the coordinate too */
     return s;
 }
 
+static nafthurm_walked walk_by(half_rule *rule, nafthurm_shape shape, nafthurm_packet packet, const uint8_t *directions, size_t size) {
+    begin_rule(rule, packet.node);
+    nafthurm_walked w = model_walk(shape, packet, directions, size);
+    end_rule();
+    return w;
+}
+
 AROUND(nafthurm_walked, nafthurm_walk, nafthurm_shape shape, nafthurm_packet packet, const uint8_t *directions, size_t directions_size) {
+    half_rule *rule = wrong(81) ? always_plus : wrong(82) ? from_odd : wrong(83) ? by_target : wrong(84) ? by_number : wrong(85) ? by_first : NULL;
+    if (rule != NULL) return walk_by(rule, shape, packet, directions, directions_size);
     if (wrong(48) && directions_size > 12) directions_size = 12;
     if (wrong(49) && directions_size > 45) directions_size = 45;
     nafthurm_walked w = __real_nafthurm_walk(shape, packet, directions, directions_size);

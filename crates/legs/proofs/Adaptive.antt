@@ -13,7 +13,7 @@ use Rattle.shape.specs.declared.shape.Shape.{Shape}
 use Rattle.shape.specs.declared.shape.Coords.{Coords}
 use Rattle.shape.specs.declared.shape.Dim.{Dim}
 use Rattle.shape.specs.declared.shape.Dim.the-variants.{X, Y, Z}
-use Rattle.shape.specs.Shape.{shapeError, extentOf, coordOf, wrappedIn}
+use Rattle.shape.specs.Shape.{shapeError, extentOf, coordOf, wrappedIn, sameDim}
 use Rattle.machine.specs.declared.leg.Mode.the-variants.{Adaptive}
 use Rattle.machine.specs.Number.{nodeCount, coordsOf, Inside}
 use Rattle.machine.specs.Hop.{dirDim, dirPlus, hops, useful, neighbour, rule, firstDirection}
@@ -23,7 +23,7 @@ use Rattle.machine.proofs.ByCoords.{useful-at, neighbour-below}
 use Rattle.machine.proofs.Laws.{useful-link, useful-lowers, useful-of, hops-self, hops-step, first-useful, triangle}
 use Rattle.machine.proofs.Torus.{torus-by-laws}
 use Rattle.legs.specs.Between.{between, crosses}
-use Rattle.legs.specs.Crossing.{sameDim, adaptiveAlong, adaptiveCrosses}
+use Rattle.legs.specs.Crossing.{adaptiveAlong, adaptiveCrosses}
 use Rattle.legs.proofs.Walks.{Crossings, clear-crossings}
 use Rattle.legs.proofs.Axis.{between-below}
 use Rattle.legs.proofs.Dims.{all-of, of-all}

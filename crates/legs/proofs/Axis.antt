@@ -1,5 +1,5 @@
 -- One dimension: places between two others, and the links that the one way of a deterministic leg takes.
-use Prim.Native.Nat.{ℕ, _+_, _-_, _*_, _≤_, _<_, min}
+use Prim.Native.Nat.{ℕ, _+_, _-_, _*_, _≤_, _<_}
 use mathlib.Core.Bool.{Bool, true, false, cond, not, _&&_, false≢true}
 use mathlib.Core.Path.{_≡_, refl, sym, ap, _∙_}
 use native.Mathlib.Omega.{arith}
@@ -9,8 +9,8 @@ use Rattle.theory.proofs.Bools.{and-true}
 use Rattle.theory.proofs.Cases.{by-le}
 use Rattle.shape.specs.Axis.{axisHops, place, axisUseful}
 use Rattle.shape.specs.Steps.{ahead, ringUseful, goes}
-use Rattle.shape.proofs.AxisLaws.{axis-zero, axis-self, axis-step, axis-triangle, useful-has, useful-less, back-place, Ahead, ahead-is, ring-useful, open-useful}
-use Rattle.shape.proofs.Runs.{ahead-of, goes-useful, onward}
+use Rattle.shape.proofs.AxisLaws.{axis-zero, axis-self, axis-step, axis-triangle, useful-has, useful-less, Ahead, ahead-is, ring-hops, ring-useful, open-useful}
+use Rattle.shape.proofs.Runs.{ahead-of, goes-useful, kept}
 use Rattle.legs.specs.Between.{between, crosses, agree, runs}
 
 -- ---- between
@@ -59,10 +59,6 @@ ring-side len p q u plus hp hq w h = go plus (rw (ring-useful len p q plus hp hq
     go : (plus : Bool) → ringUseful len u plus ≡ true → cond plus (2 * u ≤ len) (len ≤ 2 * u)
     go true k = leb-true (2 * u) len (and-true (not (eqb u 0)) _ k .1)
     go false k = leb-true len (2 * u) (and-true (not (eqb u 0)) _ k .1)
-
-ring-hops : (len p q u : ℕ) → p < len → q < len → Ahead len p q u → axisHops len true p q ≡ min u (len - u)
-unfolding axisHops
-ring-hops len p q u hp hq w = by-le p q (λ a. let e = w .up a in omega arith) (λ a. let e = w .round a in omega arith)
 
 -- The hops going plus from p to c, from those of both to q.
 ahead-less : (len p c q u v : ℕ) → p < len → c < len → q < len → Ahead len p q u → Ahead len c q v → v ≤ u → ahead len p c ≡ u - v
@@ -156,15 +152,6 @@ module _ (ties : ℕ → Bool) (len : ℕ) (ring : Bool) where
       let z : axisHops len ring p q ≡ 0 = rw e (axis-self len ring q) in
       omega (arith, between-is len ring c p q (r .on), useful-less len ring c q plus (r .useful))
 
-  -- The way that is chosen at its start is kept: once under way less than half a ring is left.
-  kept : (p q : ℕ) (w : Bool) → p < len → q < len → (p ≡ q → ⊥) → goes ties len ring p q ≡ w → (place len p w ≡ q → ⊥) → goes ties len ring (place len p w) q ≡ w
-  kept p q w hp hq ne e more =
-      onward ties len p q hp hq ring w (record { apart = ne; way = e }) (λ z. more (rw z (there w))) .next .way
-    where
-      there : (w : Bool) → place len (place len q (not w)) w ≡ q
-      there true = back-place len q false hq
-      there false = back-place len q true hq
-
   module _ (c p q : ℕ) (hc : c < len) (hp : p < len) (hq : q < len) where
     -- At the first link.
     pub run-first : (plus : Bool) → (p ≡ q → ⊥) → goes ties len ring p q ≡ plus → Running ties len ring plus p p q
@@ -182,7 +169,7 @@ module _ (ties : ℕ → Bool) (len : ℕ) (ring : Bool) where
         record {
           on = between-by len ring c p q hc (omega (arith, useful-less len ring p q w u, between-is len ring c n q (r .on), axis-step len ring p c w hp hc (useful-has len ring p q w u), axis-triangle (axisHops len ring p c) len ring p c q hp hc hq refl));
           useful = r .useful;
-          way = e ∙ sym (kept p q w hp hq ne e (runs-apart plus c n q r)) ∙ r .way;
+          way = e ∙ sym (kept ties len ring p q w hp hq ne e (runs-apart plus c n q r)) ∙ r .way;
         }
 
     -- One link on.
@@ -194,4 +181,4 @@ module _ (ties : ℕ → Bool) (len : ℕ) (ring : Bool) where
         let k = same-way len ring plus c p q hc hp hq ne (r .on) (r .useful) u in
         let sum : axisHops len ring n c + axisHops len ring c q ≡ axisHops len ring n q = omega (arith, between-is len ring c p q (r .on), useful-less len ring p q plus u, useful-less len ring p c plus k) in
         let more : n ≡ q → ⊥ = λ e. omega (arith, sum, useful-less len ring c q plus (r .useful), ap (λ (m : ℕ). axisHops len ring m q) e, axis-self len ring q) in
-        record { on = between-by len ring c n q hc sum; useful = r .useful; way = kept p q plus hp hq apart (r .way) more }
+        record { on = between-by len ring c n q hc sum; useful = r .useful; way = kept ties len ring p q plus hp hq apart (r .way) more }

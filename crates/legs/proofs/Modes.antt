@@ -9,14 +9,14 @@ use Rattle.theory.proofs.Bools.{and-true}
 use Rattle.shape.specs.declared.shape.Shape.{Shape}
 use Rattle.shape.specs.declared.shape.Coords.{Coords}
 use Rattle.shape.specs.declared.shape.Dim.{Dim}
-use Rattle.shape.specs.Shape.{extentOf, wrappedIn, coordOf}
+use Rattle.shape.specs.Shape.{extentOf, wrappedIn, coordOf, sameDim, beforeDim}
 use Rattle.shape.proofs.AxisLaws.{axis-self}
 use Rattle.machine.specs.declared.leg.Mode.the-variants.{Adaptive, Deterministic}
 use Rattle.machine.specs.Number.{Inside}
 use Rattle.machine.specs.Hop.{dirDim, dirPlus}
 use Rattle.machine.proofs.ByCoords.{inside-at}
 use Rattle.legs.specs.Between.{between, crosses, runs}
-use Rattle.legs.specs.Crossing.{sameDim, beforeDim, adaptiveAlong, deterministicAlong, adaptiveCrosses, deterministicCrosses, canCross}
+use Rattle.legs.specs.Crossing.{adaptiveAlong, deterministicAlong, adaptiveCrosses, deterministicCrosses, canCross}
 use Rattle.legs.proofs.Axis.{between-by}
 use Rattle.legs.proofs.Dims.{all-of, of-all}
 

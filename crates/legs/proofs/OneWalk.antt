@@ -1,6 +1,6 @@
 -- The one walk of a deterministic leg by coordinates: which link it crosses with its first hop, and which after it.
 use Prim.Native.Nat.{ℕ}
-use mathlib.Core.Bool.{Bool, true, cond, _&&_, false≢true}
+use mathlib.Core.Bool.{Bool, true, cond, _&&_}
 use mathlib.Core.Path.{_≡_, refl, sym, _∙_}
 use mathlib.Core.Logic.{_⊎_, inl, inr}
 use lib.Dec.{eqb}
@@ -11,43 +11,14 @@ use Rattle.shape.specs.declared.shape.Shape.{Shape}
 use Rattle.shape.specs.declared.shape.Coords.{Coords}
 use Rattle.shape.specs.declared.shape.Dim.{Dim}
 use Rattle.shape.specs.declared.shape.Dim.the-variants.{X, Y, Z}
-use Rattle.shape.specs.Shape.{extentOf, coordOf, wrappedIn}
+use Rattle.shape.specs.Shape.{extentOf, coordOf, wrappedIn, sameDim, beforeDim}
 use Rattle.shape.specs.Axis.{place}
 use Rattle.machine.specs.Number.{Inside}
 use Rattle.machine.specs.ByCoords.{goesAlong, movedAlong}
 use Rattle.machine.proofs.ByCoords.{inside-at}
+use Rattle.machine.proofs.OneDirection.{FirstDim, dim-x, dim-y, dim-z}
 use Rattle.legs.specs.Between.{runs}
-use Rattle.legs.specs.Crossing.{sameDim, beforeDim}
 use Rattle.legs.proofs.Axis.{Running, runs-is, is-runs, runs-apart, run-first, run-back, run-on}
-
--- The first dimension where c and t differ.
-pub record FirstDim (c t : Coords) (j : Dim) : Type 0 where
-  pub apart : coordOf c j ≡ coordOf t j → ⊥
-  pub done : (d : Dim) → beforeDim d j ≡ true → coordOf c d ≡ coordOf t d
-
-pub dim-x : (c t : Coords) → (c .x ≡ t .x → ⊥) → FirstDim c t X
-dim-x c t ne = record { apart = ne; done = none }
-  where
-    none : (d : Dim) → beforeDim d X ≡ true → coordOf c d ≡ coordOf t d
-    none X e = absurd (false≢true e)
-    none Y e = absurd (false≢true e)
-    none Z e = absurd (false≢true e)
-
-pub dim-y : (c t : Coords) → c .x ≡ t .x → (c .y ≡ t .y → ⊥) → FirstDim c t Y
-dim-y c t x ne = record { apart = ne; done = one }
-  where
-    one : (d : Dim) → beforeDim d Y ≡ true → coordOf c d ≡ coordOf t d
-    one X e = x
-    one Y e = absurd (false≢true e)
-    one Z e = absurd (false≢true e)
-
-pub dim-z : (c t : Coords) → c .x ≡ t .x → c .y ≡ t .y → (c .z ≡ t .z → ⊥) → FirstDim c t Z
-dim-z c t x y ne = record { apart = ne; done = two }
-  where
-    two : (d : Dim) → beforeDim d Z ≡ true → coordOf c d ≡ coordOf t d
-    two X e = x
-    two Y e = y
-    two Z e = absurd (false≢true e)
 
 module _ (ties : ℕ → Bool) (s : Shape) where
   -- The link that leaves u along dimension k, plus or minus: in that dimension, its part in dimension d, and the product.

@@ -1,39 +1,16 @@
 -- Which legs can cross the link that leaves a node u in a direction, of nodes by their coordinates: a leg from a to t, dimension by dimension.
 use Prim.Native.Nat.{ℕ}
-use mathlib.Core.Bool.{Bool, true, false, cond, _&&_}
+use mathlib.Core.Bool.{Bool, cond, _&&_}
 use lib.Dec.{leb, eqb}
 use Rattle.shape.specs.declared.shape.Shape.{Shape}
 use Rattle.shape.specs.declared.shape.Coords.{Coords}
 use Rattle.shape.specs.declared.shape.Dim.{Dim}
 use Rattle.shape.specs.declared.shape.Dim.the-variants.{X, Y, Z}
-use Rattle.shape.specs.Shape.{extentOf, wrappedIn, coordOf}
+use Rattle.shape.specs.Shape.{extentOf, wrappedIn, coordOf, sameDim, beforeDim}
 use Rattle.machine.specs.declared.leg.Mode.{Mode}
 use Rattle.machine.specs.declared.leg.Mode.the-variants.{Adaptive, Deterministic}
 use Rattle.machine.specs.Hop.{dirDim, dirPlus}
 use Rattle.legs.specs.Between.{between, crosses, runs}
-
-abbrev pub sameDim : Dim → Dim → Bool
-sameDim X X = true
-sameDim X Y = false
-sameDim X Z = false
-sameDim Y X = false
-sameDim Y Y = true
-sameDim Y Z = false
-sameDim Z X = false
-sameDim Z Y = false
-sameDim Z Z = true
-
--- A deterministic leg is done with the first dimension before it begins the second.
-abbrev pub beforeDim : Dim → Dim → Bool
-beforeDim X X = false
-beforeDim X Y = true
-beforeDim X Z = true
-beforeDim Y X = false
-beforeDim Y Y = false
-beforeDim Y Z = true
-beforeDim Z X = false
-beforeDim Z Y = false
-beforeDim Z Z = false
 
 -- An adaptive leg: u lies between the ends in each other dimension, and in the link's own the link is on a shortest way.
 unfoldable pub adaptiveAlong : Shape → Coords → ℕ → Coords → Coords → Dim → Bool

@@ -167,7 +167,7 @@ module _ (s : Shape) (h : shapeError s ≡ 0) where
       minus-of Z = useful-at 5
 
       module _ (ties : ℕ → Bool) where
-        toward-at : (d : Dim) → toward ties s n t d ≡ towardAt ties s (coordsOf s n) (coordsOf s t) d
+        pub toward-at : (d : Dim) → toward ties s n t d ≡ towardAt ties s (coordsOf s n) (coordsOf s t) d
         unfolding toward goes
         toward-at d = rw (plus-of d, minus-of d)
 

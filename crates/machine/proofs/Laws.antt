@@ -1,5 +1,5 @@
 -- What document 01 says of hops, as theorems about the definitions.
-use Prim.Native.Nat.{ℕ, _+_, _≤_, _<_}
+use Prim.Native.Nat.{ℕ, _+_, _*_, _≤_, _<_}
 use mathlib.Core.Bool.{Bool, true, false, cond, not, _&&_}
 use mathlib.Core.Path.{_≡_, refl, sym, ap, _∙_}
 use mathlib.Core.Logic.{_⊎_}
@@ -14,11 +14,11 @@ use Rattle.shape.specs.declared.shape.Dim.the-variants.{X, Y, Z}
 use Rattle.shape.specs.Shape.{shapeError, extentOf, coordOf, wrappedIn, put}
 use Rattle.shape.specs.Axis.{place}
 use Rattle.machine.specs.Number.{nodeCount, numberOf, coordsOf}
-use Rattle.machine.specs.Hop.{dirDim, dirPlus, plusDir, minusDir, dirOf, opposite, along, part, hops, link, neighbour, useful, toward, same, firstDirection}
-use Rattle.machine.specs.ByCoords.{linkAlong, movedAlong, movedAt}
+use Rattle.machine.specs.Hop.{dirDim, dirPlus, plusDir, minusDir, dirOf, opposite, along, part, hops, link, neighbour, useful, half, toward, same, firstDirection}
+use Rattle.machine.specs.ByCoords.{usefulAlong, linkAlong, movedAlong, movedAt}
 use Rattle.machine.proofs.Directions.{opposite-is}
 use Rattle.machine.proofs.Numbers.{number-coords, inside}
-use Rattle.shape.proofs.AxisLaws.{axis-symmetric, axis-zero, axis-self, axis-some, axis-step, axis-triangle, back-place, back-link}
+use Rattle.shape.proofs.AxisLaws.{axis-symmetric, axis-zero, axis-self, axis-some, half-both, both-half, axis-step, axis-triangle, back-place, back-link}
 use Rattle.shape.proofs.Runs.{one-taken}
 use Rattle.machine.proofs.ByCoords.{inside-at, along-small, hops-at, hops-put, neighbour-coords, plus-of, minus-of}
 
@@ -80,6 +80,18 @@ module _ (s : Shape) (h : shapeError s ≡ 0) (n t : ℕ) (hn : n < nodeCount s)
   some-useful d e =
       rw (plus-of s h n hn t d, minus-of s h n hn t d)
       (axis-some (extentOf s d) (wrappedIn s d) _ _ (inside-at s _ (inside s h n hn) d) (inside-at s _ (inside s h t ht) d) (eqb-false _ _ e))
+
+  -- ---- half a ring is left exactly where both directions are useful
+  pub half-is : (d : Dim) → half s n t d ≡ true → (wrappedIn s d ≡ true) × (2 * part s n t d ≡ extentOf s d)
+  half-is d e =
+      let both = and-true (useful s n t (plusDir d)) (useful s n t (minusDir d)) e in
+      both-half (extentOf s d) (wrappedIn s d) (along s n d) (along s t d) (inside-at s _ (inside s h n hn) d) (inside-at s _ (inside s h t ht) d) (sym (plus-of s h n hn t d) ∙ both .0) (sym (minus-of s h n hn t d) ∙ both .1)
+
+  pub is-half : (d : Dim) → wrappedIn s d ≡ true → 2 * part s n t d ≡ extentOf s d → half s n t d ≡ true
+  is-half d r e = rw (plus-of s h n hn t d, minus-of s h n hn t d, one true, one false)
+    where
+      one : (plus : Bool) → usefulAlong s (coordsOf s n) (coordsOf s t) d plus ≡ true
+      one plus = rw r (half-both (extentOf s d) (along s n d) (along s t d) plus (inside-at s _ (inside s h n hn) d) (inside-at s _ (inside s h t ht) d) (rw r at e))
 
   way-useful : (d : Dim) (plus : Bool) → useful s n t (dirOf d plus) ≡ cond plus (useful s n t (plusDir d)) (useful s n t (minusDir d))
   way-useful d true = refl

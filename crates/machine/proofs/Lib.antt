@@ -2,6 +2,9 @@ pub mod Division
 pub mod Numbers
 pub mod Directions
 pub mod ByCoords
+pub mod OneDirection
 pub mod Laws
 pub mod Torus
 pub mod Nodes
+pub mod Begins
+pub mod Worked

@@ -64,23 +64,26 @@ hops s n t = part s n t X + part s n t Y + part s n t Z
 unfoldable pub useful : Shape → ℕ → ℕ → ℕ → Bool
 useful s n t dir = link s n dir && eqb (hops s (neighbour s n dir) t + 1) (hops s n t)
 
--- The rule for half a ring that is in force: a deterministic leg goes plus there, from whatever coordinate. What follows takes any rule, `ties`: whether
--- half a ring goes plus from the coordinate, in that dimension, of the node where the hop begins.
-unfoldable pub rule : ℕ → Bool
-rule p = true
+-- Exactly half of a wrapped ring is left in dimension d: there both directions are useful, and nowhere else (`half-is`, `is-half` of proofs/Laws.antt).
+abbrev pub half : Shape → ℕ → ℕ → Dim → Bool
+half s n t d = useful s n t (plusDir d) && useful s n t (minusDir d)
 
--- In the useful direction of a dimension; at exactly half of a wrapped ring both directions are useful, and the rule decides.
+-- The rule for half a ring that is in force: plus from an even coordinate, minus from an odd one. What follows takes any rule, `ties`: whether half a
+-- ring goes plus from a coordinate.
+unfoldable pub rule : ℕ → Bool
+rule p = eqb (p % 2) 0
+
+-- In the useful direction of a dimension; at half a ring by the rule, from the node's coordinate in that dimension. It is the place where that dimension's
+-- travel begins: specs/Begins.antt.
 unfoldable pub toward : (ℕ → Bool) → Shape → ℕ → ℕ → Dim → ℕ
-toward ties s n t d =
-    let plus = useful s n t (plusDir d) in
-    dirOf d (cond (plus && useful s n t (minusDir d)) (ties (along s n d)) plus)
+toward ties s n t d = dirOf d (cond (half s n t d) (ties (along s n d)) (useful s n t (plusDir d)))
 
 abbrev pub same : Shape → ℕ → ℕ → Dim → Bool
 same s n t d = eqb (along s n d) (along s t d)
 
--- A deterministic leg takes the first dimension of X, Y, Z where the coordinates differ; 6, no direction, where none does.
+-- A deterministic leg takes the first dimension of X, Y, Z where the coordinates differ, of the directions `way`; 6, no direction, where none does.
+abbrev pub firstOf : (Dim → ℕ) → Shape → ℕ → ℕ → ℕ
+firstOf way s n t = cond (not (same s n t X)) (way X) (cond (not (same s n t Y)) (way Y) (cond (not (same s n t Z)) (way Z) 6))
+
 unfoldable pub firstDirection : (ℕ → Bool) → Shape → ℕ → ℕ → ℕ
-firstDirection ties s n t =
-    cond (not (same s n t X)) (toward ties s n t X)
-    (cond (not (same s n t Y)) (toward ties s n t Y)
-    (cond (not (same s n t Z)) (toward ties s n t Z) 6))
+firstDirection ties s n t = firstOf (toward ties s n t) s n t

@@ -19,16 +19,12 @@ allowedBy ties Deterministic s n t dir = leb dir 5 && eqb dir (firstDirection ti
 abbrev pub leg : ℕ → Mode → Leg
 leg t m = record { target = t; mode = m }
 
--- The machine with any rule for half a ring, and with the rule in force.
+-- The machine, by the directions that a leg allows at a node; with any rule for half a ring; and with the rule in force.
+abbrev pub torusOf : (Leg → ℕ → ℕ → Bool) → Shape → Machine Leg
+torusOf allowed s = record { size = nodeCount s; ways = 6; next = neighbour s; hops = hops s; target = λ l. l .target; allowed = allowed }
+
 abbrev pub torusBy : (ℕ → Bool) → Shape → Machine Leg
-torusBy ties s = record {
-  size = nodeCount s;
-  ways = 6;
-  next = neighbour s;
-  hops = hops s;
-  target = λ l. l .target;
-  allowed = λ l n dir. allowedBy ties (l .mode) s n (l .target) dir;
-}
+torusBy ties s = torusOf (λ l n dir. allowedBy ties (l .mode) s n (l .target) dir) s
 
 abbrev pub torus : Shape → Machine Leg
 torus s = torusBy rule s

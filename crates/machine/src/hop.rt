@@ -64,11 +64,11 @@ fn minus_dir(d: Dim) -> u8
     }
 }
 
-// Whether a deterministic leg goes plus at half a ring, from the place p of its dimension.
+// Whether a deterministic leg goes plus at half a ring, from the place p of its dimension: from an even one.
 fn half_ring_plus(p: u8) -> bool
     ensures { λ r. ⌜ r ≡ rule p ⌝ }
 {
-    true
+    p % 2 == 0
 }
 
 // Whether a deterministic leg goes plus from the place p of a dimension toward the place q.

@@ -2,3 +2,4 @@ pub mod Planning
 pub mod Unlisted
 pub mod Listing
 pub mod Written
+pub mod Worked

@@ -3,7 +3,7 @@ use Prim.Native.Nat.{ℕ, _+_, _≤_}
 use native.Mathlib.Omega.{arith}
 use mathlib.Core.Path.{_≡_, refl, _∙_}
 use mathlib.Core.Bool.{true}
-use mathlib.Core.List.{List, [], _∷_}
+use mathlib.Core.List.{List}
 use lib.ListN.{length, getD, take}
 use Rattle.shape.specs.Shape.{shapeError, badExtents, badWraps}
 use Rattle.machine.specs.Number.{nodeCount}
@@ -31,6 +31,7 @@ use Rattle.route_value.specs.declared.reading.Reading.{Reading}
 use Rattle.route_value.specs.Reading.{routesOf, reading}
 use Rattle.route_value.specs.Writing.{sheetBytes, routeEntries, sheetOf}
 use Rattle.route_value.specs.Value.{Fits, routesWith, cleared}
+use Rattle.route_value.specs.Worked.{sheetW}
 use Rattle.route_value.proofs.Writings.{own-format, source-read, entries-read, routes-read, entries-count}
 use Rattle.route_value.proofs.Written.{written-accepted}
 use Rattle.route_value.proofs.Rewriting.{read-written}
@@ -95,9 +96,6 @@ module _ (L : Limits) (p : List ℕ) where
       read-again = Sheet.read-again error s o h l reading again same-sheet
 
 -- Machine W's route sheet for source 0 is such a sheet.
-abbrev pub sheetW : List ℕ
-sheetW = 1 ∷ 0 ∷ 44 ∷ 0 ∷ 0 ∷ 0 ∷ 8 ∷ 0 ∷ 1 ∷ 3 ∷ 0 ∷ 4 ∷ 0 ∷ 2 ∷ 2 ∷ 0 ∷ 3 ∷ 0 ∷ 5 ∷ 2 ∷ 0 ∷ 4 ∷ 0 ∷ 6 ∷ 2 ∷ 0 ∷ 3 ∷ 0 ∷ 9 ∷ 2 ∷ 0 ∷ 4 ∷ 0 ∷ 10 ∷ 2 ∷ 0 ∷ 3 ∷ 0 ∷ 13 ∷ 2 ∷ 0 ∷ 12 ∷ 0 ∷ 14 ∷ 2 ∷ 0 ∷ 3 ∷ []
-
 pub w-bytes : AreBytes sheetW
 w-bytes = are-bytes sheetW refl
 

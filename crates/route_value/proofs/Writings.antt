@@ -62,8 +62,8 @@ module _ (S : ℕ) (es : List Entry) where
   unfolding headGood sheetBytes headBytes
   head-good h =
       let n = sizeAfter written (length es) in
-      let lent : lengthIs sheet n ≡ true = length-read 1 n _ (omega arith) (omega (arith, records-length (entryForm written) EntryFits lawful-written es)) in
-      rw (le-leb entriesAt (length sheet) (omega (arith, sheet-length)), eq-eqb (version sheet) 1 (version-read 1 n _), count-read (omega arith)) lent
+      let lent : lengthIs sheet n ≡ true = length-read (written .version) n _ (omega arith) (omega (arith, records-length (entryForm written) EntryFits lawful-written es)) in
+      rw (le-leb entriesAt (length sheet) (omega (arith, sheet-length)), eq-eqb (version sheet) (written .version) (version-read (written .version) n _), count-read (omega arith)) lent
 
   -- The sheet is accepted where its source and entries are.
   pub sheet-good : (m : Shape) → S < 65536 → length es ≤ mostEntries → AllFit es → sheetGood m sheet ≡ routesGood written m S es

@@ -14,7 +14,7 @@ use Rattle.plan.specs.Checks.{Limits, planError}
 use Rattle.routes.specs.declared.layout.Entry.{Entry}
 use Rattle.routes.specs.Layout.{Format, formatOf, source, entryCount, entriesAt, entriesOf, sizeAfter}
 
--- The format's version, and the length field is the bytes that follow and, in version 1, 4 + 5 × count.
+-- The format's version, and the length field is the bytes that follow and, in version 2, 4 + 5 × count.
 unfoldable pub headGood : Format → List ℕ → Bool
 headGood F s = leb entriesAt (length s) && eqb (version s) (F .version) && lengthIs s (sizeAfter F (entryCount s))
 

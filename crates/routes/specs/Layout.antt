@@ -15,20 +15,20 @@ pub record Format : Type 0 where
   pub viaKind : ℕ → Bool
   pub plainKind : ℕ → Bool
 
--- Version 1.
-abbrev pub first : Format
-first = record { version = 1; vias = 1; viaKind = viaKind; plainKind = plainKind }
+-- Version 2: the layout of document 01's version 1, which is not read any more.
+abbrev pub second : Format
+second = record { version = 2; vias = 1; viaKind = viaKind; plainKind = plainKind }
 
 -- The format in which a sheet is read, by its byte 0. Check 13 declines a sheet whose version is not its format's own.
 unfoldable pub formatBy : ℕ → Format
-formatBy v = first
+formatBy v = second
 
 abbrev pub formatOf : List ℕ → Format
 formatOf s = formatBy (version s)
 
 -- The format that is written.
 abbrev pub written : Format
-written = first
+written = second
 
 -- After the length field source (two bytes), entry count (two).
 unfoldable pub source : List ℕ → ℕ

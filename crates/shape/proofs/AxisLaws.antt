@@ -1,7 +1,7 @@
 -- Laws of one dimension.
 use Prim.Native.Nat.{ℕ, zero, suc, _+_, _-_, _*_, _≤_, _<_, min}
 use mathlib.Core.Bool.{Bool, true, false, cond, not}
-use mathlib.Core.Path.{_≡_, refl, ap, _∙_}
+use mathlib.Core.Path.{_≡_, refl, sym, ap, _∙_}
 use mathlib.Core.Logic.{_⊎_, inl, inr, ⊎-elim}
 use native.Mathlib.Omega.{arith}
 use lib.Dec.{leb, eqb}
@@ -107,7 +107,7 @@ ahead-is len p q hp hq =
     (λ a. rw (lt-leb p q a) (record { below = omega arith; up = λ h. absurd (omega arith); round = λ _. omega arith }))
 
 -- The hops are those of the smaller of the two ways round.
-ring-hops : (len p q u : ℕ) → p < len → q < len → Ahead len p q u → axisHops len true p q ≡ min u (len - u)
+pub ring-hops : (len p q u : ℕ) → p < len → q < len → Ahead len p q u → axisHops len true p q ≡ min u (len - u)
 unfolding axisHops
 ring-hops len p q u hp hq w = by-le p q (λ a. let e = w .up a in omega arith) (λ a. let e = w .round a in omega arith)
 
@@ -181,18 +181,23 @@ useful-is len true p q plus hp hq = ring-useful len p q plus hp hq
 useful-is len false p q plus hp hq = open-useful len p q plus hp hq
 
 -- At exactly half of a wrapped ring both directions are useful, and nowhere else.
-pub half-both : (len p q : ℕ) (plus : Bool) → p < len → q < len → 2 * ahead len p q ≡ len → axisUseful len true p q plus ≡ true
-half-both len p q plus hp hq e = rw (ring-useful len p q plus hp hq, ne-eqb (ahead len p q) 0 (λ z. omega arith)) (both plus)
-  where
-    both : (plus : Bool) → cond plus (leb (2 * ahead len p q) len) (leb len (2 * ahead len p q)) ≡ true
-    both true = le-leb (2 * ahead len p q) len (omega arith)
-    both false = le-leb len (2 * ahead len p q) (omega arith)
+half-ahead : (len p q : ℕ) → p < len → q < len → 2 * axisHops len true p q ≡ len → 2 * ahead len p q ≡ len
+half-ahead len p q hp hq e = let w = ahead-is len p q hp hq in omega (arith, w .below, ring-hops len p q (ahead len p q) hp hq w)
 
-pub both-half : (len p q : ℕ) → p < len → q < len → axisUseful len true p q true ≡ true → axisUseful len true p q false ≡ true → 2 * ahead len p q ≡ len
-both-half len p q hp hq up down =
+pub half-both : (len p q : ℕ) (plus : Bool) → p < len → q < len → 2 * axisHops len true p q ≡ len → axisUseful len true p q plus ≡ true
+half-both len p q plus hp hq e = let u = half-ahead len p q hp hq e in rw (ring-useful len p q plus hp hq, ne-eqb (ahead len p q) 0 (λ z. omega arith)) (both plus u)
+  where
+    both : (plus : Bool) → 2 * ahead len p q ≡ len → cond plus (leb (2 * ahead len p q) len) (leb len (2 * ahead len p q)) ≡ true
+    both true u = le-leb (2 * ahead len p q) len (omega arith)
+    both false u = le-leb len (2 * ahead len p q) (omega arith)
+
+pub both-half : (len : ℕ) (ring : Bool) (p q : ℕ) → p < len → q < len → axisUseful len ring p q true ≡ true → axisUseful len ring p q false ≡ true → (ring ≡ true) × (2 * axisHops len ring p q ≡ len)
+both-half len false p q hp hq up down =
+    absurd (omega (arith, ltb-true p q (sym (open-useful len p q true hp hq) ∙ up), ltb-true q p (sym (open-useful len p q false hp hq) ∙ down)))
+both-half len true p q hp hq up down =
     let a = and-true (not (eqb (ahead len p q) 0)) (leb (2 * ahead len p q) len) (rw (ring-useful len p q true hp hq) at up) .1 in
     let b = and-true (not (eqb (ahead len p q) 0)) (leb len (2 * ahead len p q)) (rw (ring-useful len p q false hp hq) at down) .1 in
-    omega (arith, leb-true (2 * ahead len p q) len a, leb-true len (2 * ahead len p q) b)
+    (refl, omega (arith, ring-hops len p q (ahead len p q) hp hq (ahead-is len p q hp hq), leb-true (2 * ahead len p q) len a, leb-true len (2 * ahead len p q) b))
 
 -- Toward another place of the dimension some direction is useful.
 pub axis-some : (len : ℕ) (ring : Bool) (p q : ℕ) → p < len → q < len → (p ≡ q → ⊥) → (axisUseful len ring p q true ≡ true) ⊎ (axisUseful len ring p q false ≡ true)

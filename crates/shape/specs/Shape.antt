@@ -1,6 +1,6 @@
 -- 'The machine': extents and wrap with checks 5 and 6, and coordinates.
 use Prim.Native.Nat.{ℕ, _/_, _%_}
-use mathlib.Core.Bool.{Bool, _&&_, _||_}
+use mathlib.Core.Bool.{Bool, true, false, _&&_, _||_}
 use lib.Dec.{ltb, eqb}
 use Rattle.numbers.specs.Numbers.{extentOutside, wrongWrap}
 use Rattle.theory.specs.Checks.{declined, _then_}
@@ -51,3 +51,26 @@ abbrev pub put : Coords → Dim → ℕ → Coords
 put c X v = record { x = v; y = c .y; z = c .z }
 put c Y v = record { x = c .x; y = v; z = c .z }
 put c Z v = record { x = c .x; y = c .y; z = v }
+
+abbrev pub sameDim : Dim → Dim → Bool
+sameDim X X = true
+sameDim X Y = false
+sameDim X Z = false
+sameDim Y X = false
+sameDim Y Y = true
+sameDim Y Z = false
+sameDim Z X = false
+sameDim Z Y = false
+sameDim Z Z = true
+
+-- In the order X, Y, Z.
+abbrev pub beforeDim : Dim → Dim → Bool
+beforeDim X X = false
+beforeDim X Y = true
+beforeDim X Z = true
+beforeDim Y X = false
+beforeDim Y Y = false
+beforeDim Y Z = true
+beforeDim Z X = false
+beforeDim Z Y = false
+beforeDim Z Z = false

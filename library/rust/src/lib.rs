@@ -36,6 +36,8 @@ pub struct Weights {
     pub z: u8,
 }
 
+/// An adaptive leg may take any hop that brings it nearer to its target. A deterministic leg takes the first of X, Y, Z where the coordinates differ, the
+/// shorter way; at exactly half a ring it goes plus from an even coordinate of that dimension and minus from an odd one.
 #[derive(Clone, Copy, Debug, PartialEq, Eq)]
 pub enum Mode {
     Adaptive,
@@ -147,7 +149,7 @@ pub fn pair(plan: &[u8], source: u16, destination: u16) -> Result<Planned, Refus
     Ok(Planned { route: planned.route.read()?, length: planned.length })
 }
 
-/// The route sheet of every destination, into `out`: how many bytes are written.
+/// The route sheet of every destination, in version 2, into `out`: how many bytes are written.
 pub fn write_sheet(plan: &[u8], source: u16, out: &mut [u8]) -> Result<usize, Refused> {
     let written = unsafe { raw::nafthurm_write_sheet(plan.as_ptr(), plan.len(), source, out.as_mut_ptr(), out.len()) };
     accepted(written.number).map(|()| written.size)
@@ -190,7 +192,7 @@ pub fn listing(input: &[u8], out: &mut [u8]) -> Result<usize, Refused> {
 
 // ---- Route sheets
 
-/// The checks of the plan, then 13 of the sheet.
+/// The checks of the plan, then 13 of the sheet. Version 2 alone is read: a version 1 sheet has to be written anew from the plan in use.
 pub fn sheet_check(plan: &[u8], sheet: &[u8]) -> Result<(), Refused> {
     accepted(unsafe { raw::nafthurm_sheet_check(plan.as_ptr(), plan.len(), sheet.as_ptr(), sheet.len()) })
 }
