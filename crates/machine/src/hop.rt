@@ -2,7 +2,6 @@
 use crate::leg::Mode;
 use logic::both;
 use logic::pick;
-use logic::pick_bool;
 use shape::Coords;
 use shape::Dim;
 use shape::Shape;
@@ -75,9 +74,7 @@ fn half_ring_plus(p: u8) -> bool
 pub fn goes_plus(len: u8, ring: bool, p: u8, q: u8) -> bool
     ensures { λ r. ⌜ r ≡ goes rule len ring p q ⌝ }
 {
-    let plus = axis::useful(len, ring, p, q, true);
-    let minus = axis::useful(len, ring, p, q, false);
-    pick_bool(both(plus, minus), half_ring_plus(p), plus)
+    axis::goes_plus(len, ring, p, q, half_ring_plus(p))
 }
 
 // The node number of coordinates, of any size: modulo 65,536.

@@ -4,10 +4,12 @@ use mathlib.Core.Bool.{Bool, true, false, false≢true, cond, not, _&&_}
 use mathlib.Core.Path.{_≡_, refl, sym, ap, _∙_}
 use mathlib.Core.Logic.{_⊎_, ⊎-elim}
 use native.Mathlib.Omega.{arith}
-use Rattle.theory.proofs.Cases.{test, by-le}
+use lib.Dec.{ltb, eqb}
+use borrow.Author.Tests.{eq-eqb, ne-eqb, lt-ltb, le-ltb, le-leb, lt-leb}
+use Rattle.theory.proofs.Cases.{test, by-le, by-order}
 use Rattle.shape.specs.Axis.{axisHops, place, axisUseful}
-use Rattle.shape.specs.Steps.{ahead, goes}
-use Rattle.shape.proofs.AxisLaws.{Ahead, ahead-is, axis-some, place-below, back-place, useful-less}
+use Rattle.shape.specs.Steps.{ahead, ringUseful, ringGoes, goes}
+use Rattle.shape.proofs.AxisLaws.{Ahead, ahead-is, axis-some, place-below, back-place, useful-less, ring-useful, open-useful}
 
 ahead-one : (len p q u v : ℕ) → Ahead len p q u → Ahead len p q v → u ≡ v
 ahead-one len p q u v a b = by-le p q (λ h. omega (arith, a .up h, b .up h)) (λ h. omega (arith, a .round h, b .round h))
@@ -37,6 +39,24 @@ module _ (ties : ℕ → Bool) (len : ℕ) where
   unfolding goes
   goes-only ring p q true hp hq ne e = rw e (⊎-elim (λ z. rw z) (λ z. absurd (false≢true (sym e ∙ z))) (axis-some len ring p q hp hq ne))
   goes-only ring p q false hp hq ne e = rw e
+
+-- ---- for places that exist: round a ring by the hops going plus, u, and in an open dimension by the order of the places
+ring-way : (len u : ℕ) (tie : Bool) → cond (ringUseful len u true && ringUseful len u false) tie (ringUseful len u true) ≡ ringGoes len u tie
+ring-way len u tie =
+    test (eqb u 0)
+    (λ z. rw z)
+    (λ z. rw z (by-order (2 * u) len
+    (λ a. rw (le-leb (2 * u) len (omega arith), lt-leb len (2 * u) a, ne-eqb (2 * u) len (λ e. omega arith), lt-ltb (2 * u) len a))
+    (λ a. rw (le-leb (2 * u) len (omega arith), le-leb len (2 * u) (omega arith), eq-eqb (2 * u) len a))
+    (λ a. rw (lt-leb (2 * u) len a, ne-eqb (2 * u) len (λ e. omega arith), le-ltb (2 * u) len (omega arith)))))
+
+open-way : (p q : ℕ) (tie : Bool) → cond (ltb p q && ltb q p) tie (ltb p q) ≡ ltb p q
+open-way p q tie = by-le q p (λ a. rw (le-ltb p q a)) (λ a. rw (lt-ltb p q a, le-ltb q p (omega arith)))
+
+pub goes-is : (len : ℕ) (ring : Bool) (p q : ℕ) (tie : Bool) → p < len → q < len → goes (λ _. tie) len ring p q ≡ cond ring (ringGoes len (ahead len p q) tie) (ltb p q)
+unfolding goes
+goes-is len true p q tie hp hq = rw (ring-useful len p q true hp hq, ring-useful len p q false hp hq) (ring-way len (ahead len p q) tie)
+goes-is len false p q tie hp hq = rw (open-useful len p q true hp hq, open-useful len p q false hp hq) (open-way p q tie)
 
 -- ---- once under way
 -- Half a ring is the most.

@@ -15,6 +15,10 @@ ahead len p q = cond (leb p q) (q - p) (len - (p - q))
 abbrev pub ringUseful : ℕ → ℕ → Bool → Bool
 ringUseful len up plus = not (eqb up 0) && cond plus (leb (2 * up) len) (leb len (2 * up))
 
+-- Plus below half the ring, minus above it, and at half by `tie`.
+abbrev pub ringGoes : ℕ → ℕ → Bool → Bool
+ringGoes len up tie = not (eqb up 0) && cond (eqb (2 * up) len) tie (ltb (2 * up) len)
+
 -- From p toward q the one way of a deterministic leg goes plus. ties: whether half a ring goes plus from a place.
 unfoldable pub goes : (ℕ → Bool) → ℕ → Bool → ℕ → ℕ → Bool
 goes ties len ring p q =

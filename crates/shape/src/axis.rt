@@ -7,7 +7,7 @@ ghost use mathlib.Core.Bool.{true, false};
 ghost use mathlib.Core.Path.{_≡_};
 ghost use Prim.Native.Nat.{_<_};
 ghost use Rattle.shape.specs.Axis.{gap, axisHops, hasLink, place, axisUseful};
-ghost use Rattle.shape.specs.Steps.{ahead, ringUseful};
+ghost use Rattle.shape.specs.Steps.{ahead, ringUseful, ringGoes, goes};
 
 fn difference(p: u8, q: u8) -> u8
     ensures { λ r. ⌜ r ≡ gap p q ⌝ }
@@ -113,4 +113,39 @@ pub fn useful(len: u8, ring: bool, p: u8, q: u8, plus: bool) -> bool
         return ring_useful(len, hops_ahead(len, p, q), plus);
     }
     pick_bool(plus, p < q, q < p)
+}
+
+// Round a ring: plus below half of it, minus above it.
+fn ring_goes(len: u8, up: u8, tie: bool) -> bool
+    ensures { λ r. ⌜ r ≡ ringGoes len up tie ⌝ }
+{
+    let twice = 2 * (up as u16);
+    both(
+        up != 0,
+        pick_bool(twice == (len as u16), tie, twice < (len as u16)),
+    )
+}
+
+fn lowers_by(len: u8, ring: bool, p: u8, q: u8, tie: bool) -> bool
+    ensures { λ r. ⌜ r ≡ goes (λ _. tie) len ring p q ⌝ }
+{
+    let plus = lowers(len, ring, p, q, true);
+    let minus = lowers(len, ring, p, q, false);
+    pick_bool(both(plus, minus), tie, plus)
+}
+
+// Whether the one way of a deterministic leg from p toward q goes plus. `tie`: whether it does at half a ring.
+pub fn goes_plus(len: u8, ring: bool, p: u8, q: u8, tie: bool) -> bool
+    ensures { λ r. ⌜ r ≡ goes (λ _. tie) len ring p q ⌝ }
+{
+    if len <= p {
+        return lowers_by(len, ring, p, q, tie);
+    }
+    if len <= q {
+        return lowers_by(len, ring, p, q, tie);
+    }
+    if ring {
+        return ring_goes(len, hops_ahead(len, p, q), tie);
+    }
+    p < q
 }
