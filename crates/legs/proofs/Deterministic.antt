@@ -60,7 +60,7 @@ module _ (ties : ℕ → Bool) (s : Shape) where
       after = λ p e u d at hu a m.
           let c = coordsOf s p in
           let k = leads-at ties s h p e at t a in
-          let b = and-true (leb d 5) _ (rw (moved ties s h p e at) at m) in
+          let b = and-true (leb d 5) _ (rw (moved s h p e at) at m) in
           rw (b .0) (walk-after ties s c (coordsOf s t) (coordsOf s u) (inside s h p at) (inside s h t ht) (inside s h u hu) (dirDim e) (dirDim d) (dirPlus e) (dirPlus d) (k .first) (k .way) (b .1));
       split = λ p u d at hu m.
           let c = coordsOf s p in
@@ -72,7 +72,7 @@ module _ (ties : ℕ → Bool) (s : Shape) where
           let j = n .dim in
           let e = dirOf j (goesAlong ties s c T j) in
           let w = direction j (goesAlong ties s c T j) in
-          inr (e, at-leads ties s h p e at t (leads-along ties s c T j (n .first)), rw (moved ties s h p e at, w .dim, w .way, b .0) (n .rest)))
+          inr (e, at-leads ties s h p e at t (leads-along ties s c T j (n .first)), rw (moved s h p e at, w .dim, w .way, b .0) (n .rest)))
           (walk-split ties s c T (coordsOf s u) (inside s h p at) (inside s h t ht) (inside s h u hu) (dirDim d) (dirPlus d) (b .1));
     }
 

@@ -63,10 +63,10 @@ module _ (ties : ℕ → Bool) (s : Shape) (h : shapeError s ≡ 0) (t : ℕ) (h
 
     -- The hop is along one dimension, the first that is not done.
     hop-else : (d : Dim) → sameDim j d ≡ false → along s next d ≡ along s n d
-    hop-else d e = ap (λ c. coordOf c d) (moved ties s h n dir hn) ∙ put-else (coordsOf s n) j d _ e
+    hop-else d e = ap (λ c. coordOf c d) (moved s h n dir hn) ∙ put-else (coordsOf s n) j d _ e
 
     hop-along : along s next j ≡ place (extentOf s j) (along s n j) (dirPlus dir)
-    hop-along = ap (λ c. coordOf c j) (moved ties s h n dir hn) ∙ put-at (coordsOf s n) j _
+    hop-along = ap (λ c. coordOf c j) (moved s h n dir hn) ∙ put-at (coordsOf s n) j _
 
     hop-stays : (d : Dim) → along s n d ≡ along s t d → along s next d ≡ along s t d
     hop-stays d e =
@@ -121,11 +121,6 @@ module _ (ties : ℕ → Bool) (s : Shape) (h : shapeError s ≡ 0) (t : ℕ) (h
 
   abbrev ends : ℕ → List ℕ → ℕ
   ends n ds = lead (torusBy ties s) n ds
-
-  ends-below : (n : ℕ) (ds : List ℕ) → n < nodeCount s → ends n ds < nodeCount s
-  unfolding lead
-  ends-below n [] hn = hn
-  ends-below n (dir ∷ ds) hn = ends-below (neighbour s n dir) ds (neighbour-below s h n hn dir)
 
   stays : (n : ℕ) (ds : List ℕ) → n < nodeCount s → Walked n ds → (d : Dim) → along s n d ≡ along s t d → along s (ends n ds) d ≡ along s t d
   unfolding lead

@@ -52,6 +52,11 @@ dim-z c t x y ne = record { apart = ne; done = two }
 of-dir : (dir : ℕ) → dir ≤ 5 → dirOf (dirDim dir) (dirPlus dir) ≡ dir
 of-dir = by-direction (λ dir. dirOf (dirDim dir) (dirPlus dir) ≡ dir) (λ d plus. let w = direction d plus in rw (w .dim, w .way))
 
+-- Where a hop leads, by coordinates.
+pub moved : (s : Shape) → shapeError s ≡ 0 → (p dir : ℕ) → p < nodeCount s → coordsOf s (neighbour s p dir) ≡ movedAlong s (coordsOf s p) (dirDim dir) (dirPlus dir)
+unfolding movedAt
+moved s h p dir at = neighbour-coords s h p at dir
+
 module _ (ties : ℕ → Bool) (s : Shape) where
   first-along : (c t : Coords) (j : Dim) → FirstDim c t j → firstAt ties s c t ≡ dirOf j (goesAlong ties s c t j)
   first-along c t X f = first-x ties s c t (f .apart)
@@ -92,14 +97,10 @@ module _ (ties : ℕ → Bool) (s : Shape) where
   leads-allowed c t dir k =
       rw (k .low) (eq-eqb dir (firstAt ties s c t) (sym (first-along c t (dirDim dir) (k .first) ∙ ap (dirOf (dirDim dir)) (k .way) ∙ of-dir dir (leb-true dir 5 (k .low)))))
 
-  module _ (h : shapeError s ≡ 0) (p dir : ℕ) (at : p < nodeCount s) where
-    pub moved : coordsOf s (neighbour s p dir) ≡ movedAlong s (coordsOf s p) (dirDim dir) (dirPlus dir)
-    unfolding movedAt
-    moved = neighbour-coords s h p at dir
+  -- Of nodes.
+  module _ (h : shapeError s ≡ 0) (p dir : ℕ) (at : p < nodeCount s) (t : ℕ) where
+    pub leads-at : allowedBy ties Deterministic s p t dir ≡ true → Leads (coordsOf s p) (coordsOf s t) dir
+    leads-at a = allowed-leads (coordsOf s p) (coordsOf s t) dir (sym (allowed-at s h p at t ties Deterministic dir) ∙ a)
 
-    module _ (t : ℕ) where
-      pub leads-at : allowedBy ties Deterministic s p t dir ≡ true → Leads (coordsOf s p) (coordsOf s t) dir
-      leads-at a = allowed-leads (coordsOf s p) (coordsOf s t) dir (sym (allowed-at s h p at t ties Deterministic dir) ∙ a)
-
-      pub at-leads : Leads (coordsOf s p) (coordsOf s t) dir → allowedBy ties Deterministic s p t dir ≡ true
-      at-leads k = allowed-at s h p at t ties Deterministic dir ∙ leads-allowed (coordsOf s p) (coordsOf s t) dir k
+    pub at-leads : Leads (coordsOf s p) (coordsOf s t) dir → allowedBy ties Deterministic s p t dir ≡ true
+    at-leads k = allowed-at s h p at t ties Deterministic dir ∙ leads-allowed (coordsOf s p) (coordsOf s t) dir k

@@ -40,19 +40,19 @@ axis-self len true p = omega arith
 axis-self len false p = omega arith
 
 -- ---- the two ways along a dimension, as they compute
-pub plus-in : (len p : ℕ) → p + 1 < len → place len p true ≡ p + 1
+plus-in : (len p : ℕ) → p + 1 < len → place len p true ≡ p + 1
 unfolding place
 plus-in len p h = rw (lt-ltb (p + 1) len h)
 
-pub plus-last : (len p : ℕ) → len ≤ p + 1 → place len p true ≡ 0
+plus-last : (len p : ℕ) → len ≤ p + 1 → place len p true ≡ 0
 unfolding place
 plus-last len p h = rw (le-ltb (p + 1) len h)
 
-pub minus-in : (len p : ℕ) → 0 < p → place len p false ≡ p - 1
+minus-in : (len p : ℕ) → 0 < p → place len p false ≡ p - 1
 unfolding place
 minus-in len p h = rw (lt-ltb 0 p h)
 
-pub minus-first : (len p : ℕ) → p ≤ 0 → place len p false ≡ len - 1
+minus-first : (len p : ℕ) → p ≤ 0 → place len p false ≡ len - 1
 unfolding place
 minus-first len p h = rw (le-ltb 0 p h)
 
@@ -112,7 +112,7 @@ unfolding axisHops
 ring-hops len p q u hp hq w = by-le p q (λ a. let e = w .up a in omega arith) (λ a. let e = w .round a in omega arith)
 
 -- A hop going plus leaves one less of that way, a hop going minus one more.
-pub plus-ahead : (len p q u : ℕ) → p < len → q < len → Ahead len p q (u + 1) → Ahead len (place len p true) q u
+plus-ahead : (len p q u : ℕ) → p < len → q < len → Ahead len p q (u + 1) → Ahead len (place len p true) q u
 plus-ahead len p q u hp hq w =
     split-lt (p + 1) len
     (λ a. rw (plus-in len p a) (by-le p q
@@ -122,7 +122,7 @@ plus-ahead len p q u hp hq w =
     (λ b. let e = w .up b in absurd (omega arith))
     (λ b. let e = w .round b in record { below = omega (arith, w .below); up = λ _. omega arith; round = λ h. absurd (omega arith) })))
 
-pub minus-ahead : (len p q u : ℕ) → p < len → q < len → u + 1 < len → Ahead len p q u → Ahead len (place len p false) q (u + 1)
+minus-ahead : (len p q u : ℕ) → p < len → q < len → u + 1 < len → Ahead len p q u → Ahead len (place len p false) q (u + 1)
 minus-ahead len p q u hp hq k w =
     split-lt 0 p
     (λ a. rw (minus-in len p a) (by-le p q
@@ -221,11 +221,11 @@ back-place len p false h =
     (λ a. rw (minus-in len p a) (plus-in len (p - 1) (omega arith) ∙ omega arith))
     (λ a. rw (minus-first len p a) (plus-last len (len - 1) (omega arith) ∙ omega arith))
 
-pub open-plus-of : (len p : ℕ) → hasLink len false p true ≡ true → p + 1 < len
+open-plus-of : (len p : ℕ) → hasLink len false p true ≡ true → p + 1 < len
 unfolding hasLink
 open-plus-of len p e = ltb-true (p + 1) len e
 
-pub open-minus-of : (len p : ℕ) → hasLink len false p false ≡ true → 0 < p
+open-minus-of : (len p : ℕ) → hasLink len false p false ≡ true → 0 < p
 unfolding hasLink
 open-minus-of len p e = ltb-true 0 p e
 
