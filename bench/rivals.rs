@@ -1,10 +1,10 @@
-//! The planners in plain Rust, `reference/fast.rs` and `reference/shadows.rs` under document 01's rules with E1 and E2, called from here and as programs.
+//! The planners in plain Rust, `reference/fast.rs` and `reference/shadows.rs` under document 01's rules with E1 to E3, called from here and as programs.
 use std::io::Write;
 use std::process::{Command, Stdio};
 
 /// What the two call these rules.
-pub const STAGE: &str = "E2";
-const STAGE_NUMBER: u32 = 2;
+pub const STAGE: &str = "E3";
+const STAGE_NUMBER: u32 = 3;
 
 #[allow(warnings)]
 pub mod fast {

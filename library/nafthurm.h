@@ -13,7 +13,7 @@
  * A call uses at most NAFTHURM_STACK bytes of stack; nafthurm_pair NAFTHURM_STACK_PAIR, nafthurm_write_sheet NAFTHURM_STACK_SHEET,
  * nafthurm_all_sheets NAFTHURM_STACK_ALL and nafthurm_listing NAFTHURM_STACK_LISTING.
  *
- * A field or result `number` is 0, or the number of a refusal, 1 to 16: docs/NUMBERS.md. A call that is refused writes no lent byte, but to a
+ * A field or result `number` is 0, or the number of a refusal, 1 to 17: docs/NUMBERS.md. A call that is refused writes no lent byte, but to a
  * workspace.
  *
  * The checks of a plan are 1 to 6, 16, and then 7 and 8 fault by fault, in this order.
@@ -81,6 +81,13 @@ typedef struct {
     uint16_t next;
     size_t size;
 } nafthurm_run;
+
+/* What converting gives: the bytes written, or the number, with size 0. With 17, entry is the first that cannot be kept, counted from 0; otherwise it is 0. */
+typedef struct {
+    uint8_t number;
+    uint16_t entry;
+    size_t size;
+} nafthurm_converted;
 
 /* A part of a lent sheet: size bytes from byte start on. */
 typedef struct {
@@ -196,8 +203,8 @@ nafthurm_written nafthurm_listing(const uint8_t *input, size_t input_size, uint8
 /* ---- Route sheets; they answer from the sheet alone and never judge its routes against the plan's faults ---- */
 
 /*
- * Version 2 alone is read; any other is 13. A version 1 sheet has the same layout, but its deterministic legs went plus at every half ring: write it anew from
- * the plan in use.
+ * Version 2 alone is read; any other is 13. A version 1 sheet has the same layout, but its deterministic legs went plus at every half ring: nafthurm_convert,
+ * which reads version 1 alone, makes version 2 of it where that keeps its walks.
  */
 
 /* The checks of the plan, then 13 of the sheet: the number of the first that declines, or 0. */
@@ -211,6 +218,16 @@ nafthurm_part nafthurm_lookup(const uint8_t *plan, size_t plan_size, const uint8
 
 /* The destination's route: the checks of a plan, 13, then 9; 10 or 11 for an entry of that kind. A destination that is not listed is direct and adaptive. */
 nafthurm_route nafthurm_lookup_route(const uint8_t *plan, size_t plan_size, const uint8_t *sheet, size_t sheet_size, uint16_t destination);
+
+/*
+ * A version 1 sheet as version 2, its entries' bytes unchanged, into out: the checks of a plan, then 13 for all but a good sheet of version 1, then 17 for an
+ * entry that cannot be kept, then 12. Bytes of out past the sheet are untouched. An entry cannot be kept if it is of kind 11, or if a deterministic leg of it
+ * travels exactly half a ring from an odd coordinate, in any dimension and from that leg's own start: then write the sheet anew from the plan in use.
+ *
+ * A converted sheet stands for the same walks as the old one. Clear legs and first place in the order are claimed only of sheets as planned, by the rule they
+ * were planned under.
+ */
+nafthurm_converted nafthurm_convert(const uint8_t *plan, size_t plan_size, const uint8_t *sheet, size_t sheet_size, uint8_t *out, size_t out_size);
 
 /* ---- Packets ---- */
 

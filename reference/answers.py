@@ -5,11 +5,13 @@
   weights   plan= => weights=                        0,0,0 where a check declines the sheet
   dead      plan= node= direction= => node= link=    1 for dead
   masks     plan= => masks=                          a byte a node, with a bit for each direction whose link is dead
+  lost      plan= sheet= => number= entry=           the converter's number with room enough; with 17 the first entry that cannot be kept,
+                                                     counted from 0, else 0
 """
 import reference as ref
 import vectors
 
-STAGE = ref.E2                 # the last change request that has landed
+STAGE = ref.E3                 # the last change request that has landed
 SHEET_BYTES = 20482            # the largest route sheet
 
 
@@ -119,6 +121,21 @@ def back(plan, sheet, room):
     return vectors.back_answer(STAGE, raw(plan), raw(sheet), int(room), ref.LARGE)
 
 
+def convert(plan, sheet, room):
+    return vectors.back_answer(STAGE, raw(plan), raw(sheet), int(room), ref.LARGE, ref.convert)
+
+
+def lost(plan, sheet):
+    number, _ = ref.convert(STAGE, raw(plan), raw(sheet), bytearray(len(raw(sheet))))
+    return {'number': number, 'entry': first_lost(ref.read_plan(STAGE, raw(plan))[1].shape, raw(sheet)) if number == 17 else 0}
+
+
+def first_lost(shape, sheet):
+    """The first entry that cannot be kept, of a version 1 sheet that has one."""
+    read = ref.read_route_sheet(shape, sheet, [1])
+    return next(i for i, entry in enumerate(read.entries) if not ref.kept(shape, read.source, entry))
+
+
 def run(plan, source, destination, calls):
     number, route = ref.plan_pair(STAGE, raw(plan), int(source), int(destination))
     if number:
@@ -140,7 +157,8 @@ def sheetrun(plan, source, destination, calls):
     return {'number': 0, 'size': size, 'entry': vectors.hex_text(routes[start:end]), **run_fields(shape, int(source), legs, calls_in(calls))}
 
 
-OPERATIONS = {call.__name__: call for call in (step, walk, plan, planback, planwrite, weights, dead, masks, pair, sheet, listing, lookup, back, run, sheetrun)}
+OPERATIONS = {call.__name__: call for call in (step, walk, plan, planback, planwrite, weights, dead, masks, pair, sheet, listing, lookup, back, convert, lost,
+                                               run, sheetrun)}
 
 
 def numbers_text(numbers):

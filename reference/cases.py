@@ -13,16 +13,17 @@ import sys
 
 sys.dont_write_bytecode = True
 import answers
+import conversions
 import reference as ref
 import ties
 import vectors
 import weighed
 from answers import STAGE
-from lines import W, declined_plans, line, plan_of, plan_write, routes_of
+from lines import W, declined_plans, line, of_version, plan_of, plan_write, routes_of
 
 SEED = '1'
-VECTORS = {'step': 400, 'walk': 400, 'plan': 500, 'planback': 300, 'pair': 500, 'sheet': 200, 'lookup': 350, 'back': 200, 'run': 300, 'sheetrun': 250,
-           'listing': 150}
+VECTORS = {'step': 400, 'walk': 400, 'plan': 500, 'planback': 300, 'pair': 500, 'sheet': 200, 'lookup': 350, 'back': 200, 'convert': 150, 'run': 300,
+           'sheetrun': 250, 'listing': 150}
 PLANS = 80                     # plan sheets for dead, masks, weights and planwrite
 RARE = 30                      # pairs whose route is of a kind that the vectors seldom have
 LARGE = 36                     # machines of more nodes than the vectors plan on
@@ -32,6 +33,7 @@ LINE_BYTES = 131072            # conform's line buffer
 # ---- What the documents say: (line, answer)
 
 W_ROUTES = bytes.fromhex('02002c00000008 0001030003 0002020003 0005020004 0006020003 0009020004 000a020003 000d02000c 000e020003')
+W_OLD = bytes.fromhex('01002c00000008 0001030004 0002020003 0005020004 0006020003 0009020004 000a020003 000d02000c 000e020003')
 W_LISTING = ('0 0 - 0 / 1 3 3 3 / 2 2 3 2 / 3 0 - 1 / 4 0 - 1 / 5 2 4 2 / 6 2 3 3 / 7 0 - 2 / 8 0 - 2 / 9 2 4 3 / 10 2 3 4 / 11 0 - 3 / '
              '12 0 - 1 / 13 2 12 2 / 14 2 3 3 / 15 0 - 2')
 
@@ -40,6 +42,7 @@ def worked():
     """The documents' worked lines, in their own words."""
     yield from worked_pairs()
     yield from worked_rows()
+    yield from worked_conversions()
     yield line('listing', input=ref.two(0) + W), 'text=' + vectors.listing_text('0 16 1\n' + W_LISTING.replace(' / ', '\n') + '\n')
     for room, answer in ((47, 'number=0 size=47 out=' + W_ROUTES.hex()), (46, 'number=12 size=0 out=' + 46 * 'ee'),
                          (50, 'number=0 size=47 out=' + W_ROUTES.hex() + 'eeeeee'), (0, 'number=12 size=0 out=-')):
@@ -81,6 +84,20 @@ def worked_rows():
         modes = {'0': 'A', '2': 'AA', '3': 'AD'}[kind]
         legs = ([] if via == '-' else [(via, modes[0])]) + [(node, modes[-1])]
         yield line('pair', plan=W, source=0, destination=node), 'number=0 legs=%s length=%s' % (','.join('%s:%s' % leg for leg in legs), length)
+
+
+def worked_conversions():
+    """Document 01's sheet of W, of version 1, and that of its ring of 4, where 0 to 1 had no clear choice."""
+    new = '02' + W_OLD.hex()[2:]
+    for room, answer in (47, 'number=0 size=47 out=' + new), (46, 'number=12 size=0 out=' + 46 * 'ee'), (48, 'number=0 size=47 out=' + new + 'ee'):
+        yield line('convert', plan=W, sheet=W_OLD, room=room), answer
+    yield line('convert', plan=W, sheet=W_ROUTES, room=47), 'number=13 size=0 out=' + 47 * 'ee'
+    yield line('lost', plan=W, sheet=W_OLD), 'number=0 entry=0'
+    yield line('lookup', plan=W, sheet=W_OLD, destination=1), 'part=0:0 number=13'
+    yield line('lookup', plan=W, sheet=bytes.fromhex(new), destination=1), 'part=7:12 number=0 source=0 legs=4:A,1:D'
+    ring, routes = plan_of([4, 1, 1], 1, (0, 0)), of_version(1, routes_of(0, (1, 11, 0), (2, 2, 3)))
+    yield line('convert', plan=ring, sheet=routes, room=17), 'number=17 size=0 out=' + 17 * 'ee'
+    yield line('lost', plan=ring, sheet=routes), 'number=17 entry=0'
 
 
 # ---- What the vectors lack: lines, answered by the reference
@@ -159,10 +176,14 @@ def alike():
 
 
 def just_outside():
-    """Route sheets whose source, destination or via is the first number that is no node."""
+    """Route sheets whose source, destination or via is the first number that is no node, and sheets and listings from there."""
     for routes in routes_of(16, (5, 1, 0)), routes_of(0, (16, 1, 0)), routes_of(0, (5, 2, 16)):
         yield line('lookup', plan=W, sheet=routes, destination=5)
         yield line('back', plan=W, sheet=routes, room=12)
+    for plan in W, plan_of([4, 4, 1], 3, (15, 3)):
+        yield line('sheet', plan=plan, source=16, room=7)
+        yield line('sheetrun', plan=plan, source=16, destination=0, calls='-')
+        yield line('listing', input=ref.two(16) + plan)
 
 
 def rare():
@@ -245,7 +266,7 @@ def large_sheets():
     yield line('listing', input=ref.two(1000) + plan_of([16, 9, 8], 0, (999, 0)))
 
 
-LACKING = (many_legs, links, plan_cases, refusals, alike, just_outside, rare, large_pairs, large_sheets) + weighed.LACKING + ties.LACKING
+LACKING = (many_legs, links, plan_cases, refusals, alike, just_outside, rare, large_pairs, large_sheets) + weighed.LACKING + ties.LACKING + conversions.LACKING
 
 
 # ---- Lines that no call can be made of
@@ -306,7 +327,7 @@ def unreadable_plans():
 def unreadable_planning():
     plan, routes = 'plan=' + W.hex(), 'sheet=' + W_ROUTES.hex()
     ends = 'source=0 destination=1'
-    for operation in 'pair', 'sheet', 'run', 'sheetrun', 'lookup', 'back':
+    for operation in 'pair', 'sheet', 'run', 'sheetrun', 'lookup', 'back', 'convert', 'lost':
         yield operation
         yield '%s %s' % (operation, plan)
         yield '%s plan=0 %s %s room=50 calls=-' % (operation, ends, routes)
@@ -318,9 +339,13 @@ def unreadable_planning():
     for bad in '', 'destination=x', 'destination=65536':
         yield 'lookup %s %s %s' % (plan, routes, bad)
     yield 'lookup %s sheet=0 destination=1' % plan
-    for bad in '', 'room=', 'room=20545', 'room=4x':
-        yield 'back %s %s %s' % (plan, routes, bad)
-    yield 'back %s sheet= room=50' % plan
+    for operation in 'back', 'convert':
+        for bad in '', 'room=', 'room=20545', 'room=4x':
+            yield '%s %s %s %s' % (operation, plan, routes, bad)
+    for operation in 'back', 'convert', 'lost':
+        yield '%s %s sheet= room=50' % (operation, plan)
+    for operation in 'convert', 'lost':
+        yield '%s %s room=50' % (operation, routes)
     for calls in '', 's', 's0', 's0000', 's0g', 'w0', 'x00', '00', ',', 's02,', ',s02', 's02,,s00', 's02;s00', 'S02', 's02,w00,x', 'w' + 257 * '00':
         for operation in 'run', 'sheetrun':
             yield '%s %s %s calls=%s' % (operation, plan, ends, calls)
@@ -345,6 +370,11 @@ def long():
         yield answered(line('back', plan=cube, sheet=full, room=room))
     for destination in 0, ref.word(full, 3), 2048, 4095, 4096:
         yield answered(line('lookup', plan=cube, sheet=full, destination=destination))
+    for at, room in (4095, 20481), (4095, 20544), (4094, 0), (4094, 20482), (0, 20482):
+        yield answered(line('convert', plan=cube, sheet=conversions.full_sheet(at), room=room))
+    for operation in 'convert', 'lost':
+        yield answered(line(operation, plan=cube, sheet=bytes(20544), **{'room': 0} if operation == 'convert' else {}))
+        yield line(operation, plan=cube, sheet=bytes(20545), room=0), 'unreadable'
 
 
 # ---- The files

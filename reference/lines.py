@@ -22,6 +22,11 @@ def routes_of(source, *entries):
     return ref.sheet_bytes(2, source, [ref.entry_bytes(2, destination, kind, [via]) for destination, kind, via in entries])
 
 
+def of_version(version, routes):
+    """The route sheet with another version byte."""
+    return bytes([version]) + routes[1:]
+
+
 def plan_write(version, extents, wrap, weights, faults, room):
     return line('planwrite', version=version, extents=answers.numbers_text(extents), wrap=wrap, weights=answers.numbers_text(weights),
                 faults=vectors.faults_text(faults), room=room)
@@ -39,16 +44,16 @@ def declined_plans():
     yield plan_of([4, 4, 1], 3, (3, 1), (3, 0))
 
 
-def sheet_from(plan, source):
+def sheet_from(plan, source, stage=STAGE):
     """The route sheet that planning writes."""
-    return ref.planned_sheet(STAGE, ref.read_plan(STAGE, plan)[1], source)
+    return ref.planned_sheet(stage, ref.read_plan(stage, plan)[1], source)
 
 
-def first_way(shape, packet):
+def first_way(shape, packet, stage=STAGE):
     """The lowest direction allowed at each place, until the packet has arrived."""
     way = []
-    while ref.directions(STAGE, shape, packet):
-        way.append(ref.directions(STAGE, shape, packet)[0])
+    while ref.directions(stage, shape, packet):
+        way.append(ref.directions(stage, shape, packet)[0])
         packet = ref.hop(shape, packet, way[-1])
     return bytes(way)
 

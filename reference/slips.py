@@ -1,5 +1,6 @@
 #!/usr/bin/env python3
-"""slips.py [WORDS]: how much the stored test cases notice. One slip at a time is put into reference.py, and the stored cases are answered anew.
+"""slips.py [WORDS]: how much the stored test cases notice. One slip at a time is put into reference.py, or into what answers.py adds to it, and the stored
+cases are answered anew.
 
 Prints for each slip how many cases were answered before one was answered otherwise. Exit 1 where none is. Some minutes; with WORDS only the slips
 whose names have them.
@@ -56,8 +57,24 @@ ABSENT = '        if any(absent):\n'
 LISTED = '        if destination >= shape.nodes or any(v >= shape.nodes for v in vias):'
 VIAS = '        if source in vias or destination in vias'
 FOUND = '    if read is None:\n        return 13, None, None\n    if destination >= plan.nodes:\n        return 9, None, None\n'
+CONVERTS = '    """(number, bytes written): 1 to 8, 13, 17, 12.  Version 1 in, version 2 out."""\n'
+CONVERTED = '    read = read_route_sheet(plan.shape, sheet, [1])\n    if read is None:\n        return 13, 0\n'
+JUDGED = '    if not all(kept(plan.shape, read.source, entry) for entry in read.entries):\n        return 17, 0\n'
+PUT = '    return put(bytes([2]) + bytes(sheet[1:]), out)'
+KEPT = '    number, legs = entry_answer(1, entry)\n    if number == 11:\n        return False\n    if number == 10:\n        return True\n'
+FROM = ("    return not any(mode == 'D' and odd_half_ring(shape, start, target)\n"
+        '                   for start, (target, mode) in zip(starts(source, legs), legs))')
+ODD_HALF = '    return any(shape.wrapped(dim) and 2 * abs(a[dim] - b[dim]) == shape.extents[dim]\n               and a[dim] % 2 == 1 for dim in range(3))'
+LOST = '    return next(i for i, entry in enumerate(read.entries) if not ref.kept(shape, read.source, entry))'
+LOST_NUMBER = ' if number == 17 else 0}'
 
-# What is wrong, the text of reference.py, and what stands there instead.
+
+def read_first(text):
+    """The converter with its sheet changed before it is read and as it was when it is written."""
+    return CONVERTED.replace('sheet, [1]', text + ', [1]')
+
+
+# What is wrong, the text of reference.py or answers.py, and what stands there instead.
 SLIPS = [
     ('packets: a walk is cut at 12 hops', HOPPED, HOPPED + "\n        if hops == 12:\n            return Walked(0, packet, hops, 'used-up')"),
     ('packets: a walk is cut at 45 hops', HOPPED, HOPPED + "\n        if hops == 45:\n            return Walked(0, packet, hops, 'used-up')"),
@@ -252,6 +269,8 @@ SLIPS = [
     ('lookups: a falling destination is accepted', 'destination <= entries[-1]', 'destination == entries[-1]'),
     ('lookups: the via may be the source', VIAS, '        if destination in vias'),
     ('lookups: the via may be the destination', VIAS, '        if source in vias'),
+    ('lookups: a via compared with the ends in one byte', VIAS, VIAS.replace('source in vias', 'any(v % 256 in (source % 256, destination % 256) for v in vias)')),
+    ('lookups: a destination compared with the source in one byte', '        if destination == source: ', '        if destination % 256 == source % 256: '),
     ('lookups: 9 before 13', FOUND, ''.join(FOUND.splitlines(True)[2:] + FOUND.splitlines(True)[:2])),
     ('lookups: a destination just outside is direct', FOUND, FOUND.replace('>=', '>')),
     ('lookups: eight entries alone are searched', 'for entry in read.entries:\n        if entry.destination', 'for entry in read.entries[:8]:\n        if entry.destination'),
@@ -259,6 +278,114 @@ SLIPS = [
     ('lookups: kinds 3 and 4 exchanged', 'if number == kind)', 'if number == {3: 4, 4: 3}.get(kind, kind))'),
     ('lookups: 10 for a dead destination is 11', '        return entry.kind, None', '        return 11, None'),
     ('writing back: 12 before 13', '        return 13, 0\n    version', '        return (12 if len(out) < len(sheet) else 13), 0\n    version'),
+    ('conversions: from even places', ODD_HALF, ODD_HALF.replace('== 1', '== 0')),
+    ('conversions: from every place', ODD_HALF, ODD_HALF.replace('% 2 == 1', '>= 0')),
+    ('conversions: from no place', ODD_HALF, '    return False'),
+    ('conversions: by the node number', ODD_HALF, ODD_HALF.replace('a[dim] % 2', 'start % 2')),
+    ('conversions: by the target\'s coordinate', ODD_HALF, ODD_HALF.replace('a[dim] % 2', 'b[dim] % 2')),
+    ('conversions: by the target\'s number', ODD_HALF, ODD_HALF.replace('a[dim] % 2', 'target % 2')),
+    ('conversions: by the coordinates\' sum', ODD_HALF, ODD_HALF.replace('a[dim] % 2', 'sum(a) % 2')),
+    ('conversions: by X', ODD_HALF, ODD_HALF.replace('a[dim] % 2', 'a[0] % 2')),
+    ('conversions: by the second bit', ODD_HALF, ODD_HALF.replace('a[dim] % 2', 'a[dim] // 2 % 2')),
+    ('conversions: places from 8 on are even', ODD_HALF, ODD_HALF.replace('% 2 == 1', 'in (1, 3, 5, 7)')),
+    ('conversions: the last place is even', ODD_HALF, ODD_HALF.replace('== 1 for', '== 1 and a[dim] < shape.extents[dim] - 1 for')),
+    ('conversions: X alone', ODD_HALF, ODD_HALF.replace('range(3)', 'range(1)')),
+    ('conversions: Y alone', ODD_HALF, ODD_HALF.replace('range(3)', '(1,)')),
+    ('conversions: Z is not judged', ODD_HALF, ODD_HALF.replace('range(3)', 'range(2)')),
+    ('conversions: Y is not judged', ODD_HALF, ODD_HALF.replace('range(3)', '(0, 2)')),
+    ('conversions: the first dimension travelled alone', ODD_HALF, ODD_HALF.replace('range(3)', '[d for d in range(3) if a[d] != b[d]][:1]')),
+    ('conversions: the last dimension travelled alone', ODD_HALF, ODD_HALF.replace('range(3)', '[d for d in range(3) if a[d] != b[d]][-1:]')),
+    ('conversions: all dimensions travelled', ODD_HALF, ODD_HALF.replace('any(', 'all(').replace('range(3)', 'range(3) if a[dim] != b[dim]')),
+    ('conversions: half of an open dimension too', ODD_HALF, ODD_HALF.replace('shape.wrapped(dim) and ', '')),
+    ('conversions: the wrap of X for all', ODD_HALF, ODD_HALF.replace('wrapped(dim)', 'wrapped(0)')),
+    ('conversions: the wrap of the next dimension', ODD_HALF, ODD_HALF.replace('wrapped(dim)', 'wrapped((dim + 1) % 3)')),
+    ('conversions: half and more', ODD_HALF, ODD_HALF.replace('== shape', '>= shape')),
+    ('conversions: half and less', ODD_HALF, ODD_HALF.replace('2 * abs', '0 < 2 * abs').replace('== shape', '<= shape')),
+    ('conversions: rings with no half, one less', ODD_HALF, ODD_HALF.replace('== shape.extents[dim]', '== shape.extents[dim] // 2 * 2')),
+    ('conversions: rings with no half, one more', ODD_HALF, ODD_HALF.replace('== shape.extents[dim]', '== (shape.extents[dim] + 1) // 2 * 2')),
+    ('conversions: half of the extent of X', ODD_HALF, ODD_HALF.replace('shape.extents[dim]', 'shape.extents[0]')),
+    ('conversions: the target behind the start alone', ODD_HALF, ODD_HALF.replace('abs(a[dim] - b[dim])', '(a[dim] - b[dim])')),
+    ('conversions: the target before the start alone', ODD_HALF, ODD_HALF.replace('abs(a[dim] - b[dim])', '(b[dim] - a[dim])')),
+    ('conversions: rings of 4 are kept', ODD_HALF, ODD_HALF.replace('== 1 for', '== 1 and shape.extents[dim] != 4 for')),
+    ('conversions: rings of 6 are kept', ODD_HALF, ODD_HALF.replace('== 1 for', '== 1 and shape.extents[dim] != 6 for')),
+    ('conversions: rings of 8 are kept', ODD_HALF, ODD_HALF.replace('== 1 for', '== 1 and shape.extents[dim] != 8 for')),
+    ('conversions: rings of 10, 12 and 14 are kept', ODD_HALF, ODD_HALF.replace('== 1 for', '== 1 and shape.extents[dim] not in (10, 12, 14) for')),
+    ('conversions: rings of 16 are kept', ODD_HALF, ODD_HALF.replace('== 1 for', '== 1 and shape.extents[dim] != 16 for')),
+    ('conversions: leg two from the source', FROM, FROM.replace('starts(source, legs)', '[source, source]')),
+    ('conversions: both legs from the source to the destination', FROM, FROM.replace('start, target)', 'source, legs[-1][0])')),
+    ('conversions: leg one to the destination', FROM, FROM.replace('start, target)', 'start, legs[-1][0])')),
+    ('conversions: leg one alone', FROM, FROM.replace('zip(starts(source, legs), legs)', 'list(zip(starts(source, legs), legs))[:1]')),
+    ('conversions: the last leg alone', FROM, FROM.replace('zip(starts(source, legs), legs)', 'list(zip(starts(source, legs), legs))[-1:]')),
+    ('conversions: adaptive legs too', FROM, FROM.replace("mode == 'D' and ", '')),
+    ('conversions: adaptive legs alone', FROM, FROM.replace("'D'", "'A'")),
+    ('conversions: kinds 3 and 4 exchanged', FROM, FROM.replace(' legs))', ' [(leg[0], other[1]) for leg, other in zip(legs, legs[::-1])]))')),
+    ('conversions: kind 1 is kept', KEPT, KEPT.replace('number == 10', 'entry.kind in (1, 10)')),
+    ('conversions: kind 3 is kept', KEPT, KEPT.replace('number == 10', 'entry.kind in (3, 10)')),
+    ('conversions: kind 4 is kept', KEPT, KEPT.replace('number == 10', 'entry.kind in (4, 10)')),
+    ('conversions: kind 5 is kept', KEPT, KEPT.replace('number == 10', 'entry.kind in (5, 10)')),
+    ('conversions: kind 5 by one leg is kept', FROM, FROM.replace('any(', '(all if entry.kind == 5 else any)(')),
+    ('conversions: kind 11 is kept', KEPT, KEPT.replace('return False', 'return True')),
+    ('conversions: kind 10 is lost', KEPT, KEPT.replace('return True', 'return False')),
+    ('conversions: kind 11 is kept where there is still no route', JUDGED, JUDGED.replace('entry) for', 'entry) or entry.kind == 11 and '
+     'pair_in(stage, plan, read.source, entry.destination)[0] for')),
+    ('conversions: kind 11 is kept at a dead destination', JUDGED, JUDGED.replace('entry) for', 'entry) or entry.kind == 11 and entry.destination in plan.dead for')),
+    ('conversions: kind 10 is lost where it is not dead', JUDGED, JUDGED.replace('entry) for', 'entry) and (entry.kind != 10 or entry.destination in plan.dead) for')),
+    ('conversions: a dead source is lost', JUDGED, JUDGED.replace('not all', 'read.source in plan.dead or not all')),
+    ('conversions: a dead via is lost', JUDGED, JUDGED.replace('not all', 'any(plan.dead & set(entry.vias) for entry in read.entries) or not all')),
+    ('conversions: legs that are not clear are lost', JUDGED, JUDGED.replace('entry) for', 'entry) and (entry.kind > 9 or all(clear(stage, plan, start, leg) for start, leg in '
+     'zip(starts(read.source, entry_answer(1, entry)[1]), entry_answer(1, entry)[1]))) for')),
+    ('conversions: the first entry alone', JUDGED, JUDGED.replace('read.entries)', 'read.entries[:1])')),
+    ('conversions: the last entry alone', JUDGED, JUDGED.replace('read.entries)', 'read.entries[-1:])')),
+    ('conversions: the last entry is not judged', JUDGED, JUDGED.replace('read.entries)', 'read.entries[:-1])')),
+    ('conversions: 255 entries alone', JUDGED, JUDGED.replace('read.entries)', 'read.entries[:255])')),
+    ('conversions: 4,094 entries alone', JUDGED, JUDGED.replace('read.entries)', 'read.entries[:4094])')),
+    ('conversions: lost only where all entries are', JUDGED, JUDGED.replace('not all(', 'read.entries and not any(')),
+    ('conversions: lost entries are left out', JUDGED + PUT, '    good = [entry for entry in read.entries if kept(plan.shape, read.source, entry)]\n'
+     '    return put(sheet_bytes(2, read.source, [sheet[entry.start:entry.end] for entry in good]), out)'),
+    ('conversions: entries from the first lost one on are left out', JUDGED, '    good = [kept(plan.shape, read.source, entry) for entry in read.entries]\n'
+     '    if not all(good):\n        return put(sheet_bytes(2, read.source, [sheet[entry.start:entry.end] for entry in read.entries[:good.index(False)]]), out)\n'),
+    ('conversions: no entries are 17', JUDGED, JUDGED.replace('not all', 'not read.entries or not all')),
+    ('conversions: no entries are 13', CONVERTED, CONVERTED.replace('read is None', 'read is None or not read.entries')),
+    ('conversions: 17 is 13', JUDGED, JUDGED.replace('17', '13')),
+    ('conversions: 12 before 17', JUDGED, JUDGED.replace('return 17', 'return 12 if len(out) < len(sheet) else 17')),
+    ('conversions: 12 before 13', CONVERTED, CONVERTED.replace('return 13', 'return 12 if len(out) < len(sheet) else 13')),
+    ('conversions: 17 before 13', CONVERTED, CONVERTED.replace('        return', '        for end in range(12, len(sheet) + 1, 5):\n'
+     "            part = read_route_sheet(plan.shape, b'\\1' + two(end - 3) + sheet[3:5] + two((end - 7) // 5) + sheet[7:end], [1])\n"
+     '            if part and not all(kept(plan.shape, part.source, entry) for entry in part.entries):\n                return 17, 0\n        return')),
+    ('conversions: 13 before the plan is checked', CONVERTS, CONVERTS + "    if sheet[:1] != b'\\1' or len(sheet) < 7:\n        return 13, 0\n"),
+    ('conversions: 12 before the plan is checked', CONVERTS, CONVERTS + '    if len(out) < len(sheet):\n        return 12, 0\n'),
+    ('conversions: a refusal writes', JUDGED, JUDGED.replace('        return', '        out[:1] = bytes([2])[:len(out)]\n        return')),
+    ('conversions: 13 writes', CONVERTED, CONVERTED.replace('        return', '        out[:1] = bytes([2])[:len(out)]\n        return')),
+    ('conversions: 12 writes the version', PUT, '    out[:1] = bytes([2])[:len(out)]\n' + PUT),
+    ('conversions: version 1 is written', PUT, PUT.replace('[2]', '[1]')),
+    ('conversions: version 3 is written', PUT, PUT.replace('[2]', '[3]')),
+    ('conversions: one byte more is asked for', PUT, '    if len(out) == len(sheet):\n        return 12, 0\n' + PUT),
+    ('conversions: 256 bytes alone are written', PUT, PUT.replace('sheet[1:])', 'sheet[1:256]) + bytes(out[256:len(sheet)])')),
+    ('conversions: the largest sheet is 13', CONVERTED, CONVERTED.replace('read is None', 'read is None or len(read.entries) == 4095')),
+    ('conversions: kinds 3 and 4 are written exchanged', PUT, '    sheet = bytearray(sheet)\n    for entry in read.entries:\n'
+     '        sheet[entry.start + 2] = {3: 4, 4: 3}.get(entry.kind, entry.kind)\n' + PUT),
+    ('conversions: planned anew', JUDGED + PUT, '    return put(planned_sheet(stage, plan, read.source), out)'),
+    ('conversions: version 2 is read too', CONVERTED, CONVERTED.replace('[1]', '[1, 2]')),
+    ('conversions: version 2 alone is read', CONVERTED, CONVERTED.replace('[1]', '[2]')),
+    ('conversions: version 3 is read too', CONVERTED, read_first("(b'\\1' if sheet[:1] == b'\\3' else sheet[:1]) + sheet[1:]")),
+    ('conversions: version 0 is read too', CONVERTED, read_first("(b'\\1' if sheet[:1] == b'\\0' else sheet[:1]) + sheet[1:]")),
+    ('conversions: any version is read', CONVERTED, read_first("b'\\1' + sheet[1:]")),
+    ('conversions: the version\'s lowest bits', CONVERTED, read_first('bytes([sheet[0] & 127]) + sheet[1:] if sheet else sheet')),
+    ('conversions: bytes behind the sheet', CONVERTED, read_first('sheet[:3 + word(sheet, 1)] if len(sheet) > 6 else sheet')),
+    ('conversions: the length field is not checked', CONVERTED, read_first('sheet[:1] + two(len(sheet) - 3) + sheet[3:] if len(sheet) > 6 else sheet')),
+    ('conversions: the count is not checked', CONVERTED, read_first('sheet[:5] + two((len(sheet) - 7) // 5) + sheet[7:] if len(sheet) > 6 else sheet')),
+    ('conversions: the source in one byte', CONVERTED, read_first("sheet[:3] + b'\\0' + sheet[4:]")),
+    ('conversions: 17 of kind 11 before 13', CONVERTED, CONVERTED.replace('return 13', "return 17 if sheet[:1] == b'\\1' and 11 in sheet[9::5] else 13")),
+    ('lost: the last one', LOST, LOST.replace('next(i', 'max(i')),
+    ('lost: counted from 1', LOST, LOST.replace('next(i', 'next(i + 1')),
+    ('lost: the destination', LOST, LOST.replace('next(i', 'next(entry.destination')),
+    ('lost: where it begins', LOST, LOST.replace('next(i', 'next(entry.start')),
+    ('lost: in one byte', LOST, LOST.replace('next(i', 'next(i % 256')),
+    ('lost: the first deterministic one', LOST, LOST.replace('if not ref.kept(shape, read.source, entry)', 'if entry.kind in (1, 3, 4, 5, 11)')),
+    ('lost: the first of kind 11', LOST, LOST.replace('if not ref.kept(shape, read.source, entry)', 'if entry.kind == 11 or not any(e.kind == 11 for e in read.entries)')),
+    ('lost: how many are kept', LOST, LOST.replace('next(i for i, entry in enumerate(read.entries) if not', 'sum(1 for entry in read.entries if')),
+    ('lost: 17 is told as 13', LOST_NUMBER, " if number == 17 else 0} if number != 17 else {'number': 13, 'entry': 0}"),
+    ('lost: the number of entries where none is', LOST_NUMBER, ' if number == 17 else 0 if number else (len(raw(sheet)) - 7) // 5}'),
 ]
 
 
@@ -276,11 +403,11 @@ def module(name, text):
 
 
 def answers_with(old, new):
-    text = source('reference')
-    assert old in text, old
-    module('reference', text.replace(old, new, 1))
-    module('vectors', source('vectors'))
-    return module('answers', source('answers'))
+    """answers.py, with the slip in the first of the modules that has the text."""
+    texts = {name: source(name) for name in ('reference', 'vectors', 'answers')}
+    slipped = next(name for name in texts if old in texts[name])
+    texts[slipped] = texts[slipped].replace(old, new, 1)
+    return [module(name, text) for name, text in texts.items()][-1]
 
 
 def stored():

@@ -8,7 +8,7 @@ import reference as ref
 import vectors
 import weighed
 from answers import STAGE
-from lines import W, declined_plans, first_way, line, plan_of, routes_of, runs_on, sheet_from
+from lines import W, declined_plans, first_way, line, of_version, plan_of, routes_of, runs_on, sheet_from
 
 SEED = '1'
 RINGS = 4, 6, 16
@@ -277,10 +277,6 @@ def round_rings():
 
 
 # ---- Route sheets of other versions
-
-def of_version(version, routes):
-    return bytes([version]) + routes[1:]
-
 
 def versions():
     """Sheets that are right but for their version: a planned one, one with an entry of each kind, and one without entries. One has entries of seven bytes."""

@@ -2,9 +2,9 @@
  * fuzz [--seed N] [--count N] [--lines]
  *
  * Hands every call of the library made, damaged and random input, and holds it to what is claimed of every input: no byte outside the lent parts is
- * touched, a refusal changes nothing and has the number that the model says, an accepted sheet is written back as the same bytes, each hop and walk is
- * the model's, a planned route is the model's on small plans, its length is the weight of its hops, and its packet, by whatever hops are allowed, arrives after
- * the route's hops without crossing a dead link.
+ * touched, a refusal changes nothing and has the number that the model says, an accepted sheet is written back as the same bytes, an old one is converted where
+ * its walks are the same now, each hop and walk is the model's, a planned route is the model's on small plans, its length is the weight of its hops, and its
+ * packet, by whatever hops are allowed, arrives after the route's hops without crossing a dead link.
  * --lines prints cases with the library's answers instead, for against-reference.
  */
 #include "lent.h"
@@ -21,7 +21,7 @@
 enum { MODEL_NODES = 64 };
 
 static lent plan, sheet, out, work, directions;
-static uint64_t inputs, calls, refused, hops_taken, arrivals, longest, heaviest;
+static uint64_t inputs, calls, refused, converted, not_kept, hops_taken, arrivals, longest, heaviest;
 
 /* What the model says of the lent plan: the number, and the plan where that is 0. */
 static uint8_t plan_refused;
@@ -236,6 +236,9 @@ static size_t entry_at(uint16_t destination) {
     return sheet.size;
 }
 
+/* Of the lent sheet, which is a good one and not empty. */
+static const uint8_t *some_entry(void) { return sheet.bytes + 7 + 5 * below((uint32_t)(sheet.size - 7) / 5); }
+
 /* The lookup in a sheet that is refused with `number`. */
 static nafthurm_route try_lookup(uint8_t number, uint16_t destination) {
     nafthurm_part part = nafthurm_lookup(plan.bytes, plan.size, sheet.bytes, sheet.size, destination);
@@ -254,21 +257,72 @@ static nafthurm_route try_lookup(uint8_t number, uint16_t destination) {
     return r;
 }
 
+/* Converting the lent sheet: its version alone is another. */
+static uint8_t try_convert(size_t room) {
+    static uint8_t wanted_bytes[BYTES_MOST];
+    nafthurm_converted wanted = plan_refused ? (nafthurm_converted){plan_refused, 0, 0} : model_convert(model.shape, sheet.bytes, sheet.size, room);
+    lend_out(room);
+    nafthurm_converted c = nafthurm_convert(plan.bytes, plan.size, sheet.bytes, sheet.size, out.bytes, out.size);
+    check_kept(&sheet);
+    memcpy(wanted_bytes, sheet.copy, sheet.size);
+    wanted_bytes[0] = SHEET_VERSION;
+    check_written((nafthurm_written){c.number, c.size}, wanted.number, wanted_bytes, sheet.size);
+    HOLD(c.entry == wanted.entry);
+    converted += c.number == 0, not_kept += c.number == 17;
+    return c.number;
+}
+
 static void try_sheet(void) {
-    uint8_t number = plan_refused ? plan_refused : sheet_number(model.shape, sheet.bytes, sheet.size);
+    uint8_t number = plan_refused ? plan_refused : sheet_number(model.shape, SHEET_VERSION, sheet.bytes, sheet.size);
     calls++;
     HOLD(nafthurm_sheet_check(plan.bytes, plan.size, sheet.bytes, sheet.size) == number);
     lend_out(some_room(sheet.size));
     check_written(nafthurm_sheet_write_back(plan.bytes, plan.size, sheet.bytes, sheet.size, out.bytes, out.size), number, sheet.copy, sheet.size);
+    try_convert(some_room(sheet.size));
     for (int i = 0; i < 4; i++) {
         int listed = number == 0 && sheet.size > 7 && chance(50);
-        uint16_t destination = listed ? (uint16_t)word(sheet.bytes + 7 + 5 * below((uint32_t)(sheet.size - 7) / 5)) : plan_node();
+        uint16_t destination = listed ? (uint16_t)word(some_entry()) : plan_node();
         nafthurm_route r = try_lookup(number, destination);
         if (r.number != 0) continue;
         nafthurm_packet first = nafthurm_new_packet((uint16_t)word(sheet.bytes + 3), destination, r);
         travel(model.shape, first, destination, 0);
     }
 }
+
+/* ---- Old route sheets ---- */
+
+/* An entry of the lent sheet can be kept exactly where a whole walk of the time when every half ring went plus is one now. */
+static void try_kept(const uint8_t *entry) {
+    if (entry[2] >= 10) return;
+    uint8_t run[RUN_MOST];
+    uint16_t source = (uint16_t)word(sheet.bytes + 3);
+    nafthurm_packet first = nafthurm_new_packet(source, (uint16_t)word(entry), (nafthurm_route){0, entry[2], (uint16_t)word(entry + 3)});
+    half_rule *now = half_plus;
+    half_plus = always_plus;
+    size_t size = whole_run(model.shape, first, run);
+    half_plus = now;
+    HOLD((walk(model.shape, first, run, size).ending == NAFTHURM_ARRIVED) == entry_kept(model.shape, source, entry));
+}
+
+/* By every call; where all entries can be kept, ordinary reading takes the converted sheet. */
+static void try_old_sheet(void) {
+    try_sheet();
+    if (plan_refused != 0 || sheet_number(model.shape, OLD_VERSION, sheet.bytes, sheet.size) != 0) return;
+    for (int i = 0; i < 4 && sheet.size > 7; i++) try_kept(some_entry());
+    if (try_convert(sheet.size) != 0) return;
+    lend(&sheet, out.bytes, out.size);
+    try_sheet();
+}
+
+/* Every length that the sheet can be cut to, up to some bytes. */
+static void try_cut_short(void) {
+    for (size_t size = 0; size < a_sheet.size && size < 200; size++) {
+        lend(&sheet, a_sheet.at, size);
+        try_convert(some_room(size));
+    }
+}
+
+/* ---- Planned sheets ---- */
 
 /* Of each destination, or of so many at random, the lent sheet says what planning the pair says. */
 static void try_planned(uint16_t source, uint32_t destinations) {
@@ -297,7 +351,7 @@ static void try_write_sheet(uint16_t source, uint32_t destinations) {
     }
     lend(&sheet, written, size);
     HOLD(nafthurm_sheet_check(plan.bytes, plan.size, sheet.bytes, sheet.size) == 0);
-    HOLD(sheet_number(model.shape, sheet.bytes, sheet.size) == 0);
+    HOLD(sheet_number(model.shape, SHEET_VERSION, sheet.bytes, sheet.size) == 0);
     HOLD(word(sheet.bytes + 3) == source);
     try_planned(source, destinations);
 }
@@ -415,11 +469,11 @@ static void one_largest(void) {
     nafthurm_shape s = {16, 16, 16, (uint8_t)below(8)};
     if (chance(50)) s = make_limit_plan();
     else make_plan(s, (int)below(20));
-    make_sheet(s, chance(50) ? 100 : 60);
+    (chance(50) ? make_sheet : make_old_sheet)(s, chance(50) ? 100 : 60);
     if (chance(30)) damage_sheet();
     lend_both();
     try_plan();
-    try_sheet();
+    try_old_sheet();
     try_write_sheet(plan_node(), 4);
     try_few_boards();
 }
@@ -480,14 +534,25 @@ static void one_written_sheet(void) {
     if (chance(30)) try_all_sheets();
 }
 
+static nafthurm_shape plan_for_sheets(void) {
+    if (chance(75)) return any_plan(ONE_OF(12, 64, 512), 8);
+    nafthurm_shape s = packet_shape();
+    make_plan(s, (int)below(6));
+    return s;
+}
+
 static void one_sheet(void) {
-    nafthurm_shape s;
-    if (chance(25)) s = packet_shape(), make_plan(s, (int)below(6));
-    else s = any_plan(ONE_OF(12, 64, 512), 8);
-    any_sheet(s, 50);
+    any_sheet(plan_for_sheets(), SHEET_VERSION, 50);
     lend_both();
     try_plan();
     try_sheet();
+}
+
+static void one_old_sheet(void) {
+    any_sheet(plan_for_sheets(), OLD_VERSION, 40);
+    lend_both();
+    try_old_sheet();
+    if (chance(2)) try_cut_short();
 }
 
 static void one_input(uint64_t i) {
@@ -499,7 +564,8 @@ static void one_input(uint64_t i) {
     else if (way < 46) one_pair();
     else if (way < 48) one_long_pair();
     else if (way < 51) one_written_sheet();
-    else if (way < 70) one_sheet();
+    else if (way < 66) one_sheet();
+    else if (way < 78) one_old_sheet();
     else one_packet(), inputs++;
     check_kept(&plan);
     check_kept(&sheet);
@@ -521,7 +587,8 @@ int main(int words, char **word_at) {
     }
     lend_both(), inputs = 0;
     for (uint64_t i = 0; i < count; i++) one_input(i);
-    printf("seed %" PRIu64 ": %" PRIu64 " inputs, %" PRIu64 " calls, %" PRIu64 " refusals, %" PRIu64 " packets brought to their destination in %" PRIu64
-           " hops, at most %" PRIu64 ", by routes of at most length %" PRIu64 "\n", seed, inputs, calls, refused, arrivals, hops_taken, longest, heaviest);
+    printf("seed %" PRIu64 ": %" PRIu64 " inputs, %" PRIu64 " calls, %" PRIu64 " refusals, %" PRIu64 " sheets converted, %" PRIu64 " not for an entry, %" PRIu64
+           " packets brought to their destination in %" PRIu64 " hops, at most %" PRIu64 ", by routes of at most length %" PRIu64 "\n",
+           seed, inputs, calls, refused, converted, not_kept, arrivals, hops_taken, longest, heaviest);
     return 0;
 }

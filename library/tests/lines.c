@@ -108,11 +108,16 @@ static void put_after(const char *line, nafthurm_packet lent_packet, nafthurm_pa
     else put_packet(after);
 }
 
+/* The output after a call that gave the number. */
+static void check_out(uint8_t number) {
+    check_around(&out);
+    if (number != 0) check_kept(&out);
+}
+
 static void put_written(nafthurm_written w) {
     put("number=%d size=%zu out=", w.number, w.size);
     put_hex(out.bytes, out.size);
-    check_around(&out);
-    if (w.number != 0) check_kept(&out);
+    check_out(w.number);
 }
 
 static const char *ending_text(uint8_t ending) {
@@ -225,13 +230,35 @@ static void op_lookup(const char *line) {
     put_legs(nafthurm_new_packet(source, destination, route));
 }
 
-static void op_back(const char *line) {
+/* The plan, the route sheet, and an output of so many bytes. */
+static void lend_to_write(const char *line, size_t room) {
     lend_field(&plan, line, "plan");
     lend_field(&sheet, line, "sheet");
-    lend_filled(&out, 0xEE, number(line, "room"));
+    lend_filled(&out, 0xEE, room);
+}
+
+static void op_back(const char *line) {
+    lend_to_write(line, number(line, "room"));
     nafthurm_written w = nafthurm_sheet_write_back(plan.bytes, plan.size, sheet.bytes, sheet.size, out.bytes, out.size);
     HOLD((w.number == 0 || w.number == 12) == (nafthurm_sheet_check(plan.bytes, plan.size, sheet.bytes, sheet.size) == 0));
     put_written(w);
+}
+
+static nafthurm_converted converted(const char *line, size_t room) {
+    lend_to_write(line, room);
+    return nafthurm_convert(plan.bytes, plan.size, sheet.bytes, sheet.size, out.bytes, out.size);
+}
+
+static void op_convert(const char *line) {
+    nafthurm_converted c = converted(line, number(line, "room"));
+    put_written((nafthurm_written){c.number, c.size});
+}
+
+/* The first entry that cannot be kept, where the output is long enough for any sheet. */
+static void op_lost(const char *line) {
+    nafthurm_converted c = converted(line, NAFTHURM_SHEET_BYTES);
+    check_out(c.number);
+    put("number=%d entry=%d", c.number, c.entry);
 }
 
 /* The step or walk that `call` spells with `size` characters, on the packet: `s` and a direction, or `w` and a run of them. Gives the packet after it. */
@@ -302,8 +329,8 @@ int answer_line(const char *line, char answer[ANSWER_MOST]) {
         const char *name;
         void (*op)(const char *line);
     } ops[] = {{"step", op_step}, {"walk", op_walk}, {"plan", op_plan}, {"planback", op_planback}, {"weights", op_weights}, {"dead", op_dead},
-               {"masks", op_masks}, {"pair", op_pair}, {"sheet", op_sheet}, {"listing", op_listing}, {"lookup", op_lookup}, {"back", op_back}, {"run", op_run},
-               {"sheetrun", op_sheetrun}};
+               {"masks", op_masks}, {"pair", op_pair}, {"sheet", op_sheet}, {"listing", op_listing}, {"lookup", op_lookup}, {"back", op_back},
+               {"convert", op_convert}, {"lost", op_lost}, {"run", op_run}, {"sheetrun", op_sheetrun}};
     size_t name = text_size(line);
     for (size_t i = 0; i < sizeof ops / sizeof *ops; i++) {
         if (strlen(ops[i].name) != name || strncmp(ops[i].name, line, name) != 0) continue;

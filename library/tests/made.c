@@ -418,10 +418,18 @@ ends some_ends(nafthurm_shape s) {
 
 static uint16_t other_node(nafthurm_shape s, int one, int two) {
     for (;;) {
-        uint16_t node = some_node(s, (uint16_t)one);
+        uint16_t node = some_node(s, (uint16_t)(chance(50) ? one : two));
         if (node == one || node == two) node = (uint16_t)below((uint32_t)nodes_of(s));
         if (node != one && node != two) return node;
     }
+}
+
+/* Puts a route to the destination, or none. */
+static void make_entry(nafthurm_shape s, size_t at, int source, int destination) {
+    int kind = nodes_of(s) < 3 ? ONE_OF(1, 10, 11) : ONE_OF(1, 2, 3, 4, 5, 10, 11);
+    put_word(&a_sheet, at, (size_t)destination);
+    a_sheet.at[at + 2] = (uint8_t)kind;
+    put_word(&a_sheet, at + 3, kind >= 2 && kind <= 5 ? other_node(s, source, destination) : 0);
 }
 
 void make_sheet(nafthurm_shape s, uint32_t listed) {
@@ -429,10 +437,7 @@ void make_sheet(nafthurm_shape s, uint32_t listed) {
     size_t size = 7;
     for (int d = 0; d < nodes; d++) {
         if (d == source || !chance(listed)) continue;
-        int kind = nodes < 3 ? ONE_OF(1, 10, 11) : ONE_OF(1, 2, 3, 4, 5, 10, 11);
-        put_word(&a_sheet, size, (size_t)d);
-        a_sheet.at[size + 2] = (uint8_t)kind;
-        put_word(&a_sheet, size + 3, kind >= 2 && kind <= 5 ? other_node(s, source, d) : 0);
+        make_entry(s, size, source, d);
         size += 5;
     }
     a_sheet.at[0] = SHEET_VERSION;
@@ -440,6 +445,22 @@ void make_sheet(nafthurm_shape s, uint32_t listed) {
     put_word(&a_sheet, 3, (size_t)source);
     put_word(&a_sheet, 5, (size - 7) / 5);
     a_sheet.size = size;
+}
+
+/* Makes the entry anew until it can be kept, or cannot be: by its legs, if some tries find such. */
+static void remake_entry(nafthurm_shape s, size_t at, int kept) {
+    int source = (int)word(a_sheet.at + 3), tries = 40;
+    while (entry_kept(s, source, a_sheet.at + at) != kept || (a_sheet.at[at + 2] == 11 && tries-- > 0)) make_entry(s, at, source, (int)word(a_sheet.at + at));
+}
+
+void make_old_sheet(nafthurm_shape s, uint32_t listed) {
+    make_sheet(s, listed);
+    a_sheet.at[0] = OLD_VERSION;
+    uint32_t count = (uint32_t)(a_sheet.size - 7) / 5, way = below(100);
+    if (count == 0 || way < 10) return;
+    for (size_t at = 7; at < a_sheet.size; at += 5)
+        if (way >= 25 || a_sheet.at[at + 2] == 11) remake_entry(s, at, 1);
+    if (way >= 25 && way < 60) remake_entry(s, 7 + 5 * below(count), 0);
 }
 
 /* One thing that the layout does not allow, in an entry that is otherwise good. */
@@ -462,11 +483,13 @@ static void hurt_entry(nafthurm_shape s) {
 
 void damage_sheet(void) { damage(&a_sheet, 7, 5); }
 
-void any_sheet(nafthurm_shape s, uint32_t damaged) {
-    make_sheet(s, nodes_of(s) > 64 ? (uint32_t)ONE_OF(0, 1, 5) : (uint32_t)ONE_OF(0, 10, 50, 100));
+void any_sheet(nafthurm_shape s, int version, uint32_t damaged) {
+    uint32_t listed = (uint32_t)(nodes_of(s) > 64 ? ONE_OF(0, 1, 5) : ONE_OF(0, 10, 50, 100));
+    if (version == OLD_VERSION) make_old_sheet(s, chance(10) ? 100 : listed);
+    else make_sheet(s, listed);
     if (!chance(damaged)) return;
     uint32_t way = below(100);
-    if (way < 10) a_sheet.at[0] = (uint8_t)ONE_OF(0, 1, 1, 3, 3, 255); /* a good sheet but for its version */
+    if (way < 10) a_sheet.at[0] = (uint8_t)ONE_OF(0, 3 - version, 3 - version, 3, 3, 255); /* a good sheet but for its version */
     else if (way < 55) hurt_entry(s);
     else
         for (uint32_t n = 1 + below(3); n > 0; n--) damage_sheet();
@@ -537,8 +560,7 @@ uint8_t some_direction(nafthurm_shape s, nafthurm_packet packet) {
     return first;
 }
 
-/* Allowed directions until the packet has arrived. */
-static size_t whole_run(nafthurm_shape s, nafthurm_packet packet, uint8_t run[RUN_MOST]) {
+size_t whole_run(nafthurm_shape s, nafthurm_packet packet, uint8_t run[RUN_MOST]) {
     size_t size = 0;
     for (; dropped(packet).left > 0; size++) {
         run[size] = some_direction(s, packet);

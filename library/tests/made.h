@@ -73,9 +73,13 @@ ends some_ends(nafthurm_shape s);
 /* At an end of the machine in each dimension. */
 uint16_t corner(nafthurm_shape s);
 
-/* A route sheet in a_sheet with routes that nobody planned, `listed` % of the destinations; any_sheet: then damaged. */
+/*
+ * A route sheet in a_sheet with routes that nobody planned, `listed` % of the destinations. Of an old sheet, which is of version 1, mostly all entries can be kept,
+ * or all but one. any_sheet makes one of either version, then damaged.
+ */
 void make_sheet(nafthurm_shape s, uint32_t listed);
-void any_sheet(nafthurm_shape s, uint32_t damaged);
+void make_old_sheet(nafthurm_shape s, uint32_t listed);
+void any_sheet(nafthurm_shape s, int version, uint32_t damaged);
 void damage_sheet(void);
 
 size_t some_room(size_t size);
@@ -96,5 +100,8 @@ enum { RUN_MOST = 320 };
 size_t made_run(nafthurm_shape s, nafthurm_packet packet, uint8_t run[RUN_MOST]);
 
 uint8_t some_direction(nafthurm_shape s, nafthurm_packet packet);
+
+/* Allowed directions until the packet has arrived: how many. */
+size_t whole_run(nafthurm_shape s, nafthurm_packet packet, uint8_t run[RUN_MOST]);
 
 #endif

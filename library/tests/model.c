@@ -47,6 +47,8 @@ static int from_even(nafthurm_shape s, int node, int target, int dim) {
 
 half_rule *half_plus = from_even;
 
+int always_plus(nafthurm_shape s, int node, int target, int dim) { return (void)s, (void)node, (void)target, (void)dim, 1; }
+
 /* The direction of a deterministic leg that travels in the dimension. */
 static int way(nafthurm_shape s, int node, int target, int dim) {
     int plus = useful(s, node, target, 2 * dim), minus = useful(s, node, target, 2 * dim + 1);
@@ -124,8 +126,8 @@ static int entry_good(nafthurm_shape s, size_t source, const uint8_t *entry) {
     return kind >= 2 && kind <= 5 && via < nodes && via != source && via != destination;
 }
 
-uint8_t sheet_number(nafthurm_shape s, const uint8_t *sheet, size_t size) {
-    if (size < 7 || sheet[0] != SHEET_VERSION) return 13;
+uint8_t sheet_number(nafthurm_shape s, int version, const uint8_t *sheet, size_t size) {
+    if (size < 7 || sheet[0] != version) return 13;
     if (word(sheet + 1) != size - 3 || word(sheet + 1) != 4 + 5 * word(sheet + 5)) return 13;
     if (word(sheet + 3) >= (size_t)nodes_of(s)) return 13;
     for (const uint8_t *entry = sheet + 7; entry < sheet + size; entry += 5) {
@@ -133,6 +135,36 @@ uint8_t sheet_number(nafthurm_shape s, const uint8_t *sheet, size_t size) {
         if (entry > sheet + 7 && word(entry) <= word(entry - 5)) return 13;
     }
     return 0;
+}
+
+/* ---- Old route sheets ---- */
+
+int travels_half(nafthurm_shape s, int from, int to, int dim) { return wrapped(s, dim) && 2 * hops_along(s, dim, from, to) == extent(s, dim); }
+
+/* Whether a deterministic leg goes another way than it did: at half a ring from an odd coordinate. */
+static int goes_otherwise(nafthurm_shape s, int from, int to) {
+    for (int dim = 0; dim < 3; dim++)
+        if (travels_half(s, from, to, dim) && place(s, from, dim) % 2 == 1) return 1;
+    return 0;
+}
+
+int entry_kept(nafthurm_shape s, int source, const uint8_t *entry) {
+    int destination = (int)word(entry), via = (int)word(entry + 3);
+    switch (entry[2]) {
+    case 1: return !goes_otherwise(s, source, destination);
+    case 3: return !goes_otherwise(s, via, destination);
+    case 4: return !goes_otherwise(s, source, via);
+    case 5: return !goes_otherwise(s, source, via) && !goes_otherwise(s, via, destination);
+    case 11: return 0; /* there may be a route now */
+    default: return 1; /* 2 has no deterministic leg, 10 no leg */
+    }
+}
+
+nafthurm_converted model_convert(nafthurm_shape s, const uint8_t *sheet, size_t size, size_t room) {
+    if (sheet_number(s, OLD_VERSION, sheet, size) != 0) return (nafthurm_converted){13, 0, 0};
+    for (size_t entry = 0; 7 + 5 * entry < size; entry++)
+        if (!entry_kept(s, (int)word(sheet + 3), sheet + 7 + 5 * entry)) return (nafthurm_converted){17, (uint16_t)entry, 0};
+    return room < size ? (nafthurm_converted){12, 0, 0} : (nafthurm_converted){0, 0, size};
 }
 
 /* ---- Packets ---- */

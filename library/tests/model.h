@@ -1,4 +1,4 @@
-/* What document 01 with E1 and E2 says, told plainly and from the bytes alone: the tests hold the library to it. Slow, and meant to be read. */
+/* What document 01 with E1, E2 and E3 says, told plainly and from the bytes alone: the tests hold the library to it. Slow, and meant to be read. */
 #ifndef MODEL_H
 #define MODEL_H
 
@@ -21,9 +21,12 @@ int over(nafthurm_shape s, int node, int direction);
 int hops(nafthurm_shape s, int from, int to);
 int distance(nafthurm_shape s, nafthurm_weights w, int from, int to);
 
-/* Whether a deterministic leg goes plus where the target is half a ring away in the dimension. wrong.c sets other rules, call by call. */
+/* Whether a deterministic leg goes plus where the target is half a ring away in the dimension. The tests set other rules, call by call. */
 typedef int half_rule(nafthurm_shape s, int node, int target, int dim);
 extern half_rule *half_plus;
+
+/* The rule that route sheets of version 1 were planned under. */
+half_rule always_plus;
 
 /* Whether a leg to the target, deterministic if `mode` is not 0, may take the direction. */
 int leg_allows(nafthurm_shape s, int node, int target, int mode, int direction);
@@ -39,11 +42,22 @@ size_t head_size(int version);
 int fault_exists(nafthurm_shape s, size_t node, int kind);
 uint8_t plan_number(const uint8_t *plan, size_t size);
 
-/* The version of route sheets. */
-enum { SHEET_VERSION = 2 };
+/* The version of route sheets, and the one before it, which the converter alone reads. */
+enum { OLD_VERSION = 1, SHEET_VERSION = 2 };
 
-/* 13 or 0, under a plan of this shape. */
-uint8_t sheet_number(nafthurm_shape s, const uint8_t *sheet, size_t size);
+/* 13 or 0, of a sheet that is to have the version, under a plan of this shape. */
+uint8_t sheet_number(nafthurm_shape s, int version, const uint8_t *sheet, size_t size);
+
+/* ---- Old route sheets ---- */
+
+/* Whether a leg travels exactly half a ring in the dimension. */
+int travels_half(nafthurm_shape s, int from, int to, int dim);
+
+/* Whether an entry of a good version 1 sheet from the source can be kept. */
+int entry_kept(nafthurm_shape s, int source, const uint8_t *entry);
+
+/* Under an accepted plan of this shape, into so many bytes. */
+nafthurm_converted model_convert(nafthurm_shape s, const uint8_t *sheet, size_t size, size_t room);
 
 /* ---- Packets ---- */
 

@@ -99,16 +99,22 @@ static void run_line(const char *operation, int most) {
 /* ---- Plans and sheets ---- */
 
 /* Sheets of plans of any size: nothing is planned. */
-static void route_line(int back) {
+static nafthurm_shape route_line(const char *operation, int version) {
     nafthurm_shape s = chance(25) ? packet_shape() : made_shape(64);
     make_plan(s, (int)below(6));
     if (chance(8)) s = any_plan(64, 100);
-    any_sheet(s, 50);
-    say(back ? "back" : "lookup");
+    any_sheet(s, version, 50);
+    say("%s", operation);
     say_plan();
     say_bytes("sheet", &a_sheet);
-    if (back) say(" room=%zu", some_room(a_sheet.size));
-    else say(" destination=%d", a_sheet.size > 12 && chance(50) ? (int)word(a_sheet.at + 7 + 5 * below((uint32_t)(a_sheet.size - 7) / 5)) : any_node(nodes_of(s)));
+    return s;
+}
+
+static void say_room(void) { say(" room=%zu", some_room(a_sheet.size)); }
+
+static void lookup_line(void) {
+    nafthurm_shape s = route_line("lookup", SHEET_VERSION);
+    say(" destination=%d", a_sheet.size > 12 && chance(50) ? (int)word(a_sheet.at + 7 + 5 * below((uint32_t)(a_sheet.size - 7) / 5)) : any_node(nodes_of(s)));
 }
 
 /* A plan on which the reference is quick. */
@@ -166,16 +172,18 @@ static void plan_line(void) {
 
 static void make_line(void) {
     used = 0;
-    switch (below(11)) {
+    switch (below(13)) {
     case 0: pair_line(); break;
     case 1: sheet_line(); break;
     case 2: listing_line(); break;
     case 3: run_line("run", 64); break;
     case 4: run_line("sheetrun", 32); break;
-    case 5: route_line(0); break;
-    case 6: route_line(1); break;
-    case 7: packet_line(0); break;
-    case 8: packet_line(1); break;
+    case 5: lookup_line(); break;
+    case 6: route_line("back", SHEET_VERSION), say_room(); break;
+    case 7: route_line("convert", OLD_VERSION), say_room(); break;
+    case 8: route_line("lost", OLD_VERSION); break;
+    case 9: packet_line(0); break;
+    case 10: packet_line(1); break;
     default: plan_line(); break;
     }
 }

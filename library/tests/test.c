@@ -1,4 +1,7 @@
-/* Document 01's worked machine W and its edges, a machine with weights, and half rings, through the C interface; sizes of the forms, and the stack that each call uses. */
+/*
+ * Document 01's worked machine W and its edges, a machine with weights, half rings, and old route sheets, through the C interface; sizes of the forms, and the
+ * stack that each call uses.
+ */
 #include "lent.h"
 #include "nafthurm.h"
 
@@ -10,6 +13,12 @@ static const uint8_t W[] = {0x01, 0x00, 0x09, 0x04, 0x04, 0x01, 0x03, 0x00, 0x01
 static const uint8_t W_SHEET[] = {
     0x02, 0x00, 0x2C, 0x00, 0x00, 0x00, 0x08,
     0x00, 0x01, 0x03, 0x00, 0x03, 0x00, 0x02, 0x02, 0x00, 0x03, 0x00, 0x05, 0x02, 0x00, 0x04, 0x00, 0x06, 0x02, 0x00, 0x03,
+    0x00, 0x09, 0x02, 0x00, 0x04, 0x00, 0x0A, 0x02, 0x00, 0x03, 0x00, 0x0D, 0x02, 0x00, 0x0C, 0x00, 0x0E, 0x02, 0x00, 0x03};
+
+/* The same of version 1, as document 01 has it. */
+static const uint8_t W_OLD_SHEET[] = {
+    0x01, 0x00, 0x2C, 0x00, 0x00, 0x00, 0x08,
+    0x00, 0x01, 0x03, 0x00, 0x04, 0x00, 0x02, 0x02, 0x00, 0x03, 0x00, 0x05, 0x02, 0x00, 0x04, 0x00, 0x06, 0x02, 0x00, 0x03,
     0x00, 0x09, 0x02, 0x00, 0x04, 0x00, 0x0A, 0x02, 0x00, 0x03, 0x00, 0x0D, 0x02, 0x00, 0x0C, 0x00, 0x0E, 0x02, 0x00, 0x03};
 
 /* W with another dead link, 3 X+, and of version 2: X weighs 3. */
@@ -53,6 +62,7 @@ static void forms(void) {
     HOLD(sizeof(nafthurm_route) == 4);
     HOLD(sizeof(nafthurm_planned) == 6);
     HOLD(sizeof(nafthurm_run) == 16);
+    HOLD(sizeof(nafthurm_converted) == 16);
     HOLD(NAFTHURM_ALL_WORDS == 4096 * NAFTHURM_ALL_WORDS_A_BOARD);
 }
 
@@ -399,7 +409,7 @@ static void worked_lookups(void) {
     HOLD(nafthurm_sheet_check(plan.bytes, plan.size, sheet.bytes, sheet.size) == 13);
 }
 
-/* W's sheet with each other version byte, 1 among them, is 13 by every call that reads it. */
+/* W's sheet with each other version byte, 1 among them, is 13 by every call that reads it. The converter takes 1 alone, and finds 17 in the first entry, by 3. */
 static void sheet_versions(void) {
     uint8_t bytes[sizeof W_SHEET];
     memcpy(bytes, W_SHEET, sizeof bytes);
@@ -415,9 +425,119 @@ static void sheet_versions(void) {
         HOLD(nafthurm_lookup_route(plan.bytes, plan.size, sheet.bytes, sheet.size, 7).number == number);
         HOLD(nafthurm_sheet_write_back(plan.bytes, plan.size, sheet.bytes, sheet.size, out.bytes, out.size).number == number);
         if (number != 0) check_kept(&out);
+        lend_filled(&out, 0xEE, sizeof bytes);
+        HOLD(nafthurm_convert(plan.bytes, plan.size, sheet.bytes, sheet.size, out.bytes, out.size).number == (version == 1 ? 17 : 13));
+        check_kept(&out);
         check_kept(&sheet);
     }
     check_kept(&plan);
+}
+
+/* ---- Old route sheets ---- */
+
+static nafthurm_converted convert(const uint8_t *bytes, size_t size, size_t room) {
+    lend(&sheet, bytes, size);
+    lend_filled(&out, 0xEE, room);
+    nafthurm_converted c = nafthurm_convert(plan.bytes, plan.size, sheet.bytes, sheet.size, out.bytes, out.size);
+    check_kept(&plan);
+    check_kept(&sheet);
+    check_around(&out);
+    if (c.number != 0) check_kept(&out);
+    return c;
+}
+
+static void is_converted(const uint8_t *bytes, size_t size) {
+    for (size_t room = 0; room < size + 8; room++) {
+        nafthurm_converted c = convert(bytes, size, room);
+        HOLD(c.entry == 0);
+        HOLD(c.number == (room < size ? 12 : 0) && c.size == (room < size ? 0 : size));
+        if (room < size) continue;
+        HOLD(out.bytes[0] == 2 && memcmp(out.bytes + 1, bytes + 1, size - 1) == 0);
+        for (size_t i = size; i < room; i++) HOLD(out.bytes[i] == 0xEE);
+    }
+}
+
+/* With whatever room. */
+static void is_not_converted(const uint8_t *bytes, size_t size, uint8_t number, uint16_t entry) {
+    for (size_t room = 0; room < size + 8; room++) {
+        nafthurm_converted c = convert(bytes, size, room);
+        HOLD(c.number == number && c.entry == entry && c.size == 0);
+    }
+}
+
+/* Ordinary reading takes the converted sheet, which leads from 0 to 1 by 4 as the old one did; planning now leads by 3. */
+static void worked_conversion(void) {
+    uint8_t bytes[sizeof W_OLD_SHEET + 1] = {0};
+    memcpy(bytes, W_OLD_SHEET, sizeof W_OLD_SHEET);
+    lend(&plan, W, sizeof W);
+    is_converted(bytes, sizeof W_OLD_SHEET);
+    HOLD(convert(bytes, sizeof W_OLD_SHEET, sizeof W_OLD_SHEET).number == 0);
+    nafthurm_route r = nafthurm_lookup_route(plan.bytes, plan.size, out.bytes, out.size, 1);
+    HOLD(r.number == 0 && r.kind == 3 && r.via == 4);
+    HOLD(nafthurm_lookup_route(plan.bytes, plan.size, sheet.bytes, sheet.size, 1).number == 13);
+    for (size_t size = 0; size < sizeof W_OLD_SHEET; size++) is_not_converted(bytes, size, 13, 0);
+    is_not_converted(bytes, sizeof bytes, 13, 0);
+    const uint8_t none[] = {1, 0, 4, 0, 15, 0, 0};
+    is_converted(none, sizeof none);
+
+    /* Kind 11 in the last entry but one; then 13 of the last comes first, and of all that of the plan. */
+    bytes[39] = 11, bytes[41] = 0;
+    is_not_converted(bytes, sizeof W_OLD_SHEET, 17, 6);
+    bytes[44] = 12;
+    is_not_converted(bytes, sizeof W_OLD_SHEET, 13, 0);
+    lend(&plan, W, sizeof W - 1);
+    is_not_converted(bytes, sizeof W_OLD_SHEET, 4, 0);
+}
+
+/* Sheets that planning wrote when every half ring went plus: of a ring with one dead link, from a source. */
+static void old_rings(void) {
+    uint8_t ring[] = {1, 0, 9, 4, 1, 1, 1, 0, 1, 0, 0, 0};
+    const uint8_t of_4_from_0[] = {1, 0, 14, 0, 0, 0, 2, 0, 1, 11, 0, 0, 0, 2, 2, 0, 3}, of_4_from_1[] = {1, 0, 14, 0, 1, 0, 2, 0, 0, 3, 0, 2, 0, 3, 2, 0, 2};
+    lend(&plan, ring, sizeof ring);
+    is_not_converted(of_4_from_0, sizeof of_4_from_0, 17, 0);
+    is_converted(of_4_from_1, sizeof of_4_from_1);
+    const uint8_t of_6_from_1[] = {1, 0, 19, 0, 1, 0, 3, 0, 0, 3, 0, 3, 0, 4, 2, 0, 2, 0, 5, 2, 0, 3};
+    ring[3] = 6;
+    lend(&plan, ring, sizeof ring);
+    is_not_converted(of_6_from_1, sizeof of_6_from_1, 17, 0);
+    const uint8_t of_8_from_2[] = {1, 0, 24, 0, 2, 0, 4, 0, 0, 2, 0, 5, 0, 1, 3, 0, 5, 0, 6, 2, 0, 3, 0, 7, 2, 0, 4};
+    ring[3] = 8, ring[10] = 1;
+    lend(&plan, ring, sizeof ring);
+    is_not_converted(of_8_from_2, sizeof of_8_from_2, 17, 1);
+}
+
+/* Whether a sheet of one entry is converted, or else 17. */
+static int keeps(int source, int destination, int kind, int via) {
+    const uint8_t bytes[] = {1, 0, 9, 0, (uint8_t)source, 0, 1, 0, (uint8_t)destination, (uint8_t)kind, 0, (uint8_t)via};
+    nafthurm_converted c = convert(bytes, sizeof bytes, sizeof bytes);
+    HOLD(c.number == 0 || c.number == 17);
+    return c.number == 0;
+}
+
+/* Entries whose legs travel half the ring, from one place of it, or less. */
+static void half_ring_entries(int stride, int length, int from) {
+    int here = from * stride, half = (from + length / 2) % length * stride, next = (from + 1) % length * stride, even = from % 2 == 0;
+    HOLD(keeps(here, half, 1, 0) == even);
+    HOLD(keeps(here, next, 4, half) == even);
+    HOLD(keeps(here, next, 5, half) == even);
+    HOLD(keeps(next, half, 3, here) == even);
+    HOLD(keeps(next, half, 5, here) == even);
+    HOLD(keeps(here, half, 2, next));
+    HOLD(keeps(here, next, 3, half));
+    HOLD(keeps(next, half, 4, here));
+    HOLD(keeps(here, (from + length / 2 - 1) % length * stride, 1, 0));
+    HOLD(keeps(here, half, 10, 0));
+    HOLD(!keeps(here, half, 11, 0));
+}
+
+/* In each dimension and of every even length, from every place; along Y and Z the node number is even whatever the coordinate. */
+static void half_ring_conversions(void) {
+    for (int dim = 0; dim < 3; dim++)
+        for (int length = 4; length <= 16; length += 2) {
+            const uint8_t bytes[] = {1, 0, 6, (uint8_t)(dim == 0 ? length : 4), (uint8_t)(dim == 1 ? length : 3), (uint8_t)(dim == 2 ? length : 5), 7, 0, 0};
+            lend(&plan, bytes, sizeof bytes);
+            for (int from = 0; from < length; from++) half_ring_entries(dim == 0 ? 1 : dim == 1 ? 4 : 12, length, from);
+        }
 }
 
 static int same_packet(nafthurm_packet a, nafthurm_packet b) {
@@ -537,7 +657,8 @@ static void half_ring_route(void) {
 /* ---- The stack ---- */
 
 static uint8_t stack[1 << 18] __attribute__((aligned(64)));
-static uint8_t big_input[2 + NAFTHURM_PLAN_BYTES], *const big_plan = big_input + 2, big_sheet[NAFTHURM_SHEET_BYTES], big_out[NAFTHURM_LISTING_BYTES], run_of_45[45];
+static uint8_t big_input[2 + NAFTHURM_PLAN_BYTES], *const big_plan = big_input + 2, big_sheet[NAFTHURM_SHEET_BYTES], big_old[NAFTHURM_SHEET_BYTES];
+static uint8_t big_out[NAFTHURM_LISTING_BYTES], run_of_45[45];
 static uint16_t big_work[NAFTHURM_ALL_WORDS];
 static size_t big_sheet_size;
 static ucontext_t back, on_stack;
@@ -565,6 +686,7 @@ static void calls_sheet_write_back(void) {
 }
 static void calls_lookup(void) { answer = nafthurm_lookup(big_plan, NAFTHURM_PLAN_BYTES, big_sheet, big_sheet_size, 4000).size; }
 static void calls_lookup_route(void) { answer = nafthurm_lookup_route(big_plan, NAFTHURM_PLAN_BYTES, big_sheet, big_sheet_size, 4000).kind; }
+static void calls_convert(void) { answer = nafthurm_convert(big_plan, NAFTHURM_PLAN_BYTES, big_old, sizeof big_old, big_out, sizeof big_out).size; }
 static void calls_packet_check(void) { answer = nafthurm_packet_check(CUBE, TWO_LEGS); }
 static void calls_step(void) { answer = nafthurm_step(CUBE, TWO_LEGS, 0).number; }
 static void calls_walk(void) { answer = nafthurm_walk(CUBE, TWO_LEGS, run_of_45, sizeof run_of_45).hops; }
@@ -583,6 +705,18 @@ static size_t stack_of(void (*call)(void)) {
     return sizeof stack - untouched;
 }
 
+/* The largest old sheet, from 0 by 2, all legs deterministic: both begin at even coordinates. */
+static void make_big_old(void) {
+    const uint8_t head[] = {1, 0x4F, 0xFF, 0, 0, 0x0F, 0xFF};
+    memcpy(big_old, head, sizeof head);
+    for (int d = 1; d < 4096; d++) {
+        const uint8_t entry[] = {(uint8_t)(d >> 8), (uint8_t)d, d == 2 ? 1 : 5, 0, d == 2 ? 0 : 2};
+        memcpy(big_old + 2 + 5 * d, entry, sizeof entry);
+    }
+    calls_convert();
+    HOLD(answer == sizeof big_old);
+}
+
 /* The largest plan: every fault a dead link, no two of one node. */
 static void make_big(void) {
     const uint8_t head[] = {2, 3, 9, 16, 16, 16, 7, 1, 1, 3, 1, 0};
@@ -595,11 +729,12 @@ static void make_big(void) {
     nafthurm_written w = nafthurm_write_sheet(big_plan, NAFTHURM_PLAN_BYTES, 1, big_sheet, sizeof big_sheet);
     HOLD(w.number == 0);
     big_sheet_size = w.size;
+    make_big_old();
 }
 
 static void stack_use(void) {
     void (*small[])(void) = {calls_plan_check, calls_plan_shape, calls_plan_weights, calls_dead_node, calls_dead_link, calls_plan_write_back,
-                             calls_sheet_check, calls_sheet_write_back, calls_lookup, calls_lookup_route, calls_packet_check, calls_step, calls_walk};
+                             calls_sheet_check, calls_sheet_write_back, calls_lookup, calls_lookup_route, calls_convert, calls_packet_check, calls_step, calls_walk};
     make_big();
     size_t without = stack_of(no_call), most = 0;
     for (size_t i = 0; i < sizeof small / sizeof *small; i++) {
@@ -630,9 +765,12 @@ int main(int count, char **words) {
     worked_listing();
     worked_lookups();
     sheet_versions();
+    worked_conversion();
+    old_rings();
+    half_ring_conversions();
     worked_packets();
     half_rings();
     half_ring_route();
-    puts("W and its edges are as documents 01 and 02 have them, a machine with weights goes by weight, and half a ring by where it begins");
+    puts("W and its edges are as documents 01 and 02 have them, a machine with weights goes by weight, half a ring by where it begins, old sheets keep their walks");
     return 0;
 }

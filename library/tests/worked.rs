@@ -1,4 +1,4 @@
-//! Document 01's worked machine W and its edges, a machine with weights, and half rings.
+//! Document 01's worked machine W and its edges, a machine with weights, half rings, and old route sheets.
 use nafthurm::Mode::{Adaptive, Deterministic};
 use nafthurm::*;
 
@@ -78,6 +78,46 @@ fn sheets() {
     assert_eq!(sheet_write_back(&W, &old, &mut back), Err(Refused(13)));
     assert_eq!(lookup_route(&W, &old, 1), Err(Refused(13)));
     assert!(lookup(&W, &old, 1).is_empty());
+}
+
+/// W's sheet of source 0 as document 01 has it: its first entry is by 4, where planning now goes by 3.
+const OLD: [u8; 47] = [
+    1, 0, 0x2C, 0, 0, 0, 8, 0, 1, 3, 0, 4, 0, 2, 2, 0, 3, 0, 5, 2, 0, 4, 0, 6, 2, 0, 3, 0, 9, 2, 0, 4, 0, 10, 2, 0, 3, 0, 13, 2, 0, 12, 0, 14, 2, 0, 3,
+];
+
+fn refused(number: u8) -> Result<usize, NotConverted> {
+    Err(NotConverted::Refused(Refused(number)))
+}
+
+#[test]
+fn old_sheets() {
+    let mut out = [0xEE; 48];
+    for room in 0..47 {
+        assert_eq!(convert(&W, &OLD, &mut out[..room]), refused(12));
+    }
+    for size in 0..47 {
+        assert_eq!(convert(&W, &OLD[..size], &mut out), refused(13));
+    }
+    assert_eq!(convert(&W[..8], &OLD, &mut out), refused(1));
+    let now = sheet_of_w();
+    assert_eq!(convert(&W, &now, &mut out), refused(13));
+    assert_eq!(convert(&W, &[&[1], &now[1..]].concat(), &mut out), Err(NotConverted::NotKept(0)));
+    assert_eq!(out, [0xEE; 48]);
+    assert_eq!(convert(&W, &OLD, &mut out), Ok(47));
+    assert_eq!((out[0], &out[1..47], out[47]), (2, &OLD[1..], 0xEE));
+    assert_eq!(lookup_route(&W, &out[..47], 1), Ok(Route::Via(4, Adaptive, Deterministic)));
+    assert_eq!(lookup_route(&W, &OLD, 1), Err(Refused(13)));
+}
+
+/// As planned when every half ring went plus, on rings with one dead link.
+#[test]
+fn old_sheets_of_rings() {
+    let converted = |length: u8, dead: u8, sheet: &[u8]| convert(&[1, 0, 9, length, 1, 1, 1, 0, 1, 0, dead, 0], sheet, &mut [0; 30]);
+    assert_eq!(converted(4, 0, &[1, 0, 14, 0, 0, 0, 2, 0, 1, 11, 0, 0, 0, 2, 2, 0, 3]), Err(NotConverted::NotKept(0)));
+    assert_eq!(converted(4, 0, &[1, 0, 14, 0, 1, 0, 2, 0, 0, 3, 0, 2, 0, 3, 2, 0, 2]), Ok(17));
+    assert_eq!(converted(6, 0, &[1, 0, 19, 0, 1, 0, 3, 0, 0, 3, 0, 3, 0, 4, 2, 0, 2, 0, 5, 2, 0, 3]), Err(NotConverted::NotKept(0)));
+    assert_eq!(converted(8, 1, &[1, 0, 24, 0, 2, 0, 4, 0, 0, 2, 0, 5, 0, 1, 3, 0, 5, 0, 6, 2, 0, 3, 0, 7, 2, 0, 4]), Err(NotConverted::NotKept(1)));
+    assert_eq!(converted(3, 0, &[1, 0, 4, 0, 2, 0, 0]), Ok(7));
 }
 
 #[test]

@@ -26,7 +26,6 @@ static int count_of(const uint8_t *plan, size_t plan_size) { return nodes_of(naf
 /* Where the walk or the pair's route begins. */
 static int first_node;
 
-static int always_plus(nafthurm_shape s, int node, int target, int dim) { return (void)s, (void)node, (void)target, (void)dim, 1; }
 static int from_odd(nafthurm_shape s, int node, int target, int dim) { return (void)target, place(s, node, dim) % 2; }
 static int by_target(nafthurm_shape s, int node, int target, int dim) { return (void)node, place(s, target, dim) % 2 == 0; }
 static int by_number(nafthurm_shape s, int node, int target, int dim) { return (void)s, (void)target, (void)dim, node % 2 == 0; }
@@ -215,10 +214,10 @@ static int forgiven(const uint8_t *entry, size_t count) {
 
 static uint8_t copy[30000];
 
-/* The sheet, one of another version that is read as well made version 2. */
-static const uint8_t *read_too(int version, const uint8_t *sheet, size_t sheet_size) {
+/* The sheet, one of a version that is read as well made the version that is read. */
+static const uint8_t *read_too(int version, int as, const uint8_t *sheet, size_t sheet_size) {
     memcpy(copy, sheet, sheet_size);
-    if (sheet_size > 0 && sheet[0] == version) copy[0] = SHEET_VERSION;
+    if (sheet_size > 0 && sheet[0] == version) copy[0] = (uint8_t)as;
     return copy;
 }
 
@@ -236,19 +235,20 @@ static const uint8_t *mended(const uint8_t *sheet, size_t sheet_size, size_t cou
 AROUND(uint8_t, nafthurm_sheet_check, const uint8_t *plan, size_t plan_size, const uint8_t *sheet, size_t sheet_size) {
     const volatile uint8_t *end = sheet + sheet_size;
     if (wrong(26)) (void)*end;
-    if (wrong(93)) return __real_nafthurm_sheet_check(plan, plan_size, read_too(1, sheet, sheet_size), sheet_size);
-    if (wrong(94)) return __real_nafthurm_sheet_check(plan, plan_size, read_too(3, sheet, sheet_size), sheet_size);
+    if (wrong(93)) return __real_nafthurm_sheet_check(plan, plan_size, read_too(OLD_VERSION, SHEET_VERSION, sheet, sheet_size), sheet_size);
+    if (wrong(94)) return __real_nafthurm_sheet_check(plan, plan_size, read_too(3, SHEET_VERSION, sheet, sheet_size), sheet_size);
     return __real_nafthurm_sheet_check(plan, plan_size, mended(sheet, sheet_size, (size_t)count_of(plan, plan_size)), sheet_size);
 }
 
 AROUND(nafthurm_written, nafthurm_sheet_write_back, const uint8_t *plan, size_t plan_size, const uint8_t *sheet, size_t sheet_size, uint8_t *out, size_t out_size) {
-    nafthurm_written w = __real_nafthurm_sheet_write_back(plan, plan_size, wrong(95) ? read_too(1, sheet, sheet_size) : sheet, sheet_size, out, out_size);
+    if (wrong(95)) sheet = read_too(OLD_VERSION, SHEET_VERSION, sheet, sheet_size);
+    nafthurm_written w = __real_nafthurm_sheet_write_back(plan, plan_size, sheet, sheet_size, out, out_size);
     if (wrong(96) && w.number == 0) out[0] = 1; /* version 1 is written back */
     return w;
 }
 
 AROUND(nafthurm_part, nafthurm_lookup, const uint8_t *plan, size_t plan_size, const uint8_t *sheet, size_t sheet_size, uint16_t destination) {
-    if (wrong(97)) sheet = read_too(1, sheet, sheet_size);
+    if (wrong(97)) sheet = read_too(OLD_VERSION, SHEET_VERSION, sheet, sheet_size);
     nafthurm_part part = __real_nafthurm_lookup(plan, plan_size, sheet, sheet_size, destination);
     if (wrong(30) && part.size != 0 && destination == 0) part.start += 5;
     if (wrong(31) && part.size == 0) part.start = sheet_size;
@@ -256,13 +256,169 @@ AROUND(nafthurm_part, nafthurm_lookup, const uint8_t *plan, size_t plan_size, co
 }
 
 AROUND(nafthurm_route, nafthurm_lookup_route, const uint8_t *plan, size_t plan_size, const uint8_t *sheet, size_t sheet_size, uint16_t destination) {
-    if (wrong(98)) sheet = read_too(1, sheet, sheet_size);
+    if (wrong(98)) sheet = read_too(OLD_VERSION, SHEET_VERSION, sheet, sheet_size);
     nafthurm_route r = __real_nafthurm_lookup_route(plan, plan_size, sheet, sheet_size, destination);
     int count = count_of(plan, plan_size);
     if (wrong(32) && r.number == 9 && destination == count) return (nafthurm_route){0, 0, 0};
     if (wrong(33) && r.number == 13 && destination >= count) return (nafthurm_route){9, 9, 0}; /* 9 before 13 */
     if (wrong(34) && r.number == 0 && r.kind == 3) r.kind = 4;
     return r;
+}
+
+/* ---- Old route sheets ---- */
+
+/* A leg of an entry. The second begins at the via, the last ends at the destination. */
+typedef struct {
+    int source, from, to, deterministic, second, last;
+} leg;
+
+static int odd(nafthurm_shape s, int node, int dim) { return place(s, node, dim) % 2; }
+static int half(nafthurm_shape s, leg l, int dim) { return l.deterministic && travels_half(s, l.from, l.to, dim); }
+static int odd_half(nafthurm_shape s, leg l, int dim) { return half(s, l, dim) && odd(s, l.from, dim); }
+
+static int first_dim(nafthurm_shape s, leg l) {
+    int dim = 0;
+    while (dim < 2 && place(s, l.from, dim) == place(s, l.to, dim)) dim++;
+    return dim;
+}
+
+/* Other rules of which legs cannot be kept: whether the leg is such by its travel in the dimension. */
+typedef int lost_rule(nafthurm_shape s, leg l, int dim);
+
+static int lost_from_even(nafthurm_shape s, leg l, int dim) { return half(s, l, dim) && !odd(s, l.from, dim); }
+static int lost_from_any(nafthurm_shape s, leg l, int dim) { return half(s, l, dim); }
+static int lost_by_number(nafthurm_shape s, leg l, int dim) { return half(s, l, dim) && l.from % 2; }
+static int lost_by_target(nafthurm_shape s, leg l, int dim) { return half(s, l, dim) && odd(s, l.to, dim); }
+static int lost_by_source(nafthurm_shape s, leg l, int dim) { return half(s, l, dim) && odd(s, l.source, dim); }
+static int lost_from_source(nafthurm_shape s, leg l, int dim) { return l.from = l.source, odd_half(s, l, dim); }
+static int lost_in_x(nafthurm_shape s, leg l, int dim) { return dim == 0 && odd_half(s, l, dim); }
+static int lost_in_first_dim(nafthurm_shape s, leg l, int dim) { return dim == first_dim(s, l) && odd_half(s, l, dim); }
+static int lost_in_first_leg(nafthurm_shape s, leg l, int dim) { return !l.second && odd_half(s, l, dim); }
+static int lost_in_last_leg(nafthurm_shape s, leg l, int dim) { return l.last && odd_half(s, l, dim); }
+static int lost_if_adaptive(nafthurm_shape s, leg l, int dim) { return l.deterministic = 1, odd_half(s, l, dim); }
+static int lost_if_open(nafthurm_shape s, leg l, int dim) { return s.wrap = 7, odd_half(s, l, dim); }
+
+/* Half of an odd ring too, rounded. */
+static int lost_near_half(nafthurm_shape s, leg l, int dim) {
+    int apart = abs(place(s, l.from, dim) - place(s, l.to, dim));
+    return l.deterministic && wrapped(s, dim) && odd(s, l.from, dim) && abs(2 * apart - extent(s, dim)) <= 1;
+}
+
+static lost_rule *wrong_rule(void) {
+    return wrong(99) ? lost_from_even : wrong(100) ? lost_from_any : wrong(101) ? lost_by_number : wrong(102) ? lost_by_target : wrong(103) ? lost_by_source
+        : wrong(104) ? lost_from_source : wrong(105) ? lost_in_x : wrong(106) ? lost_in_first_dim : wrong(107) ? lost_in_first_leg
+        : wrong(108) ? lost_in_last_leg : wrong(109) ? lost_if_adaptive : wrong(110) ? lost_if_open : wrong(111) ? lost_near_half : NULL;
+}
+
+static int leg_lost(lost_rule *rule, nafthurm_shape s, leg l) { return rule(s, l, 0) || rule(s, l, 1) || rule(s, l, 2); }
+
+static int wrongly_kept(nafthurm_shape s, int source, const uint8_t *entry) {
+    lost_rule *rule = wrong_rule();
+    int destination = (int)word(entry), kind = entry[2], via = (int)word(entry + 3);
+    if (kind == 10) return !wrong(112);
+    if (kind == 11) return wrong(113);
+    if (rule == NULL) return entry_kept(s, source, entry);
+    if (kind == 1) return !leg_lost(rule, s, (leg){source, source, destination, 1, 0, 1});
+    return !leg_lost(rule, s, (leg){source, source, via, (kind - 2) / 2, 0, 0}) && !leg_lost(rule, s, (leg){source, via, destination, (kind - 2) % 2, 1, 1});
+}
+
+/* The first entry from this one on that is not kept, wrongly or not; the entry count where all are. */
+static size_t next_lost(nafthurm_shape s, const uint8_t *sheet, size_t entry) {
+    while (entry < word(sheet + 5) && wrongly_kept(s, (int)word(sheet + 3), sheet + 7 + 5 * entry)) entry++;
+    return entry;
+}
+
+static size_t last_lost(nafthurm_shape s, const uint8_t *sheet, size_t entry) {
+    for (size_t next = entry; next < word(sheet + 5); next = next_lost(s, sheet, next + 1)) entry = next;
+    return entry;
+}
+
+/* Of a good sheet, whose entries are judged from this one on. */
+static nafthurm_converted convert_from(size_t entry, nafthurm_shape s, const uint8_t *sheet, size_t size, uint8_t *out, size_t room) {
+    size_t lost = next_lost(s, sheet, entry);
+    if (lost < word(sheet + 5)) return (nafthurm_converted){17, (uint16_t)lost, 0};
+    if (room < size) return (nafthurm_converted){12, 0, 0};
+    memcpy(out, sheet, size);
+    out[0] = SHEET_VERSION;
+    return (nafthurm_converted){0, 0, size};
+}
+
+/* Of a bad sheet with a good head, the first entry that cannot be kept, if those up to it are good; the entry count if not. */
+static size_t lost_before_bad(nafthurm_shape s, const uint8_t *sheet) {
+    size_t count = word(sheet + 5);
+    memcpy(copy, sheet, 7 + 5 * count);
+    for (size_t entry = 0; entry < count; entry++) {
+        size_t size = 12 + 5 * entry;
+        copy[1] = (uint8_t)((size - 3) >> 8), copy[2] = (uint8_t)(size - 3), copy[5] = (uint8_t)((entry + 1) >> 8), copy[6] = (uint8_t)(entry + 1);
+        if (sheet_number(s, OLD_VERSION, copy, size) != 0) return count;
+        if (!entry_kept(s, (int)word(sheet + 3), sheet + size - 5)) return entry;
+    }
+    return count;
+}
+
+static int head_good(const uint8_t *sheet, size_t size) {
+    return size >= 7 && sheet[0] == OLD_VERSION && word(sheet + 1) == size - 3 && size == 7 + 5 * word(sheet + 5);
+}
+
+/* Of a sheet that is 13. */
+static nafthurm_converted wrong_of_bad(nafthurm_converted c, nafthurm_shape s, const uint8_t *sheet, size_t size, size_t room) {
+    size_t lost = wrong(114) && head_good(sheet, size) ? lost_before_bad(s, sheet) : size;
+    if (lost < size && lost < word(sheet + 5)) return (nafthurm_converted){17, (uint16_t)lost, 0}; /* 17 before 13 of a later entry */
+    if (wrong(115) && room < size) return (nafthurm_converted){12, 0, 0};                          /* 12 before 13 */
+    return c;
+}
+
+/* Of a sheet with an entry that cannot be kept. */
+static nafthurm_converted wrong_of_lost(nafthurm_converted c, nafthurm_shape s, const uint8_t *sheet, size_t size, uint8_t *out, size_t room) {
+    if (wrong(116) && room < size) return (nafthurm_converted){12, 0, 0};                                            /* 12 before 17 */
+    if (wrong(117) && c.entry == 0) return convert_from(1, s, sheet, size, out, room);                               /* the first entry is not judged */
+    if (wrong(118) && c.entry + 1u == word(sheet + 5)) return convert_from(c.entry + 1u, s, sheet, size, out, room); /* the last is not */
+    if (wrong(119) && c.entry > 255) return convert_from(word(sheet + 5), s, sheet, size, out, room);                /* none behind 256 is */
+    if (wrong(120) && room > 0) out[0] = SHEET_VERSION;
+    if (wrong(121) && room > 0) out[room - 1] ^= 1;
+    if (wrong(122)) c.entry++;                                              /* counted from 1 */
+    if (wrong(123)) c.entry = (uint16_t)word(sheet + 7 + 5 * c.entry);      /* its destination */
+    if (wrong(124)) c.entry = (uint16_t)last_lost(s, sheet, c.entry);       /* the last of them */
+    if (wrong(125)) c.entry &= 255;
+    return c;
+}
+
+/* Of a sheet that is converted; `lent` is the caller's. */
+static nafthurm_converted wrong_of_kept(nafthurm_converted c, const uint8_t *lent, uint8_t *out, size_t room) {
+    if (wrong(126) && c.size == room) return (nafthurm_converted){12, 0, 0}; /* one byte more is asked for */
+    if (wrong(127) && c.size == 7) return (nafthurm_converted){13, 0, 0};    /* a sheet without entries */
+    if (wrong(128) && c.size < room) out[c.size] ^= 1;
+    if (wrong(129)) out[0] = OLD_VERSION;
+    if (wrong(130)) ((uint8_t *)lent)[0] = SHEET_VERSION;                    /* in place too */
+    size_t at = kind_at(out, c.size, 3);
+    if (wrong(131) && at < c.size) out[at + 2] = 4;
+    if (wrong(132)) c.entry = (uint16_t)word(out + 5);
+    return c;
+}
+
+/* Whether the sheet's source is dead, or an entry of kind 10 names a destination that is not. */
+static int against_faults(const uint8_t *plan, size_t plan_size, const uint8_t *sheet, size_t size) {
+    size_t at = kind_at(sheet, size, 10);
+    if (wrong(133)) return nafthurm_dead_node(plan, plan_size, (uint16_t)word(sheet + 3));
+    return wrong(134) && at < size && !nafthurm_dead_node(plan, plan_size, (uint16_t)word(sheet + at));
+}
+
+AROUND(nafthurm_converted, nafthurm_convert, const uint8_t *plan, size_t plan_size, const uint8_t *sheet, size_t sheet_size, uint8_t *out, size_t out_size) {
+    const uint8_t *lent = sheet;
+    const volatile uint8_t *end = sheet + sheet_size;
+    nafthurm_shape s = nafthurm_plan_shape(plan, plan_size);
+    if (wrong(135)) (void)*end;
+    if (wrong(136)) sheet = read_too(SHEET_VERSION, OLD_VERSION, sheet, sheet_size);
+    if (wrong(137)) sheet = read_too(3, OLD_VERSION, sheet, sheet_size);
+    nafthurm_converted c = __real_nafthurm_convert(plan, plan_size, sheet, sheet_size, out, out_size);
+    if (c.number == 13) return wrong_of_bad(c, s, sheet, sheet_size, out_size);
+    if (wrong(138) && s.x == 0 && (sheet_size < 7 || sheet[0] != OLD_VERSION)) c.number = 13; /* 13 before the plan's checks */
+    if (s.x == 0) return c;
+    if (wrong_rule() != NULL || wrong(112) || wrong(113)) return convert_from(0, s, sheet, sheet_size, out, out_size);
+    if (against_faults(plan, plan_size, sheet, sheet_size)) return (nafthurm_converted){13, 0, 0};
+    if (wrong(139) && c.number == 12) c.size = sheet_size;
+    if (wrong(140) && c.number == 12 && out_size > 0) out[0] = SHEET_VERSION;
+    return c.number == 17 ? wrong_of_lost(c, s, sheet, sheet_size, out, out_size) : c.number == 0 ? wrong_of_kept(c, lent, out, out_size) : c;
 }
 
 /* ---- Packets ---- */

@@ -7,6 +7,7 @@ use conform_runs::run_cases;
 use conform_sheets::dead_cases;
 use conform_sheets::plan_cases;
 use conform_sheets::route_cases;
+use conform_sheets::writing_cases;
 use conform_stepper::step;
 use conform_stepper::walk;
 use text::compare::same;
@@ -56,7 +57,13 @@ fn route_operation(name: &[u8], given: &[u8], out: &mut [u8], at: usize) -> usiz
         return route_cases::answer_lookup(given, out, at);
     }
     if same(name, b"back") {
-        return route_cases::answer_back(given, out, at);
+        return writing_cases::answer_back(given, out, at);
+    }
+    if same(name, b"convert") {
+        return writing_cases::answer_convert(given, out, at);
+    }
+    if same(name, b"lost") {
+        return writing_cases::answer_lost(given, out, at);
     }
     planner_operation(name, given, out, at)
 }

@@ -13,7 +13,7 @@ pub fn unreadable(out: &mut [u8], at: usize) -> usize {
     put::bytes(out, at, b"unreadable")
 }
 
-fn number_of(written: Written) -> u8 {
+pub fn number_of(written: Written) -> u8 {
     match written {
         Written::Bytes(_) => 0,
         Written::Refused(number) => number,

@@ -3,3 +3,4 @@ pub mod dead_cases;
 mod faults;
 pub mod plan_cases;
 pub mod route_cases;
+pub mod writing_cases;

@@ -1,15 +1,12 @@
-// The operations `lookup` and `back`: a destination's entry, as a part of the lent sheet, and its route; a route sheet is written back into lent output
-// filled with EE.
+// The operation `lookup`: a destination's entry, as a part of the lent sheet, and its route.
 use choice::Outcome;
 use conform_fields::answers::put_number;
-use conform_fields::answers::put_written;
 use conform_fields::answers::unreadable;
 use conform_fields::legs::put_route;
 use conform_fields::nodes::read_destination;
 use conform_fields::sheets::PLAN_BYTES;
 use conform_fields::sheets::ROUTE_BYTES;
 use conform_fields::sheets::read_plan;
-use conform_fields::sheets::read_room;
 use conform_fields::sheets::read_routes;
 use routes::layout::ENTRIES_AT;
 use routes::layout::ENTRY_SIZE;
@@ -17,14 +14,11 @@ use routes::layout::source_in;
 use routes::lookup::find_entry;
 use routes::lookup::lookup;
 use routes::route::route;
-use routes::write_back;
 use text::compare::same;
-use text::decimal::Number;
 use text::decimal::Word;
 use text::field;
 use text::hex::Count;
 use text::part::front;
-use text::part::front_mut;
 use text::part::part;
 use text::put;
 
@@ -75,23 +69,4 @@ pub fn answer_lookup(line: &[u8], out: &mut [u8], at: usize) -> usize {
         return unreadable(out, at);
     };
     put_lookup(out, at, front(&plan, plan_size), front(&sheet, size), dest)
-}
-
-// Writes the answer to a line `back plan=.. sheet=.. room=..`.
-pub fn answer_back(line: &[u8], out: &mut [u8], at: usize) -> usize {
-    let mut plan = [0u8; PLAN_BYTES];
-    let mut sheet = [0u8; ROUTE_BYTES];
-    let mut output = [0xEEu8; ROUTE_BYTES];
-    let Count::Bytes(plan_size) = read_plan(line, &mut plan) else {
-        return unreadable(out, at);
-    };
-    let Count::Bytes(size) = read_routes(line, &mut sheet) else {
-        return unreadable(out, at);
-    };
-    let Number::Value(room) = read_room(line, ROUTE_BYTES) else {
-        return unreadable(out, at);
-    };
-    let lent = front_mut(&mut output, room as usize);
-    let written = write_back(front(&plan, plan_size), front(&sheet, size), lent);
-    put_written(out, at, written, lent)
 }

@@ -4,11 +4,12 @@ use Prim.Native.Nat.{ℕ, _*_, _<_}
 use mathlib.Core.Bool.{Bool, true, false, not, _||_, false≢true, true≢false}
 use mathlib.Core.List.{List, [], _∷_}
 use mathlib.Core.Path.{_≡_, refl, sym, ap, _∙_}
-use mathlib.Core.Logic.{_↔_}
 use borrow.Author.Tests.{eqb-false}
 use Rattle.theory.specs.Clear.{Allows, lead}
+use Rattle.theory.specs.Alike.{SameWalks}
 use Rattle.theory.proofs.Bools.{and-true, or-false}
 use Rattle.theory.proofs.Cases.{test}
+use Rattle.theory.proofs.Alike.{same-walks}
 use Rattle.shape.specs.declared.shape.Shape.{Shape}
 use Rattle.shape.specs.declared.shape.Coords.{Coords}
 use Rattle.shape.specs.declared.shape.Dim.{Dim}
@@ -27,7 +28,7 @@ use Rattle.machine.proofs.ByCoords.{inside-at, neighbour-below, plus-of
 use Rattle.machine.proofs.Laws.{put-at}
 use Rattle.machine.proofs.OneDirection.{Leads, leads-at, moved}
 
-same-dim : (j d : Dim) → sameDim j d ≡ true → j ≡ d
+pub same-dim : (j d : Dim) → sameDim j d ≡ true → j ≡ d
 same-dim X X e = refl
 same-dim X Y e = absurd (false≢true e)
 same-dim X Z e = absurd (false≢true e)
@@ -62,7 +63,7 @@ module _ (ties : ℕ → Bool) (s : Shape) (h : shapeError s ≡ 0) (t : ℕ) (h
     leads = leads-at ties s h n dir hn t a
 
     -- The hop is along one dimension, the first that is not done.
-    hop-else : (d : Dim) → sameDim j d ≡ false → along s next d ≡ along s n d
+    pub hop-else : (d : Dim) → sameDim j d ≡ false → along s next d ≡ along s n d
     hop-else d e = ap (λ c. coordOf c d) (moved s h n dir hn) ∙ put-else (coordsOf s n) j d _ e
 
     hop-along : along s next j ≡ place (extentOf s j) (along s n j) (dirPlus dir)
@@ -101,7 +102,7 @@ module _ (ties : ℕ → Bool) (s : Shape) (h : shapeError s ≡ 0) (t : ℕ) (h
     way-both d true e = sym (plus-of s h next (neighbour-below s h n hn dir) t d) ∙ and-true (useful s next t (plusDir d)) _ e .0
     way-both d false e = sym (minus-of s h next (neighbour-below s h n hn dir) t d) ∙ and-true (useful s next t (plusDir d)) _ e .1
 
-    hop-half : (d : Dim) → half s next t d ≡ true → along s next d ≡ along s n d
+    pub hop-half : (d : Dim) → half s next t d ≡ true → along s next d ≡ along s n d
     hop-half d e =
         test (sameDim j d)
         (λ q. absurd (true≢false (sym (way-both j (not (dirPlus dir)) (rw (same-dim j d q) e)) ∙ gone)))
@@ -110,7 +111,7 @@ module _ (ties : ℕ → Bool) (s : Shape) (h : shapeError s ≡ 0) (t : ℕ) (h
         gone : usefulAlong s (coordsOf s next) (coordsOf s t) j (not (dirPlus dir)) ≡ false
         gone = rw hop-along (back-useless (extentOf s j) (wrappedIn s j) (along s n j) (along s t j) (dirPlus dir) (here j) (there j) useful-here)
 
-    hop-halved : (d : Dim) → half s next t d ≡ true → half s n t d ≡ true
+    pub hop-halved : (d : Dim) → half s next t d ≡ true → half s n t d ≡ true
     hop-halved d e =
         let one : (plus : Bool) → usefulAlong s (coordsOf s n) (coordsOf s t) d plus ≡ true = λ plus. rw (sym (hop-half d e)) (way-both d plus e) in
         rw (plus-of s h n hn t d, minus-of s h n hn t d, one true, one false)
@@ -179,19 +180,9 @@ module _ (ties : ℕ → Bool) (s : Shape) (h : shapeError s ≡ 0) (t : ℕ) (h
     unfolding allowedFrom allowedBy firstDirection
     allowed-from n dir k = rw (toward-from n k X, toward-from n k Y, toward-from n k Z)
 
-    abbrev Remembered : ℕ → List ℕ → Type 0
-    Remembered n ds = Allows (torusFrom ties a s) (leg t Deterministic) n ds
-
-    walk-from : (n : ℕ) (ds : List ℕ) → n < nodeCount s → Tied n → Walked n ds → Remembered n ds
-    walk-from n [] hn k w = tt
-    walk-from n (dir ∷ ds) hn k w =
-        (allowed-from n dir k ∙ w .0, walk-from (neighbour s n dir) ds (neighbour-below s h n hn dir) (tied-on n dir hn (w .0) k) (w .1))
-
-    from-walk : (n : ℕ) (ds : List ℕ) → n < nodeCount s → Tied n → Remembered n ds → Walked n ds
-    from-walk n [] hn k w = tt
-    from-walk n (dir ∷ ds) hn k w =
-        let one = sym (allowed-from n dir k) ∙ w .0 in
-        (one, from-walk (neighbour s n dir) ds (neighbour-below s h n hn dir) (tied-on n dir hn one k) (w .1))
-
-    pub walk-by-start : (ds : List ℕ) → a < nodeCount s → Allows (torusBy ties s) (leg t Deterministic) a ds ↔ Allows (torusFrom ties a s) (leg t Deterministic) a ds
-    walk-by-start ds ha = (walk-from a ds ha (λ d e. refl), from-walk a ds ha (λ d e. refl))
+    pub walk-by-start : a < nodeCount s → SameWalks (torusBy ties s) (torusFrom ties a s) (leg t Deterministic) a
+    walk-by-start ha =
+        same-walks (torusBy ties s) _ (leg t Deterministic) (λ n. (n < nodeCount s) × Tied n)
+        (λ n dir k. sym (allowed-from n dir (k .1)))
+        (λ n dir k w. (neighbour-below s h n (k .0) dir, tied-on n dir (k .0) w (k .1)))
+        a (ha, λ d e. refl)

@@ -7,4 +7,5 @@ pub mod Laws
 pub mod Torus
 pub mod Nodes
 pub mod Begins
+pub mod Rules
 pub mod Worked

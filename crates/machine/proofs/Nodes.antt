@@ -3,7 +3,7 @@ use Prim.Native.Nat.{ℕ, _<_}
 use mathlib.Core.Bool.{true}
 use mathlib.Core.Path.{_≡_}
 use lib.Dec.{eqb}
-use borrow.Author.Tests.{ltb-true, eqb-true}
+use borrow.Author.Tests.{ltb-true, eqb-true, eq-eqb, lt-ltb}
 use Rattle.theory.proofs.Bools.{and-true}
 use Rattle.shape.specs.declared.shape.Shape.{Shape}
 use Rattle.shape.specs.Shape.{shapeError}
@@ -25,3 +25,8 @@ from-of s n t e = node-of s n (and-true (isNode s n) _ e .0)
 pub to-of : (s : Shape) (n t : ℕ) → arePair s n t ≡ true → Node s t
 unfolding arePair
 to-of s n t e = node-of s t (and-true (isNode s n) _ e .1)
+
+-- A number below the nodes of a shape that has one.
+pub is-node : (s : Shape) (a : ℕ) → isNode s a ≡ true → (n : ℕ) → n < nodeCount s → isNode s n ≡ true
+unfolding isNode
+is-node s a h n k = rw (eq-eqb (shapeError s) 0 (node-of s a h .sound), lt-ltb n (nodeCount s) k)

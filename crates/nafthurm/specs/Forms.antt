@@ -31,6 +31,7 @@ use Rattle.nafthurm.specs.declared.forms.PacketForm.{PacketForm}
 use Rattle.nafthurm.specs.declared.forms.SteppedForm.{SteppedForm}
 use Rattle.nafthurm.specs.declared.forms.WalkedForm.{WalkedForm}
 use Rattle.nafthurm.specs.declared.forms.WrittenForm.{WrittenForm}
+use Rattle.nafthurm.specs.declared.forms.ConvertedForm.{ConvertedForm}
 use Rattle.nafthurm.specs.declared.forms.RunForm.{RunForm}
 use Rattle.nafthurm.specs.declared.forms.PartForm.{PartForm}
 use Rattle.nafthurm.specs.declared.forms.RouteForm.{RouteForm}
@@ -77,6 +78,9 @@ walkedFor lent w = record { packet = packetFor lent (w .packet); number = ending
 unfoldable pub writtenFor : Written → WrittenForm
 writtenFor (Written.Bytes n) = record { number = 0; size = n }
 writtenFor (Written.Refused e) = record { number = e; size = 0 }
+
+unfoldable pub convertedFor : Written → ℕ → ConvertedForm
+convertedFor w i = record { number = writtenFor w .number; entry = i; size = writtenFor w .size }
 
 -- The number of too small a workspace is 255, which no refusal has.
 unfoldable pub runFor : Answer → RunForm

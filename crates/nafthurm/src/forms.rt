@@ -1,6 +1,7 @@
 // The values that cross, each a struct of numbers, and the calls' own values as such.
 use all_sheets::Answer;
 use choice::Outcome;
+use conversion::Converted;
 use machine::leg::Leg;
 use machine::leg::Mode;
 use packet::Ending;
@@ -15,7 +16,7 @@ use shape::Shape;
 use sheet::output::Written;
 use weights::Weights;
 ghost use mathlib.Core.Path.{_≡_};
-ghost use Rattle.nafthurm.specs.Forms.{shapeOf, shapeFor, weightsFor, modeOf, legOf, packetOf, packetFor, steppedFor, endingFor, walkedFor, writtenFor, runFor, routeFor, lengthFor, plannedFor, outcomeIn, packetIn, legFor, madeFor};
+ghost use Rattle.nafthurm.specs.Forms.{shapeOf, shapeFor, weightsFor, modeOf, legOf, packetOf, packetFor, steppedFor, endingFor, walkedFor, writtenFor, convertedFor, runFor, routeFor, lengthFor, plannedFor, outcomeIn, packetIn, legFor, madeFor};
 
 #[repr(C)]
 pub struct ShapeForm {
@@ -62,6 +63,13 @@ pub struct WalkedForm {
 #[repr(C)]
 pub struct WrittenForm {
     pub number: u8,
+    pub size: usize,
+}
+
+#[repr(C)]
+pub struct ConvertedForm {
+    pub number: u8,
+    pub entry: u16,
     pub size: usize,
 }
 
@@ -209,6 +217,18 @@ pub fn written_for(written: Written) -> WrittenForm
             number: number,
             size: 0,
         },
+    }
+}
+
+pub fn converted_for(converted: Converted) -> ConvertedForm
+    ensures { λ r. ⌜ r ≡ convertedFor (converted .written) (converted .entry) ⌝ }
+{
+    let written = converted.written;
+    let form = written_for(written);
+    ConvertedForm {
+        number: form.number,
+        entry: converted.entry,
+        size: form.size,
     }
 }
 

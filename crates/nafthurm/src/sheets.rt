@@ -1,9 +1,12 @@
 // Route sheets that are lent.
+use crate::forms::ConvertedForm;
 use crate::forms::PartForm;
 use crate::forms::RouteForm;
 use crate::forms::WrittenForm;
+use crate::forms::converted_for;
 use crate::forms::route_for;
 use crate::forms::written_for;
+use conversion::convert;
 use routes::lookup::entry_part;
 use routes::route::route;
 ghost use mathlib.Core.Path.{_≡_};
@@ -16,7 +19,8 @@ ghost use Rattle.choice.specs.Pair.{farIn};
 ghost use Rattle.routes.specs.Layout.{source};
 ghost use Rattle.routes.specs.Lookup.{partStart, partLength};
 ghost use Rattle.routes.specs.Says.{says};
-ghost use Rattle.nafthurm.specs.Forms.{writtenFor, routeFor, partFor};
+ghost use Rattle.conversion.specs.Converting.{converted, convertError, lostEntry};
+ghost use Rattle.nafthurm.specs.Forms.{writtenFor, convertedFor, routeFor, partFor};
 
 #[no_mangle]
 pub extern "C" fn nafthurm_sheet_check(plan: &[u8], sheet: &[u8]) -> u8
@@ -35,6 +39,14 @@ pub extern "C" fn nafthurm_sheet_write_back(
     ensures { λ _. ⌜ now (out .exit) ≡ outAfter (writeError large (now (plan .entry)) (now (sheet .entry)) (now (out .entry))) (now (sheet .entry)) (now (out .entry)) ⌝ }
 {
     written_for(routes::write_back(plan, sheet, out))
+}
+
+#[no_mangle]
+pub extern "C" fn nafthurm_convert(plan: &[u8], sheet: &[u8], out: &mut [u8]) -> ConvertedForm
+    ensures { λ r. ⌜ r ≡ convertedFor (written (convertError large (now (plan .entry)) (now (sheet .entry)) (now (out .entry))) (converted (now (sheet .entry)))) (lostEntry large (now (plan .entry)) (now (sheet .entry))) ⌝ }
+    ensures { λ _. ⌜ now (out .exit) ≡ outAfter (convertError large (now (plan .entry)) (now (sheet .entry)) (now (out .entry))) (converted (now (sheet .entry))) (now (out .entry)) ⌝ }
+{
+    converted_for(convert(plan, sheet, out))
 }
 
 // The part that routes::lookup gives, as numbers: C cannot be given a part by reference.

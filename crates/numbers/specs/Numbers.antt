@@ -64,3 +64,7 @@ notAllowed = 15
 -- A weight outside 1 to 8.
 abbrev pub weightOutside : ℕ
 weightOutside = 16
+
+-- An entry that cannot be kept.
+abbrev pub entryNotKept : ℕ
+entryNotKept = 17

@@ -47,3 +47,6 @@ pub const NOT_ALLOWED: u8 = 15;
 
 // A weight outside 1 to 8.
 pub const WEIGHT_OUTSIDE: u8 = 16;
+
+// An entry that cannot be kept.
+pub const ENTRY_NOT_KEPT: u8 = 17;

@@ -17,9 +17,9 @@ use Rattle.shape.specs.declared.shape.Shape.{Shape}
 use Rattle.machine.specs.Node.{isNode}
 use Rattle.plan.specs.Layout.{shapeOf}
 use Rattle.plan.specs.Checks.{Limits, planError}
-use Rattle.routes.specs.Layout.{formatOf, written, source, entryCount, entryAt, entriesOf, noEntry, mostEntries}
+use Rattle.routes.specs.Layout.{formatBy, formatOf, written, source, entryCount, entryAt, noEntry, mostEntries}
 use Rattle.routes.specs.Kinds.{viaKind, plainKind}
-use Rattle.routes.specs.Checks.{headGood, viaGood, entryGood, entriesGood, routesGood, sheetGood, sheetError}
+use Rattle.routes.specs.Checks.{headGood, viaGood, entryGood, entriesGood, routesGood, goodIn, sheetGood, errorIn, sheetError}
 use Rattle.routes.specs.Writing.{writeError}
 use Rattle.routes.proofs.Sheets.{checked}
 use Rattle.routes.proofs.Rising.{each-good}
@@ -46,7 +46,7 @@ module _ (r : Routes) (long : length (r .entries) ≡ mostEntries) (many : mostE
       entry-read (r .source) (routeEntries r) mostEntries (omega (arith, entries-count r)) (rw z (record { dest = omega arith; via = omega arith })) ∙ z
 
   bad : (m : Shape) → sheetGood m (sheetOf r) ≡ true → ⊥
-  unfolding sheetGood routesGood entriesOf sheetOf entryGood
+  unfolding goodIn routesGood entryAt formatBy sheetOf entryGood
   bad m h =
       let s = sheetOf r in
       let S = source s in
@@ -61,7 +61,7 @@ module _ (r : Routes) (long : length (r .entries) ≡ mostEntries) (many : mostE
       false≢true (sym (ap (viaGood written m S) no-entry ∙ no-entry-bad m S) ∙ v)
 
   pub too-many : (L : Limits) (p o : List ℕ) (e k : ℕ) → e ≡ planError L p → k ≡ cond (eqb e 0) wrongRouteSheet e → (writeError L p (sheetOf r) o ≡ k) × (k ≡ 0 → ⊥)
-  unfolding sheetError
+  unfolding sheetError errorIn
   too-many L p o e k q c =
       let s = sheetOf r in
       let no : sheetGood (shapeOf p) s ≡ false = test (sheetGood (shapeOf p) s) (λ t. absurd (bad (shapeOf p) t)) (λ t. t) in

@@ -23,7 +23,7 @@ use Rattle.plan.proofs.Worked as Plan
 use Rattle.routes.specs.declared.layout.Entry.{Entry}
 use Rattle.routes.specs.Layout.{formatBy, written, source, entryCount, entryAt, entriesOf, noEntry}
 use Rattle.routes.specs.Kinds.{viaKind, plainKind}
-use Rattle.routes.specs.Checks.{headGood, viaGood, entryGood, entriesGood, routesGood, sheetGood, sheetError}
+use Rattle.routes.specs.Checks.{headGood, viaGood, entryGood, nextGood, entriesGood, routesGood, goodIn, errorIn, sheetError}
 use Rattle.routes.proofs.Sheets.{accepted}
 use Rattle.routes.proofs.Rising.{AllFit, routed}
 use Rattle.route_value.specs.declared.reading.Routes.{Routes}
@@ -100,5 +100,5 @@ pub w-bytes : AreBytes sheetW
 w-bytes = are-bytes sheetW refl
 
 pub w-accepted : sheetError large W sheetW ≡ 0
-unfolding sheetError sheetGood headGood routesGood entriesGood entryGood viaGood viaKind plainKind formatBy version lengthField bytesAfter lengthIs shapeOf source entryCount entryAt entriesOf listFrom shapeError badExtents badWraps isNode nodeCount
+unfolding sheetError errorIn goodIn headGood routesGood nextGood entriesGood entryGood viaGood viaKind plainKind formatBy version lengthField bytesAfter lengthIs shapeOf source entryCount entryAt entriesOf listFrom shapeError badExtents badWraps isNode nodeCount
 w-accepted = rw Plan.w-accepted

@@ -16,7 +16,8 @@ use Rattle.sheet.proofs.Forms.{records-length, record-read}
 use Rattle.shape.specs.declared.shape.Shape.{Shape}
 use Rattle.routes.specs.declared.layout.Entry.{Entry}
 use Rattle.routes.specs.Layout.{EntryFits, formatOf, formatBy, written, source, entryCount, entriesAt, entryForm, entryAt, entriesOf, sizeAfter, noEntry, mostEntries}
-use Rattle.routes.specs.Checks.{headGood, routesGood, sheetGood}
+use Rattle.routes.specs.Checks.{headGood, routesGood, goodIn, sheetGood}
+use Rattle.routes.proofs.Sheets.{own-entries}
 use Rattle.routes.proofs.Rising.{AllFit}
 use Rattle.route_value.specs.declared.reading.Routes.{Routes}
 use Rattle.route_value.specs.Reading.{entryArray, routesOf}
@@ -67,8 +68,8 @@ module _ (S : ℕ) (es : List Entry) where
 
   -- The sheet is accepted where its source and entries are.
   pub sheet-good : (m : Shape) → S < 65536 → length es ≤ mostEntries → AllFit es → sheetGood m sheet ≡ routesGood written m S es
-  unfolding sheetGood
-  sheet-good m a h f = rw (own-format, head-good h, source-read a, entries-read (omega arith) f)
+  unfolding goodIn
+  sheet-good m a h f = rw (← (own-entries sheet), own-format, head-good h, source-read a, entries-read (omega arith) f)
 
   -- Its sheet, read, is the routes with these entries.
   pub routes-read : S < 65536 → length es ≤ mostEntries → AllFit es → routesOf sheet ≡ routesWith S es

@@ -10,7 +10,7 @@ use Rattle.plan.specs.Checks.{Limits, planError}
 use Rattle.choice.specs.Answer.{answered}
 use Rattle.routes.specs.declared.layout.Entry.{Entry}
 use Rattle.routes.specs.Layout.{written}
-use Rattle.routes.specs.Checks.{routesGood, sheetError}
+use Rattle.routes.specs.Checks.{routesGood, errorIn, sheetError}
 use Rattle.routes.specs.Lookup.{lookupError}
 use Rattle.routes.specs.Says.{saysOf, says}
 use Rattle.routes.proofs.Rising.{routed}
@@ -20,7 +20,7 @@ use Rattle.route_value.proofs.Writings.{sheet-good, entries-read}
 -- The sheet of good routes is accepted, and says what its entries say.
 module _ (L : Limits) (p : List ℕ) (S : ℕ) (es : List Entry) (plan : planError L p ≡ 0) (good : routesGood written (shapeOf p) S es ≡ true) where
   pub written-accepted : sheetError L p (sheetBytes written S es) ≡ 0
-  unfolding sheetError
+  unfolding sheetError errorIn
   written-accepted =
       let r = routed written (shapeOf p) S es good in
       rw (plan, sheet-good S es (shapeOf p) (r .source) (r .few) (r .fit), good)

@@ -14,12 +14,10 @@ use Rattle.theory.proofs.Checks.{then-zero, declined-zero}
 use Rattle.theory.proofs.Cases.{test, by-le}
 use Rattle.sheet.specs.Bytes.{listFrom}
 use Rattle.shape.specs.declared.shape.Shape.{Shape}
-use Rattle.shape.specs.Shape.{shapeError}
 use Rattle.machine.specs.declared.leg.Mode.the-variants.{Adaptive, Deterministic}
-use Rattle.machine.specs.Number.{nodeCount}
 use Rattle.machine.specs.Node.{isNode, arePair}
 use Rattle.machine.specs.Torus.{leg}
-use Rattle.machine.proofs.Nodes.{node-of}
+use Rattle.machine.proofs.Nodes.{is-node}
 use Rattle.weights.specs.declared.weights.Weights.{Weights}
 use Rattle.weights.specs.Weights.{weightError}
 use Rattle.weights.specs.Distance.{distance, distanceAnswer}
@@ -77,10 +75,6 @@ pub part-of :
     PartOf s r (w .start) (w .size) → PartOf s r (partStart L p (now s) d) (partLength L p (now s) d)
 unfolding partFor
 part-of L p s r d w e k = rw (← ap (λ (x : Part). x .start) e, ← ap (λ (x : Part). x .size) e) k
-
-is-node : (m : Shape) (S : ℕ) → isNode m S ≡ true → (n : ℕ) → n < nodeCount m → isNode m n ≡ true
-unfolding isNode
-is-node m S h n k = rw (eq-eqb (shapeError m) 0 (node-of m S h .sound), lt-ltb n (nodeCount m) k)
 
 -- What the entries say is what the one found says.
 ltb-suc : (a n : ℕ) → ltb (a + 1) (suc n) ≡ ltb a n

@@ -14,14 +14,19 @@ use Rattle.sheet.specs.Head.{version, lengthField}
 use Rattle.sheet.proofs.Heads.{length-field, length-sheet}
 use Rattle.plan.specs.Layout.{shapeOf}
 use Rattle.plan.specs.Checks.{Limits, planError}
-use Rattle.routes.specs.Layout.{Format, formatOf, source, entryCount, entriesAt, entrySize, entriesOf, sizeAfter}
-use Rattle.routes.specs.Checks.{headGood, routesGood, sheetGood, sheetError}
+use Rattle.routes.specs.Layout.{Format, formatOf, source, entryCount, entriesAt, entrySize, entryAt, entriesIn, entriesOf, sizeAfter}
+use Rattle.routes.specs.Checks.{headGood, routesGood, goodIn, errorIn, sheetError}
 
 -- A check after others, as a choice.
 pub checked : (e : ℕ) (b : Bool) (n : ℕ) → (e then declined (not b) n) ≡ cond (eqb e 0) (cond b 0 n) e
 checked zero true n = refl
 checked zero false n = refl
 checked (suc e) b n = rw (ne-eqb (suc e) 0 (omega arith))
+
+-- The entries in the sheet's own format.
+pub own-entries : (s : List ℕ) → entriesOf s ≡ entriesIn (formatOf s) s
+unfolding entriesOf entryAt
+own-entries s = refl
 
 -- What a good head says.
 pub record Head (F : Format) (s : List ℕ) : Type 0 where
@@ -44,16 +49,27 @@ head-of F s h =
       sized = omega (arith, length-sheet s n (p .1) (omega arith));
     }
 
--- A sheet that the plan's checks and 13 accept.
+-- A sheet that the plan's checks and 13 accept, in a format and in its own.
+pub record AcceptedIn (F : Format) (L : Limits) (p s : List ℕ) : Type 0 where
+  pub plan : planError L p ≡ 0
+  pub head : Head F s
+  pub routes : routesGood F (shapeOf p) (source s) (entriesIn F s) ≡ true
+
 pub record Accepted (L : Limits) (p s : List ℕ) : Type 0 where
   pub plan : planError L p ≡ 0
   pub head : Head (formatOf s) s
   pub routes : routesGood (formatOf s) (shapeOf p) (source s) (entriesOf s) ≡ true
 
-pub accepted : (L : Limits) (p s : List ℕ) → sheetError L p s ≡ 0 → Accepted L p s
-unfolding sheetError sheetGood
-accepted L p s h =
+pub accepted-in : (F : Format) (L : Limits) (p s : List ℕ) → errorIn F L p s ≡ 0 → AcceptedIn F L p s
+unfolding errorIn goodIn
+accepted-in F L p s h =
     let q = then-zero (planError L p) _ h in
-    let good = not-false _ (declined-zero (not (sheetGood (shapeOf p) s)) 12 (q .1)) in
-    let r = and-true (headGood (formatOf s) s) _ good in
-    record { plan = q .0; head = head-of (formatOf s) s (r .0); routes = r .1 }
+    let good = not-false _ (declined-zero (not (goodIn F (shapeOf p) s)) 12 (q .1)) in
+    let r = and-true (headGood F s) _ good in
+    record { plan = q .0; head = head-of F s (r .0); routes = r .1 }
+
+pub accepted : (L : Limits) (p s : List ℕ) → sheetError L p s ≡ 0 → Accepted L p s
+unfolding sheetError
+accepted L p s h =
+    let a = accepted-in (formatOf s) L p s h in
+    record { plan = a .plan; head = a .head; routes = rw (own-entries s) (a .routes) }

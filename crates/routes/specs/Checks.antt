@@ -12,9 +12,9 @@ use Rattle.machine.specs.Node.{isNode}
 use Rattle.plan.specs.Layout.{shapeOf}
 use Rattle.plan.specs.Checks.{Limits, planError}
 use Rattle.routes.specs.declared.layout.Entry.{Entry}
-use Rattle.routes.specs.Layout.{Format, formatOf, source, entryCount, entriesAt, entriesOf, sizeAfter}
+use Rattle.routes.specs.Layout.{Format, formatOf, source, entryCount, entriesAt, entriesIn, sizeAfter}
 
--- The format's version, and the length field is the bytes that follow and, in version 2, 4 + 5 × count.
+-- The format's version, and the length field is the bytes that follow and, in versions 1 and 2, 4 + 5 × count.
 unfoldable pub headGood : Format → List ℕ → Bool
 headGood F s = leb entriesAt (length s) && eqb (version s) (F .version) && lengthIs s (sizeAfter F (entryCount s))
 
@@ -30,18 +30,27 @@ unfoldable pub entryGood : Format → Shape → ℕ → Entry → Bool
 entryGood F m S e = isNode m (e .dest) && not (eqb (e .dest) S) && viaGood F m S e
 
 -- Destinations rise strictly: the least that one may be is 1 above the one before, 0 for the first.
+unfoldable pub nextGood : Format → Shape → ℕ → ℕ → Entry → Bool
+nextGood F m S least e = leb least (e .dest) && entryGood F m S e
+
 unfoldable pub entriesGood : Format → Shape → ℕ → ℕ → List Entry → Bool
 entriesGood F m S least [] = true
-entriesGood F m S least (e ∷ es) = leb least (e .dest) && (entryGood F m S e && entriesGood F m S (e .dest + 1) es)
+entriesGood F m S least (e ∷ es) = nextGood F m S least e && entriesGood F m S (e .dest + 1) es
 
 -- The routes from the source S with these entries.
 unfoldable pub routesGood : Format → Shape → ℕ → List Entry → Bool
 routesGood F m S es = isNode m S && entriesGood F m S 0 es
 
--- The sheet in its own format.
-unfoldable pub sheetGood : Shape → List ℕ → Bool
-sheetGood m s = headGood (formatOf s) s && routesGood (formatOf s) m (source s) (entriesOf s)
+-- The sheet in a format.
+unfoldable pub goodIn : Format → Shape → List ℕ → Bool
+goodIn F m s = headGood F s && routesGood F m (source s) (entriesIn F s)
 
--- The plan's checks, then 13.
+-- The plan's checks, then 13, in a format and in the sheet's own.
+unfoldable pub errorIn : Format → Limits → List ℕ → List ℕ → ℕ
+errorIn F L p s = planError L p then declined (not (goodIn F (shapeOf p) s)) wrongRouteSheet
+
+abbrev pub sheetGood : Shape → List ℕ → Bool
+sheetGood m s = goodIn (formatOf s) m s
+
 unfoldable pub sheetError : Limits → List ℕ → List ℕ → ℕ
-sheetError L p s = planError L p then declined (not (sheetGood (shapeOf p) s)) wrongRouteSheet
+sheetError L p s = errorIn (formatOf s) L p s

@@ -15,9 +15,15 @@ pub record Format : Type 0 where
   pub viaKind : ℕ → Bool
   pub plainKind : ℕ → Bool
 
--- Version 2: the layout of document 01's version 1, which is not read any more.
+-- Versions 1 and 2 have one layout. Version 1, document 01's, is read by the converter alone.
+abbrev pub oneVia : ℕ → Format
+oneVia v = record { version = v; vias = 1; viaKind = viaKind; plainKind = plainKind }
+
+abbrev pub first : Format
+first = oneVia 1
+
 abbrev pub second : Format
-second = record { version = 2; vias = 1; viaKind = viaKind; plainKind = plainKind }
+second = oneVia 2
 
 -- The format in which a sheet is read, by its byte 0. Check 13 declines a sheet whose version is not its format's own.
 unfoldable pub formatBy : ℕ → Format
@@ -58,6 +64,10 @@ entryIn F s i = recordAt (entryForm F) entriesAt s i
 
 unfoldable pub entryAt : List ℕ → ℕ → Entry
 entryAt s i = entryIn (formatOf s) s i
+
+-- All of them, likewise.
+abbrev pub entriesIn : Format → List ℕ → List Entry
+entriesIn F s = listFrom (entryIn F s) 0 (entryCount s)
 
 unfoldable pub entriesOf : List ℕ → List Entry
 entriesOf s = listFrom (entryAt s) 0 (entryCount s)

@@ -19,13 +19,14 @@ use sheet::head::length_is;
 use sheet::head::version_in;
 ghost use mathlib.Core.Path.{_≡_};
 ghost use Rattle.plan.specs.Checks.{large};
-ghost use Rattle.routes.specs.Layout.{formatOf, written, entriesOf};
-ghost use Rattle.routes.specs.Checks.{headGood, viaGood, entryGood, entriesGood, sheetGood, sheetError};
+ghost use Rattle.routes.specs.Layout.{oneVia, formatOf, written, entriesOf};
+ghost use Rattle.routes.specs.Checks.{headGood, viaGood, entryGood, nextGood, entriesGood, sheetGood, sheetError};
 
-fn head_good(sheet: &[u8]) -> bool
-    ensures { λ r. ⌜ r ≡ headGood (formatOf (now (sheet .entry))) (now (sheet .entry)) ⌝ }
+// The head of a sheet of version 1 or 2, by the version that it has to have.
+pub fn head_good(sheet: &[u8], version: u8) -> bool
+    ensures { λ r. ⌜ r ≡ headGood (oneVia version) (now (sheet .entry)) ⌝ }
 {
-    let known = both(ENTRIES_AT <= sheet.len(), version_in(sheet) == VERSION);
+    let known = both(ENTRIES_AT <= sheet.len(), version_in(sheet) == version);
     both(known, length_is(sheet, size_after(count_in(sheet))))
 }
 
@@ -47,6 +48,13 @@ fn entry_good(shape: Shape, source: u16, e: Entry) -> bool
     both(dest, via_good(shape, source, e))
 }
 
+// Whether an entry may follow those before it. `least`: the least that its destination may be.
+pub fn next_good(shape: Shape, source: u16, least: u32, e: Entry) -> bool
+    ensures { λ r. ⌜ r ≡ nextGood written shape source least e ⌝ }
+{
+    both(least <= (e.dest as u32), entry_good(shape, source, e))
+}
+
 fn entries_good(sheet: &[u8], shape: Shape, source: u16) -> bool
     ensures { λ r. ⌜ r ≡ entriesGood (formatOf (now (sheet .entry))) shape source 0 (entriesOf (now (sheet .entry))) ⌝ }
 {
@@ -55,14 +63,10 @@ fn entries_good(sheet: &[u8], shape: Shape, source: u16) -> bool
     let mut i: u16 = 0;
     while i < count {
         let e = entry_in(sheet, i);
-        let dest = e.dest as u32;
-        if dest < least {
+        if !next_good(shape, source, least, e) {
             return false;
         }
-        if !entry_good(shape, source, e) {
-            return false;
-        }
-        least = dest + 1;
+        least = (e.dest as u32) + 1;
         i = i + 1;
     }
     true
@@ -71,7 +75,7 @@ fn entries_good(sheet: &[u8], shape: Shape, source: u16) -> bool
 fn sheet_good(shape: Shape, sheet: &[u8]) -> bool
     ensures { λ r. ⌜ r ≡ sheetGood shape (now (sheet .entry)) ⌝ }
 {
-    if !head_good(sheet) {
+    if !head_good(sheet, VERSION) {
         return false;
     }
     let source = source_in(sheet);

@@ -1,4 +1,4 @@
-// Where the parts of a route sheet, version 2, stand. Byte 0 is the version and bytes 1-2 the length of what follows, as in every sheet. These calls
+// Where the parts of a route sheet, version 1 or 2, stand. Byte 0 is the version and bytes 1-2 the length of what follows, as in every sheet. These calls
 // read any bytes, also of a sheet that a check declines; a byte past the end reads as 0.
 use sheet::byte_at;
 use sheet::word_at;
@@ -12,8 +12,10 @@ pub struct Entry {
     pub via: u16,
 }
 
-// Version 2: the entries stand at byte 7, five bytes each.
+// The version that is written and read, and that before it, which the converter alone reads. In both the entries stand at byte 7, five bytes each.
 pub const VERSION: u8 = 2;
+
+pub const FIRST_VERSION: u8 = 1;
 
 pub const ENTRIES_AT: usize = 7;
 

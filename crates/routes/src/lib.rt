@@ -1,5 +1,5 @@
 // The route sheet in its bytes: its layout, check 13, looking up a destination, and writing it back.
-mod checks;
+pub mod checks;
 pub mod kinds;
 pub mod layout;
 pub mod lookup;

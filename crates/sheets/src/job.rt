@@ -1,5 +1,4 @@
-// The job: every sound board's sheet to the file OUT.part, which takes the name OUT when all are written and on disk. So OUT is never part of a job, and
-// what an interrupted job left is taken over by the next one for the same OUT.
+// The job: every sound board's sheet to the file OUT.part, and then to OUT.
 use crate::say;
 use crate::tally;
 use crate::tally::Tally;
@@ -15,8 +14,10 @@ use machine::node::count;
 use plan::layout::shape_in;
 use plan_input::PLAN_BYTES;
 use plan_input::plan_error;
+use program::part_file;
+use program::say::cannot_write;
+use program::say::refused;
 use text::part::front;
-use text::put;
 ghost use mathlib.Core.Path.{_≡_};
 ghost use mathlib.Core.Bool.{true, false};
 ghost use Prim.Native.Nat.{_≤_, _<_};
@@ -122,26 +123,18 @@ fn write_all(plan: &[u8; PLAN_BYTES], size: usize, file: i32) -> Progress {
     write_runs(plan, size, file, &work, &mut out)
 }
 
-fn part_name(out: &[u8], name: &mut [u8]) -> usize {
-    let end = put::bytes(name, 0, out);
-    put::bytes(name, end, b".part")
-}
-
 fn finish(progress: Progress, file: i32, name: &[u8], out: &[u8]) {
-    let on_disk = libc::fsync(file) == 0;
-    let closed = libc::close(file) == 0;
-    if progress.writable && on_disk && closed && os::rename(name, out) == 0 {
+    if part_file::finish(progress.writable, file, name, out) {
         say::done(progress.tally);
         return;
     }
-    os::unlink(name);
-    say::cannot_write(out);
+    cannot_write(out);
 }
 
 fn write_part(plan: &[u8; PLAN_BYTES], size: usize, name: &[u8], out: &[u8]) {
     let file = os::open_overwrite(name);
     if file < 0 {
-        say::cannot_write(out);
+        cannot_write(out);
         return;
     }
     finish(write_all(plan, size, file), file, name, out);
@@ -151,10 +144,10 @@ fn write_part(plan: &[u8; PLAN_BYTES], size: usize, name: &[u8], out: &[u8]) {
 pub fn write_sheets(plan: &[u8; PLAN_BYTES], size: usize, out: &[u8]) {
     let error = plan_error(plan, size);
     if error != 0 {
-        say::refused(error);
+        refused(error);
         return;
     }
     let mut name = io::buffer();
-    let length = part_name(out, &mut name);
+    let length = part_file::put_name(out, &mut name);
     write_part(plan, size, front(&name, length), out);
 }

@@ -7,13 +7,14 @@ mod tally;
 mod wait;
 
 use plan_input::PLAN_BYTES;
+use program::say::cannot_read;
 use text::part::front;
 
 // The plan sheet of a file, to the file of its route sheets.
 fn from_file(plan: &[u8], out: &[u8]) {
     let file = os::open_read(plan);
     if file < 0 {
-        say::cannot_read(plan);
+        cannot_read(plan);
         return;
     }
     let mut sheet = [0u8; PLAN_BYTES];

@@ -7,4 +7,5 @@ pub mod Steps
 pub mod Claim
 pub mod Choice
 pub mod Plan
+pub mod Alike
 pub mod Grow

@@ -6,3 +6,4 @@ pub mod Run
 pub mod Claim
 pub mod Choice
 pub mod Plan
+pub mod Alike

@@ -13,7 +13,7 @@ pub const LISTING_BYTES: usize = 65550;
 pub const ALL_WORDS_A_BOARD: usize = 512;
 pub const ALL_WORDS: usize = 2097152;
 
-/// The number of a refusal, 1 to 16.
+/// The number of a refusal, 1 to 17.
 #[derive(Clone, Copy, Debug, PartialEq, Eq)]
 pub struct Refused(pub u8);
 
@@ -69,6 +69,13 @@ pub struct Run {
 pub enum NoRun {
     Refused(Refused),
     FewWords,
+}
+
+/// Why a sheet is not converted: a number, or 17 with the first entry that cannot be kept, counted from 0.
+#[derive(Clone, Copy, Debug, PartialEq, Eq)]
+pub enum NotConverted {
+    Refused(Refused),
+    NotKept(u16),
 }
 
 #[derive(Clone, Copy, Debug, PartialEq, Eq)]
@@ -192,7 +199,7 @@ pub fn listing(input: &[u8], out: &mut [u8]) -> Result<usize, Refused> {
 
 // ---- Route sheets
 
-/// The checks of the plan, then 13 of the sheet. Version 2 alone is read: a version 1 sheet has to be written anew from the plan in use.
+/// The checks of the plan, then 13 of the sheet. Version 2 alone is read; `convert` reads version 1.
 pub fn sheet_check(plan: &[u8], sheet: &[u8]) -> Result<(), Refused> {
     accepted(unsafe { raw::nafthurm_sheet_check(plan.as_ptr(), plan.len(), sheet.as_ptr(), sheet.len()) })
 }
@@ -211,6 +218,17 @@ pub fn lookup<'a>(plan: &[u8], sheet: &'a [u8], destination: u16) -> &'a [u8] {
 
 pub fn lookup_route(plan: &[u8], sheet: &[u8], destination: u16) -> Result<Route, Refused> {
     unsafe { raw::nafthurm_lookup_route(plan.as_ptr(), plan.len(), sheet.as_ptr(), sheet.len(), destination) }.read()
+}
+
+/// A version 1 sheet as version 2, its entries' bytes unchanged, into `out`: how many bytes are written. It stands for the same walks; where an entry cannot be
+/// kept, write the sheet anew from the plan in use.
+pub fn convert(plan: &[u8], sheet: &[u8], out: &mut [u8]) -> Result<usize, NotConverted> {
+    let converted = unsafe { raw::nafthurm_convert(plan.as_ptr(), plan.len(), sheet.as_ptr(), sheet.len(), out.as_mut_ptr(), out.len()) };
+    match converted.number {
+        0 => Ok(converted.size),
+        raw::NOT_KEPT => Err(NotConverted::NotKept(converted.entry)),
+        number => Err(NotConverted::Refused(Refused(number))),
+    }
 }
 
 // ---- Packets

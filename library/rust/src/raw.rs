@@ -4,6 +4,9 @@ use crate::{Leg, Mode, Refused, Shape, Weights};
 /// The number of a run whose workspace is too small.
 pub const FEW_WORDS: u8 = 255;
 
+/// The number of a conversion whose sheet has an entry that cannot be kept.
+pub const NOT_KEPT: u8 = 17;
+
 #[repr(C)]
 pub struct Written {
     pub number: u8,
@@ -14,6 +17,13 @@ pub struct Written {
 pub struct Run {
     pub number: u8,
     pub next: u16,
+    pub size: usize,
+}
+
+#[repr(C)]
+pub struct Converted {
+    pub number: u8,
+    pub entry: u16,
     pub size: usize,
 }
 
@@ -78,6 +88,7 @@ extern "C" {
     pub fn nafthurm_sheet_write_back(plan: *const u8, plan_size: usize, sheet: *const u8, sheet_size: usize, out: *mut u8, out_size: usize) -> Written;
     pub fn nafthurm_lookup(plan: *const u8, plan_size: usize, sheet: *const u8, sheet_size: usize, destination: u16) -> Part;
     pub fn nafthurm_lookup_route(plan: *const u8, plan_size: usize, sheet: *const u8, sheet_size: usize, destination: u16) -> Route;
+    pub fn nafthurm_convert(plan: *const u8, plan_size: usize, sheet: *const u8, sheet_size: usize, out: *mut u8, out_size: usize) -> Converted;
     pub fn nafthurm_new_packet(source: u16, destination: u16, route: Route) -> Packet;
     pub fn nafthurm_packet_check(shape: Shape, packet: Packet) -> u8;
     pub fn nafthurm_step(shape: Shape, packet: Packet, direction: u8) -> Stepped;

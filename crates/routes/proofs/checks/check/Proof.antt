@@ -1,5 +1,5 @@
 use Rattle.routes.proofs.Sheets.{checked}
-use Rattle.routes.specs.Checks.{sheetError}
+use Rattle.routes.specs.Checks.{errorIn, sheetError}
 use borrow.Author.Needs.{needs}
 use Rattle.routes.proofs.checks.check.Statement.{statement}
 use Rattle.routes.proofs.checks.check.Tie as tie
@@ -20,7 +20,7 @@ pick-requires-2 : tie.Need-pick-requires-2
 pick-requires-2 c κs = search needs
 
 returns : tie.Need-returns
-unfolding sheetError
+unfolding sheetError errorIn
 returns c = rw (checked _ _ _, c .pick2 .ensures, c .before .pick .ensures, c .before .before .sheet-good .ensures, c .before .before .before .shape-in .ensures, c .before .before .before .before .check .ensures)
 
 pub check-spec : {M : Type 1} → statement M

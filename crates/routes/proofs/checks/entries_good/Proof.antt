@@ -1,5 +1,5 @@
 use Rattle.routes.specs.Layout.{formatBy, written}
-use Rattle.routes.proofs.Entries.{Checking, begin, refused, refused-order, onward, ended}
+use Rattle.routes.proofs.Entries.{Checking, begin, refused, onward, ended}
 use borrow.Author.Tests.{not-true, not-false}
 use mathlib.Core.Path.{sym, _∙_}
 use native.Mathlib.Omega.{arith}
@@ -22,19 +22,15 @@ loop-holds c = begin _ _ _ _ _ (c .count-in .ensures)
 entry-in-requires : tie.Need-entry-in-requires Inv-loop μ-loop
 entry-in-requires c κs = tt
 
-cast-dest : tie.Need-cast-dest Inv-loop μ-loop
-cast-dest c = omega arith
+next-good-requires : tie.Need-next-good-requires Inv-loop μ-loop
+next-good-requires c κs = tt
 
 returns : tie.Need-returns Inv-loop μ-loop
 unfolding formatBy
-returns c = refused-order _ _ _ _ _ _ _ (c .before .before .before .before .loop .inv) _ (c .before .before .entry-in .ensures) (c .before .before .before .loop-test .taken) (c .if1 .taken)
+returns c = refused _ _ _ _ _ _ _ (c .before .before .before .before .loop .inv) _ (c .before .before .entry-in .ensures) (c .before .before .before .loop-test .taken) (sym (c .before .next-good .ensures) ∙ not-true _ (c .if1 .taken))
 
-entry-good-requires : tie.Need-entry-good-requires Inv-loop μ-loop
-entry-good-requires c κs = tt
-
-returns-2 : tie.Need-returns-2 Inv-loop μ-loop
-unfolding formatBy
-returns-2 c = refused _ _ _ _ _ _ _ (c .before .before .before .before .before .before .loop .inv) _ (c .before .before .before .before .entry-in .ensures) (c .before .before .before .before .before .loop-test .taken) (c .before .before .if1 .left) (sym (c .before .entry-good .ensures) ∙ not-true _ (c .if2 .taken))
+cast-least : tie.Need-cast-least Inv-loop μ-loop
+cast-least c = omega arith
 
 add-least : tie.Need-add-least Inv-loop μ-loop
 add-least c = omega arith
@@ -46,11 +42,11 @@ loop-less : tie.Need-loop-less Inv-loop μ-loop
 loop-less c = omega arith
 
 loop-again : tie.Need-loop-again Inv-loop μ-loop
-loop-again c = onward _ _ _ _ _ _ _ (c .before .before .before .before .before .before .loop .inv) _ (c .before .before .before .before .entry-in .ensures) (c .before .before .before .before .before .loop-test .taken) (c .before .before .if1 .left) (sym (c .before .entry-good .ensures) ∙ not-false _ (c .if2 .left)) (omega arith)
+loop-again c = onward _ _ _ _ _ _ _ (c .before .before .before .before .before .loop .inv) _ (c .before .before .before .entry-in .ensures) (c .before .before .before .before .loop-test .taken) (sym (c .before .before .next-good .ensures) ∙ not-false _ (c .before .if1 .left)) (omega arith)
 
-returns-3 : tie.Need-returns-3 Inv-loop μ-loop
+returns-2 : tie.Need-returns-2 Inv-loop μ-loop
 unfolding formatBy
-returns-3 c = ended _ _ _ _ _ _ _ (c .before .loop .inv) (c .loop-test .left)
+returns-2 c = ended _ _ _ _ _ _ _ (c .before .loop .inv) (c .loop-test .left)
 
 pub entries-good-spec : {M : Type 1} → statement M
 entries-good-spec =
@@ -61,12 +57,11 @@ entries-good-spec =
     count-in-requires
     loop-holds
     entry-in-requires
-    cast-dest
+    next-good-requires
     returns
-    entry-good-requires
-    returns-2
+    cast-least
     add-least
     add-i
     loop-less
     loop-again
-    returns-3)
+    returns-2)

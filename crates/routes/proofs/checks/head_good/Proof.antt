@@ -1,4 +1,3 @@
-use Rattle.routes.specs.Layout.{formatBy}
 use Rattle.routes.specs.Checks.{headGood}
 use borrow.Author.Needs.{needs}
 use Rattle.routes.proofs.checks.head_good.Statement.{statement}
@@ -23,7 +22,7 @@ both-requires-2 : tie.Need-both-requires-2
 both-requires-2 c κs = search needs
 
 returns : tie.Need-returns
-unfolding headGood formatBy
+unfolding headGood
 returns c = rw (c .both2 .ensures, c .before .length-is .ensures, c .before .before .size-after .ensures, c .before .before .before .count-in .ensures, c .before .before .before .before .both .ensures, c .before .before .before .before .before .version-in .ensures)
 
 pub head-good-spec : {M : Type 1} → statement M

@@ -1,4 +1,5 @@
-use Rattle.routes.specs.Checks.{routesGood, sheetGood}
+use Rattle.routes.specs.Layout.{formatBy, entryAt, entriesOf}
+use Rattle.routes.specs.Checks.{routesGood, goodIn}
 use borrow.Author.Tests.{not-true, not-false}
 use mathlib.Core.Path.{sym, _∙_}
 use borrow.Author.Needs.{needs}
@@ -9,7 +10,7 @@ head-good-requires : tie.Need-head-good-requires
 head-good-requires c κs = search needs
 
 returns : tie.Need-returns
-unfolding sheetGood
+unfolding goodIn formatBy
 returns c = rw (sym (c .before .head-good .ensures) ∙ not-true _ (c .if1 .taken))
 
 source-in-requires : tie.Need-source-in-requires
@@ -25,7 +26,7 @@ both-requires : tie.Need-both-requires
 both-requires c κs = search needs
 
 returns-2 : tie.Need-returns-2
-unfolding routesGood sheetGood
+unfolding routesGood goodIn entriesOf entryAt formatBy
 returns-2 c = rw (sym (c .before .before .before .before .before .head-good .ensures) ∙ not-false _ (c .before .before .before .before .if1 .left), c .both .ensures, c .before .entries-good .ensures, c .before .before .is-node .ensures, c .before .before .before .source-in .ensures)
 
 pub sheet-good-spec : {M : Type 1} → statement M

@@ -1,0 +1,87 @@
+-- What stands as it was: the legs of a route, and what an entry says.
+use Prim.Native.Nat.{ℕ, _<_}
+use mathlib.Core.Path.{_≡_, refl, sym, _∙_}
+use mathlib.Core.Logic.{_↔_}
+use mathlib.Core.Bool.{Bool, true, false, _&&_}
+use mathlib.Core.List.{List, [], _∷_}
+use borrow.Author.Tests.{eqb-false, ne-eqb, not-true}
+use Rattle.numbers.specs.Numbers.{noClearChoice}
+use Rattle.theory.specs.Machine.{Inside}
+use Rattle.theory.specs.Alike.{SameWalks, SameLegs}
+use Rattle.theory.proofs.Bools.{and-true}
+use Rattle.theory.proofs.Alike.{same-walks}
+use Rattle.shape.specs.declared.shape.Shape.{Shape}
+use Rattle.shape.specs.Shape.{shapeError}
+use Rattle.machine.specs.declared.leg.Mode.{Mode}
+use Rattle.machine.specs.declared.leg.Mode.the-variants.{Adaptive, Deterministic}
+use Rattle.machine.specs.declared.leg.Leg.{Leg}
+use Rattle.machine.specs.Number.{nodeCount}
+use Rattle.machine.specs.Node.{isNode}
+use Rattle.machine.specs.Torus.{allowedBy, torus, leg}
+use Rattle.machine.proofs.Nodes.{is-node}
+use Rattle.packet.specs.declared.route.Route.{Route}
+use Rattle.packet.specs.New.{legsTo}
+use Rattle.choice.specs.Answer.{Answer, Given, Refused}
+use Rattle.conversion.specs.Keeping.{oldTorus, oddHalf, legKept, legsKept, answerKept}
+use Rattle.conversion.specs.Kept.{Stands}
+use Rattle.conversion.proofs.Halves.{leg-kept}
+
+and-right : (b : Bool) → (b && true) ≡ b
+and-right true = refl
+and-right false = refl
+
+-- The legs of an answer are to nodes.
+abbrev pub InsideOf : Shape → Answer → Type 0
+InsideOf s (Given c) = Inside (torus s) c
+InsideOf s (Refused e) = Unit {0}
+
+module _ (s : Shape) (h : shapeError s ≡ 0) where
+  -- The rule is not asked for an adaptive leg.
+  pub adaptive-kept : (t a : ℕ) → SameWalks (oldTorus s) (torus s) (leg t Adaptive) a
+  unfolding allowedBy
+  adaptive-kept t a = same-walks (oldTorus s) _ (leg t Adaptive) (λ p. Unit {0}) (λ p d q. refl) (λ p d q w. tt) a tt
+
+  mode-kept : (m : Mode) (t a : ℕ) → t < nodeCount s → a < nodeCount s → (legKept m s a t ≡ true) ↔ SameWalks (oldTorus s) (torus s) (leg t m) a
+  unfolding legKept
+  mode-kept Adaptive t a ht ha = (λ _. adaptive-kept t a, λ _. refl)
+  mode-kept Deterministic t a ht ha =
+      let k = leg-kept s h a t ha ht in
+      (λ e. k .0 (not-true _ e), λ w. rw (k .1 w))
+
+  pub legs-kept : (a : ℕ) (c : List Leg) → a < nodeCount s → Inside (torus s) c → (legsKept s a c ≡ true) ↔ SameLegs (oldTorus s) (torus s) a c
+  unfolding legsKept
+  legs-kept a [] ha i = (λ _. tt, λ _. refl)
+  legs-kept a (l ∷ ls) ha i =
+      let one = mode-kept (l .mode) (l .target) a (i .0) ha in
+      let rest = legs-kept (l .target) ls (i .0) (i .1) in (
+        λ e. let both = and-true (legKept (l .mode) s a (l .target)) _ e in (one .0 (both .0), rest .0 (both .1)),
+        λ w. rw (one .1 (w .0), rest .1 (w .1)),
+      )
+
+  pub answer-kept : (S : ℕ) (a : Answer) → S < nodeCount s → InsideOf s a → (answerKept s S a ≡ true) ↔ Stands s S a
+  unfolding answerKept
+  answer-kept S (Given c) hS i = legs-kept S c hS i
+  answer-kept S (Refused e) hS i = (λ k. eqb-false e noClearChoice (not-true _ k), λ k. rw (ne-eqb e noClearChoice k))
+
+-- A route by its cases, as the code judges it.
+module _ (s : Shape) (S D : ℕ) (hS : isNode s S ≡ true) (r : Route) (i : Inside (torus s) (legsTo D r)) where
+  pub direct-node : (m : Mode) → r ≡ Route.Direct m → isNode s D ≡ true
+  unfolding legsTo
+  direct-node m e = is-node s S hS D ((rw e at i) .0)
+
+  pub direct-kept : (m : Mode) → r ≡ Route.Direct m → (k : Bool) → k ≡ legKept m s S D → k ≡ legsKept s S (legsTo D r)
+  unfolding legsKept legsTo
+  direct-kept m e k q = q ∙ rw e (sym (and-right _))
+
+  module _ (v : ℕ) (m n : Mode) (e : r ≡ Route.Via v m n) where
+    pub via-node : isNode s v ≡ true
+    unfolding legsTo
+    via-node = is-node s S hS v ((rw e at i) .0)
+
+    pub end-node : isNode s D ≡ true
+    unfolding legsTo
+    end-node = is-node s S hS D ((rw e at i) .1 .0)
+
+    pub via-kept : (j k b : Bool) → j ≡ legKept m s S v → k ≡ legKept n s v D → b ≡ (j && k) → b ≡ legsKept s S (legsTo D r)
+    unfolding legsKept legsTo
+    via-kept j k b qj qk qb = qb ∙ rw (e, qj, qk, and-right (legKept n s v D))

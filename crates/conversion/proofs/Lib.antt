@@ -1,0 +1,10 @@
+pub mod Halves
+pub mod Legs
+pub mod Said
+pub mod Losing
+pub mod Judging
+pub mod Bytes
+pub mod Standing
+pub mod Kept
+pub mod Exact
+pub mod Worked

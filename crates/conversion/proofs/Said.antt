@@ -1,0 +1,68 @@
+-- What an entry says, by the code's enum, and where its legs end.
+use Prim.Native.Nat.{ℕ, _<_}
+use mathlib.Core.Path.{_≡_, refl, sym, ap, _∙_}
+use mathlib.Core.Bool.{true, not}
+use mathlib.Core.List.{List, [], _∷_}
+use lib.ListN.{getD}
+use lib.Dec.{eqb}
+use Rattle.numbers.specs.Numbers.{noClearChoice}
+use Rattle.theory.specs.Machine.{Inside}
+use Rattle.shape.specs.declared.shape.Shape.{Shape}
+use Rattle.machine.specs.declared.leg.Mode.{Mode}
+use Rattle.machine.specs.Number.{nodeCount}
+use Rattle.machine.specs.Node.{isNode}
+use Rattle.machine.specs.Torus.{torus}
+use Rattle.machine.proofs.Nodes.{node-of}
+use Rattle.packet.specs.declared.route.Route.{Route}
+use Rattle.packet.specs.New.{legsTo}
+use Rattle.choice.specs.declared.outcome.Outcome.{Outcome}
+use Rattle.choice.specs.Answer.{Answer, Given, Refused}
+use Rattle.choice.specs.Outcome.{toldAs}
+use Rattle.routes.specs.declared.layout.Entry.{Entry}
+use Rattle.routes.specs.Kinds.{kinds}
+use Rattle.routes.specs.Said.{saidWith, saidBy, heard}
+use Rattle.conversion.specs.Keeping.{legsKept, answerKept, entryKept}
+use Rattle.conversion.proofs.Legs.{InsideOf}
+
+-- The enum says what the entry says.
+heard-with : (ms : List Mode) (e : Entry) (n : ℕ) → heard (e .dest) (toldAs n (saidWith ms e)) ≡ saidWith ms e
+unfolding heard toldAs legsTo
+heard-with [] e n = refl
+heard-with (m ∷ []) e n = refl
+heard-with (m ∷ k ∷ ms) e n = refl
+
+pub heard-said : (e : Entry) (n : ℕ) → heard (e .dest) (toldAs n (saidBy e)) ≡ saidBy e
+unfolding saidBy
+heard-said e n = heard-with (getD kinds (e .kind) []) e n
+
+-- The legs end at the via and the destination.
+module _ (s : Shape) where
+  inside-with : (ms : List Mode) (e : Entry) → e .dest < nodeCount s → e .via < nodeCount s → InsideOf s (saidWith ms e)
+  inside-with [] e d v = tt
+  inside-with (m ∷ []) e d v = (d, tt)
+  inside-with (m ∷ k ∷ ms) e d v = (v, (d, tt))
+
+  pub inside-said : (e : Entry) → e .dest < nodeCount s → e .via < nodeCount s → InsideOf s (saidBy e)
+  unfolding saidBy
+  inside-said e d v = inside-with (getD kinds (e .kind) []) e d v
+
+-- What the code finds in an entry.
+module _ (s : Shape) (e : Entry) (o : Outcome) (told : o ≡ toldAs 0 (saidBy e)) where
+  said : heard (e .dest) o ≡ saidBy e
+  said = ap (heard (e .dest)) told ∙ heard-said e 0
+
+  module _ (r : Route) (n : ℕ) (given : o ≡ Outcome.Given r n) where
+    legs : Given (legsTo (e .dest) r) ≡ saidBy e
+    unfolding heard
+    legs = rw given at said
+
+    pub given-inside : isNode s (e .dest) ≡ true → isNode s (e .via) ≡ true → Inside (torus s) (legsTo (e .dest) r)
+    given-inside d v = rw (← legs) at (inside-said s e (node-of s (e .dest) d .below) (node-of s (e .via) v .below))
+
+    pub given-kept : (S : ℕ) → legsKept s S (legsTo (e .dest) r) ≡ entryKept s S e
+    unfolding entryKept answerKept
+    given-kept S = rw (← legs)
+
+  pub refused-kept : (S n : ℕ) → o ≡ Outcome.Refused n → not (eqb n noClearChoice) ≡ entryKept s S e
+  unfolding entryKept answerKept heard
+  refused-kept S n given = let is : Refused n ≡ saidBy e = rw given at said in rw (← is)
