@@ -1,5 +1,7 @@
-//! Planning: the proved library and the program `sheets` against the two planners in plain Rust, on the same plans, in one run. It ends with a message where
-//! an answer differs. The words are the parts to measure, all of them where there is none: pair, sheet, sources, all, calls, growth. It is started by `bench/run`.
+//! Planning: the proved library and the program `sheets` against the two planners in plain Rust, on the same plans, in one run; and the converter against one in
+//! plain Rust. It ends with a message where an answer differs. The words are the parts to measure, all of them where there is none: pair, sheet, sources, all,
+//! calls, growth, convert. It is started by `bench/run`.
+mod conversion;
 mod plans;
 mod random;
 mod rivals;
@@ -272,10 +274,35 @@ fn growth() {
     growth_row(Machine { extent: extent(), torus: false, weights: None }, &faults);
 }
 
+// ---- A conversion
+
+fn convert_times() {
+    let mut out = vec![0; nafthurm::SHEET_BYTES];
+    let mut plain_out = vec![0; nafthurm::SHEET_BYTES];
+    head(&["machine", "entries", "kind", "a conversion", "plain Rust", "ratio", "writing the new sheet back", "ratio"]);
+    for machine in machines() {
+        let plan = machine.plan(Faults { links: 10, boards: 0 });
+        for kind in [1, 2, 5] {
+            let old = conversion::old_sheet(machine, kind);
+            let size = nafthurm::convert(&plan, &old, &mut out).expect("a sheet that can be kept");
+            assert_eq!(conversion::convert(&plan, &old, &mut plain_out), Ok(size));
+            assert!(out[..size] == plain_out[..size], "the sheet is another than that of plain Rust");
+            let new = out[..size].to_vec();
+            let ours = time::least(20, || _ = black_box(nafthurm::convert(&plan, &old, &mut out)));
+            let plain = time::least(20, || _ = black_box(conversion::convert(&plan, &old, &mut plain_out)));
+            let back = time::least(20, || _ = black_box(nafthurm::sheet_write_back(&plan, &new, &mut out)));
+            let columns = [time_of(ours), time_of(plain), ratio(ours, plain), time_of(back), ratio(ours, back)];
+            println!("| {} | {} | {kind} | {} |", machine.name(), machine.nodes() - 1, columns.join(" | "));
+        }
+    }
+}
+
 fn main() {
     let asked: Vec<String> = std::env::args().skip(1).collect();
-    let parts: [(&str, fn()); 6] =
-        [("pair", pair_times), ("sheet", sheet_times), ("sources", source_times), ("all", all_times), ("calls", call_times), ("growth", growth)];
+    let parts: [(&str, fn()); 7] = [
+        ("pair", pair_times), ("sheet", sheet_times), ("sources", source_times), ("all", all_times), ("calls", call_times), ("growth", growth),
+        ("convert", convert_times),
+    ];
     for (name, part) in parts {
         if asked.is_empty() || asked.iter().any(|word| word == name) {
             part();

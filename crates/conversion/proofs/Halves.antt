@@ -16,7 +16,7 @@ use Rattle.shape.specs.declared.shape.Dim.{Dim}
 use Rattle.shape.specs.declared.shape.Dim.the-variants.{X, Y, Z}
 use Rattle.shape.specs.Shape.{shapeError, extentOf, wrappedIn, coordOf}
 use Rattle.machine.specs.declared.leg.Mode.the-variants.{Deterministic}
-use Rattle.machine.specs.Number.{nodeCount}
+use Rattle.machine.specs.Number.{nodeCount, coordsOf}
 use Rattle.machine.specs.Node.{isNode, coordsAnswer}
 use Rattle.machine.specs.Hop.{along, part, half, rule}
 use Rattle.machine.specs.ByCoords.{hopsAlong}
@@ -24,7 +24,7 @@ use Rattle.machine.specs.Torus.{torus, leg}
 use Rattle.machine.proofs.Laws.{half-is, is-half}
 use Rattle.machine.proofs.Rules.{Agree, agree-walks, walks-agree}
 use Rattle.conversion.specs.Keeping.{oldRule, oldTorus, oddHalfIn, oddHalf}
-use Rattle.conversion.specs.Steps.{oddHalfAt}
+use Rattle.conversion.specs.Steps.{oddHalfAt, oddHalfOf}
 
 all-true : (x y z : Bool) → x ≡ true → y ≡ true → z ≡ true → (x && (y && z)) ≡ true
 all-true x y z ex ey ez = rw (ex, ey, ez)
@@ -37,12 +37,13 @@ pub odd-along :
 unfolding oddHalfAt
 odd-along s c e d hops len p ring both r eh el ep ew eb er = er ∙ rw (eb, eh, el, ep, ew)
 
--- By the coordinates that the code gets of two nodes.
-pub odd-coords :
-    (s : Shape) (a t : ℕ) → isNode s a ≡ true → isNode s t ≡ true → (c e : Coords) → c ≡ coordsAnswer s a → e ≡ coordsAnswer s t →
-    (d : Dim) → oddHalfAt s c e d ≡ oddHalfIn s a t d
-unfolding oddHalfAt oddHalfIn
-odd-coords s a t ha ht c e qc qe d = rw (qc, qe, ha, ht)
+-- By the coordinates of two nodes, and as the code gets them.
+pub odd-coords : (s : Shape) (a t : ℕ) (c e : Coords) → c ≡ coordsOf s a → e ≡ coordsOf s t → oddHalfOf s c e ≡ oddHalf s a t
+unfolding oddHalfOf oddHalfAt oddHalf oddHalfIn
+odd-coords s a t c e qc qe = rw (qc, qe)
+
+pub coords-is : (s : Shape) (a : ℕ) → isNode s a ≡ true → (c : Coords) → c ≡ coordsAnswer s a → c ≡ coordsOf s a
+coords-is s a h c q = q ∙ rw h
 
 module _ (s : Shape) (h : shapeError s ≡ 0) (a t : ℕ) (ha : a < nodeCount s) (ht : t < nodeCount s) where
   odd-is : (d : Dim) → oddHalfIn s a t d ≡ true → (half s a t d ≡ true) × (rule (along s a d) ≡ false)

@@ -2,7 +2,7 @@
 use Prim.Native.Nat.{ℕ, _<_}
 use mathlib.Core.Path.{_≡_, refl, sym, _∙_}
 use mathlib.Core.Logic.{_↔_}
-use mathlib.Core.Bool.{Bool, true, false, _&&_}
+use mathlib.Core.Bool.{Bool, true, false, not, _&&_}
 use mathlib.Core.List.{List, [], _∷_}
 use borrow.Author.Tests.{eqb-false, ne-eqb, not-true}
 use Rattle.numbers.specs.Numbers.{noClearChoice}
@@ -11,20 +11,22 @@ use Rattle.theory.specs.Alike.{SameWalks, SameLegs}
 use Rattle.theory.proofs.Bools.{and-true}
 use Rattle.theory.proofs.Alike.{same-walks}
 use Rattle.shape.specs.declared.shape.Shape.{Shape}
+use Rattle.shape.specs.declared.shape.Coords.{Coords}
 use Rattle.shape.specs.Shape.{shapeError}
 use Rattle.machine.specs.declared.leg.Mode.{Mode}
 use Rattle.machine.specs.declared.leg.Mode.the-variants.{Adaptive, Deterministic}
 use Rattle.machine.specs.declared.leg.Leg.{Leg}
-use Rattle.machine.specs.Number.{nodeCount}
-use Rattle.machine.specs.Node.{isNode}
+use Rattle.machine.specs.Number.{nodeCount, coordsOf}
+use Rattle.machine.specs.Node.{isNode, coordsAnswer}
 use Rattle.machine.specs.Torus.{allowedBy, torus, leg}
-use Rattle.machine.proofs.Nodes.{is-node}
+use Rattle.machine.proofs.Nodes.{below-node}
 use Rattle.packet.specs.declared.route.Route.{Route}
 use Rattle.packet.specs.New.{legsTo}
 use Rattle.choice.specs.Answer.{Answer, Given, Refused}
 use Rattle.conversion.specs.Keeping.{oldTorus, oddHalf, legKept, legsKept, answerKept}
 use Rattle.conversion.specs.Kept.{Stands}
-use Rattle.conversion.proofs.Halves.{leg-kept}
+use Rattle.conversion.specs.Steps.{oddHalfOf}
+use Rattle.conversion.proofs.Halves.{odd-coords, coords-is, leg-kept}
 
 and-right : (b : Bool) → (b && true) ≡ b
 and-right true = refl
@@ -63,25 +65,40 @@ module _ (s : Shape) (h : shapeError s ≡ 0) where
   answer-kept S (Given c) hS i = legs-kept S c hS i
   answer-kept S (Refused e) hS i = (λ k. eqb-false e noClearChoice (not-true _ k), λ k. rw (ne-eqb e noClearChoice k))
 
--- A route by its cases, as the code judges it.
-module _ (s : Shape) (S D : ℕ) (hS : isNode s S ≡ true) (r : Route) (i : Inside (torus s) (legsTo D r)) where
+-- A leg as the code judges it, from the coordinates c.
+module _ (s : Shape) (m : Mode) (c : Coords) (t : ℕ) where
+  pub adaptive-leg : m ≡ Adaptive → (a : ℕ) → c ≡ coordsOf s a → true ≡ legKept m s a t
+  unfolding legKept
+  adaptive-leg e a q = rw e
+
+  pub one-leg : m ≡ Deterministic → isNode s t ≡ true → (e : Coords) → e ≡ coordsAnswer s t → (o : Bool) → o ≡ oddHalfOf s c e → (a : ℕ) → c ≡ coordsOf s a → not o ≡ legKept m s a t
+  unfolding legKept
+  one-leg em ht e qe o qo a q = rw (em, qo, odd-coords s a t c e q (coords-is s t ht e qe))
+
+-- What the code answers of a source with these coordinates.
+abbrev pub Each : Shape → Coords → (ℕ → Bool) → Bool → Type 0
+Each s c kept k = (a : ℕ) → c ≡ coordsOf s a → k ≡ kept a
+
+-- A route by its cases.
+module _ (s : Shape) (h : shapeError s ≡ 0) (D : ℕ) (r : Route) (i : Inside (torus s) (legsTo D r)) where
   pub direct-node : (m : Mode) → r ≡ Route.Direct m → isNode s D ≡ true
   unfolding legsTo
-  direct-node m e = is-node s S hS D ((rw e at i) .0)
+  direct-node m e = below-node s h D ((rw e at i) .0)
 
-  pub direct-kept : (m : Mode) → r ≡ Route.Direct m → (k : Bool) → k ≡ legKept m s S D → k ≡ legsKept s S (legsTo D r)
+  pub direct-kept : (m : Mode) → r ≡ Route.Direct m → (c : Coords) (k : Bool) → Each s c (λ a. legKept m s a D) k → Each s c (λ a. legsKept s a (legsTo D r)) k
   unfolding legsKept legsTo
-  direct-kept m e k q = q ∙ rw e (sym (and-right _))
+  direct-kept m e c k q a qa = q a qa ∙ rw e (sym (and-right _))
 
   module _ (v : ℕ) (m n : Mode) (e : r ≡ Route.Via v m n) where
     pub via-node : isNode s v ≡ true
     unfolding legsTo
-    via-node = is-node s S hS v ((rw e at i) .0)
+    via-node = below-node s h v ((rw e at i) .0)
 
     pub end-node : isNode s D ≡ true
     unfolding legsTo
-    end-node = is-node s S hS D ((rw e at i) .1 .0)
+    end-node = below-node s h D ((rw e at i) .1 .0)
 
-    pub via-kept : (j k b : Bool) → j ≡ legKept m s S v → k ≡ legKept n s v D → b ≡ (j && k) → b ≡ legsKept s S (legsTo D r)
+    pub via-kept :
+        (c : Coords) (j k b : Bool) → Each s c (λ a. legKept m s a v) j → k ≡ legKept n s v D → b ≡ (j && k) → Each s c (λ a. legsKept s a (legsTo D r)) b
     unfolding legsKept legsTo
-    via-kept j k b qj qk qb = qb ∙ rw (e, qj, qk, and-right (legKept n s v D))
+    via-kept c j k b qj qk qb a qa = qb ∙ rw (e, qj a qa, qk, and-right (legKept n s v D))

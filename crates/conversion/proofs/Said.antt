@@ -1,13 +1,14 @@
 -- What an entry says, by the code's enum, and where its legs end.
 use Prim.Native.Nat.{ℕ, _<_}
 use mathlib.Core.Path.{_≡_, refl, sym, ap, _∙_}
-use mathlib.Core.Bool.{true, not}
+use mathlib.Core.Bool.{Bool, true, not}
 use mathlib.Core.List.{List, [], _∷_}
 use lib.ListN.{getD}
 use lib.Dec.{eqb}
 use Rattle.numbers.specs.Numbers.{noClearChoice}
 use Rattle.theory.specs.Machine.{Inside}
 use Rattle.shape.specs.declared.shape.Shape.{Shape}
+use Rattle.shape.specs.declared.shape.Coords.{Coords}
 use Rattle.machine.specs.declared.leg.Mode.{Mode}
 use Rattle.machine.specs.Number.{nodeCount}
 use Rattle.machine.specs.Node.{isNode}
@@ -22,7 +23,7 @@ use Rattle.routes.specs.declared.layout.Entry.{Entry}
 use Rattle.routes.specs.Kinds.{kinds}
 use Rattle.routes.specs.Said.{saidWith, saidBy, heard}
 use Rattle.conversion.specs.Keeping.{legsKept, answerKept, entryKept}
-use Rattle.conversion.proofs.Legs.{InsideOf}
+use Rattle.conversion.proofs.Legs.{InsideOf, Each}
 
 -- The enum says what the entry says.
 heard-with : (ms : List Mode) (e : Entry) (n : ℕ) → heard (e .dest) (toldAs n (saidWith ms e)) ≡ saidWith ms e
@@ -59,10 +60,10 @@ module _ (s : Shape) (e : Entry) (o : Outcome) (told : o ≡ toldAs 0 (saidBy e)
     pub given-inside : isNode s (e .dest) ≡ true → isNode s (e .via) ≡ true → Inside (torus s) (legsTo (e .dest) r)
     given-inside d v = rw (← legs) at (inside-said s e (node-of s (e .dest) d .below) (node-of s (e .via) v .below))
 
-    pub given-kept : (S : ℕ) → legsKept s S (legsTo (e .dest) r) ≡ entryKept s S e
+    pub given-kept : (c : Coords) (k : Bool) → Each s c (λ a. legsKept s a (legsTo (e .dest) r)) k → Each s c (λ a. entryKept s a e) k
     unfolding entryKept answerKept
-    given-kept S = rw (← legs)
+    given-kept c k q a qa = q a qa ∙ rw (← legs)
 
-  pub refused-kept : (S n : ℕ) → o ≡ Outcome.Refused n → not (eqb n noClearChoice) ≡ entryKept s S e
+  pub refused-kept : (n : ℕ) → o ≡ Outcome.Refused n → (c : Coords) → Each s c (λ a. entryKept s a e) (not (eqb n noClearChoice))
   unfolding entryKept answerKept heard
-  refused-kept S n given = let is : Refused n ≡ saidBy e = rw given at said in rw (← is)
+  refused-kept n given c a qa = let is : Refused n ≡ saidBy e = rw given at said in rw (← is)

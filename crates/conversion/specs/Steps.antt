@@ -1,6 +1,6 @@
 -- The code's own steps.
 use Prim.Native.Nat.{ℕ, _*_, _%_}
-use mathlib.Core.Bool.{Bool, true, not, cond, _&&_}
+use mathlib.Core.Bool.{Bool, true, not, cond, _&&_, _||_}
 use mathlib.Core.List.{List}
 use mathlib.Core.Path.{_≡_}
 use lib.Dec.{eqb, ltb}
@@ -9,6 +9,7 @@ use Rattle.theory.specs.Checks.{declined, _then_}
 use Rattle.shape.specs.declared.shape.Shape.{Shape}
 use Rattle.shape.specs.declared.shape.Coords.{Coords}
 use Rattle.shape.specs.declared.shape.Dim.{Dim}
+use Rattle.shape.specs.declared.shape.Dim.the-variants.{X, Y, Z}
 use Rattle.shape.specs.Shape.{extentOf, wrappedIn, coordOf}
 use Rattle.machine.specs.ByCoords.{hopsAlong}
 use Rattle.plan.specs.Checks.{Limits}
@@ -21,6 +22,9 @@ use Rattle.conversion.specs.Converting.{keepError, lostEntry}
 -- Half a ring from an odd coordinate, by coordinates.
 unfoldable pub oddHalfAt : Shape → Coords → Coords → Dim → Bool
 oddHalfAt s c t d = wrappedIn s d && (eqb (2 * hopsAlong s c t d) (extentOf s d) && eqb (coordOf c d % 2) 1)
+
+unfoldable pub oddHalfOf : Shape → Coords → Coords → Bool
+oddHalfOf s c t = oddHalfAt s c t X || (oddHalfAt s c t Y || oddHalfAt s c t Z)
 
 -- The first entry that cannot be kept after entry number i, of n; n while there is none.
 unfoldable pub lostAfter : ℕ → ℕ → ℕ → Bool → ℕ

@@ -1,19 +1,15 @@
-// Legs that travel exactly half a ring from an odd coordinate: the new rule turns them the other way.
+// Legs that travel exactly half a ring from an odd coordinate, which the new rule turns the other way: from the place `at` to the place `to`.
 use logic::both;
 use logic::either;
 use machine::hop::hops_along;
-use machine::node::coords;
 use shape::Coords;
 use shape::Dim;
 use shape::Shape;
 use shape::shape::coord;
 use shape::shape::extent;
 use shape::shape::wrapped;
-ghost use mathlib.Core.Bool.{true};
 ghost use mathlib.Core.Path.{_≡_};
-ghost use Rattle.machine.specs.Node.{isNode};
-ghost use Rattle.conversion.specs.Keeping.{oddHalf};
-ghost use Rattle.conversion.specs.Steps.{oddHalfAt};
+ghost use Rattle.conversion.specs.Steps.{oddHalfAt, oddHalfOf};
 
 fn odd_half_along(shape: Shape, at: Coords, to: Coords, d: Dim) -> bool
     ensures { λ r. ⌜ r ≡ oddHalfAt shape at to d ⌝ }
@@ -23,13 +19,9 @@ fn odd_half_along(shape: Shape, at: Coords, to: Coords, d: Dim) -> bool
 }
 
 // In some dimension.
-pub fn odd_half(shape: Shape, from: u16, target: u16) -> bool
-    requires { ⌜ isNode shape from ≡ true ⌝ }
-    requires { ⌜ isNode shape target ≡ true ⌝ }
-    ensures { λ r. ⌜ r ≡ oddHalf shape from target ⌝ }
+pub fn odd_half(shape: Shape, at: Coords, to: Coords) -> bool
+    ensures { λ r. ⌜ r ≡ oddHalfOf shape at to ⌝ }
 {
-    let at = coords(shape, from);
-    let to = coords(shape, target);
     let x = odd_half_along(shape, at, to, Dim::X);
     let y = odd_half_along(shape, at, to, Dim::Y);
     let z = odd_half_along(shape, at, to, Dim::Z);

@@ -1,5 +1,6 @@
 // What declines a conversion, but for the room: the plan's checks, 13, 17.
 use crate::keep::entry_kept;
+use machine::node::coords;
 use machine::node::is_node;
 use numbers::ENTRY_NOT_KEPT;
 use numbers::WRONG_ROUTE_SHEET;
@@ -44,6 +45,7 @@ fn see_entries(sheet: &[u8], shape: Shape, source: u16) -> Entries
     requires { ⌜ isNode shape source ≡ true ⌝ }
     ensures { λ r. ⌜ Seen shape source (now (sheet .entry)) (r .good) (r .lost) ⌝ }
 {
+    let at = coords(shape, source);
     let count = count_in(sheet);
     let mut lost = count;
     let mut least: u32 = 0;
@@ -56,7 +58,7 @@ fn see_entries(sheet: &[u8], shape: Shape, source: u16) -> Entries
                 lost: 0,
             };
         }
-        lost = lost_after(lost, count, i, entry_kept(shape, source, e));
+        lost = lost_after(lost, count, i, entry_kept(shape, at, e));
         least = (e.dest as u32) + 1;
         i = i + 1;
     }

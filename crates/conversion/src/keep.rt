@@ -1,55 +1,70 @@
-// Which entries can be kept.
+// Which entries can be kept, from a source by its coordinates `at`.
 use crate::half::odd_half;
 use choice::Outcome;
 use logic::both;
 use machine::leg::Mode;
+use machine::node::coords;
 use numbers::NO_CLEAR_CHOICE;
 use packet::Route;
 use routes::Entry;
 use routes::kinds::outcome_by;
+use shape::Coords;
 use shape::Shape;
+ghost use Prim.Native.Nat.{ℕ};
 ghost use mathlib.Core.Bool.{true};
 ghost use mathlib.Core.Path.{_≡_};
 ghost use Rattle.theory.specs.Machine.{Inside};
+ghost use Rattle.shape.specs.Shape.{shapeError};
+ghost use Rattle.machine.specs.Number.{coordsOf};
 ghost use Rattle.machine.specs.Node.{isNode};
 ghost use Rattle.machine.specs.Torus.{torus};
 ghost use Rattle.packet.specs.New.{legsTo};
 ghost use Rattle.conversion.specs.Keeping.{legKept, legsKept, entryKept};
 
-fn leg_kept(mode: Mode, shape: Shape, from: u16, target: u16) -> bool
-    requires { ⌜ isNode shape from ≡ true ⌝ }
+// Leg one.
+fn first_kept(mode: Mode, shape: Shape, at: Coords, target: u16) -> bool
     requires { ⌜ isNode shape target ≡ true ⌝ }
-    ensures { λ r. ⌜ r ≡ legKept mode shape from target ⌝ }
+    ensures { λ r. ⌜ ((a : ℕ) → at ≡ coordsOf shape a → r ≡ legKept mode shape a target) ⌝ }
 {
     match mode {
         Mode::Adaptive => true,
-        Mode::Deterministic => !odd_half(shape, from, target),
+        Mode::Deterministic => !odd_half(shape, at, coords(shape, target)),
     }
 }
 
-// Each leg from its own start.
-fn route_kept(shape: Shape, source: u16, dest: u16, route: Route) -> bool
-    requires { ⌜ isNode shape source ≡ true ⌝ }
+// Leg two, from its own start.
+fn second_kept(mode: Mode, shape: Shape, via: u16, dest: u16) -> bool
+    requires { ⌜ isNode shape via ≡ true ⌝ }
+    requires { ⌜ isNode shape dest ≡ true ⌝ }
+    ensures { λ r. ⌜ r ≡ legKept mode shape via dest ⌝ }
+{
+    match mode {
+        Mode::Adaptive => true,
+        Mode::Deterministic => !odd_half(shape, coords(shape, via), coords(shape, dest)),
+    }
+}
+
+fn route_kept(shape: Shape, at: Coords, dest: u16, route: Route) -> bool
+    requires { ⌜ shapeError shape ≡ 0 ⌝ }
     requires { ⌜ Inside (torus shape) (legsTo dest route) ⌝ }
-    ensures { λ r. ⌜ r ≡ legsKept shape source (legsTo dest route) ⌝ }
+    ensures { λ r. ⌜ ((a : ℕ) → at ≡ coordsOf shape a → r ≡ legsKept shape a (legsTo dest route)) ⌝ }
 {
     match route {
-        Route::Direct(mode) => leg_kept(mode, shape, source, dest),
+        Route::Direct(mode) => first_kept(mode, shape, at, dest),
         Route::Via(via, first, second) => both(
-            leg_kept(first, shape, source, via),
-            leg_kept(second, shape, via, dest),
+            first_kept(first, shape, at, via),
+            second_kept(second, shape, via, dest),
         ),
     }
 }
 
-pub fn entry_kept(shape: Shape, source: u16, e: Entry) -> bool
-    requires { ⌜ isNode shape source ≡ true ⌝ }
+pub fn entry_kept(shape: Shape, at: Coords, e: Entry) -> bool
     requires { ⌜ isNode shape (e .dest) ≡ true ⌝ }
     requires { ⌜ isNode shape (e .via) ≡ true ⌝ }
-    ensures { λ r. ⌜ r ≡ entryKept shape source e ⌝ }
+    ensures { λ r. ⌜ ((a : ℕ) → at ≡ coordsOf shape a → r ≡ entryKept shape a e) ⌝ }
 {
     match outcome_by(e, 0) {
-        Outcome::Given(route, _) => route_kept(shape, source, e.dest, route),
+        Outcome::Given(route, _) => route_kept(shape, at, e.dest, route),
         Outcome::Refused(number) => number != NO_CLEAR_CHOICE,
     }
 }

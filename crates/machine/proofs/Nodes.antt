@@ -26,7 +26,10 @@ pub to-of : (s : Shape) (n t : ℕ) → arePair s n t ≡ true → Node s t
 unfolding arePair
 to-of s n t e = node-of s t (and-true (isNode s n) _ e .1)
 
+pub below-node : (s : Shape) → shapeError s ≡ 0 → (n : ℕ) → n < nodeCount s → isNode s n ≡ true
+unfolding isNode
+below-node s h n k = rw (eq-eqb (shapeError s) 0 h, lt-ltb n (nodeCount s) k)
+
 -- A number below the nodes of a shape that has one.
 pub is-node : (s : Shape) (a : ℕ) → isNode s a ≡ true → (n : ℕ) → n < nodeCount s → isNode s n ≡ true
-unfolding isNode
-is-node s a h n k = rw (eq-eqb (shapeError s) 0 (node-of s a h .sound), lt-ltb n (nodeCount s) k)
+is-node s a h n k = below-node s (node-of s a h .sound) n k
