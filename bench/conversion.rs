@@ -11,16 +11,18 @@ fn word(bytes: &[u8], at: usize) -> u32 {
     bytes[at] as u32 * 256 + bytes[at + 1] as u32
 }
 
-/// The sheet of node 0 with an entry of this kind for every other node; a via is next to its destination, so that each entry can be kept.
+/// The sheet of a node in the middle, of even coordinates, with an entry of this kind for every other node. A via is next to its destination. So each entry can
+/// be kept.
 pub fn old_sheet(machine: Machine, kind: u8) -> Vec<u8> {
-    let count = machine.nodes() as u16 - 1;
+    let (nodes, e) = (machine.nodes() as u16, machine.extent as u16);
+    let source = e / 4 * 2 * (1 + e + e * e);
     let mut sheet = vec![1];
-    for number in [4 + ENTRY as u16 * count, 0, count] {
+    for number in [4 + ENTRY as u16 * (nodes - 1), source, nodes - 1] {
         sheet.extend(number.to_be_bytes());
     }
-    for dest in 1..=count {
+    for dest in (0..nodes).filter(|&dest| dest != source) {
         let via = match kind {
-            2..=5 if dest == 1 => 2,
+            2..=5 if dest == 0 || dest - 1 == source => dest + 1,
             2..=5 => dest - 1,
             _ => 0,
         };
