@@ -19,7 +19,7 @@ use Rattle.machine.specs.declared.leg.Leg.{Leg}
 use Rattle.machine.specs.Number.{nodeCount, coordsOf}
 use Rattle.machine.specs.Node.{isNode, coordsAnswer}
 use Rattle.machine.specs.Torus.{allowedBy, torus, leg}
-use Rattle.machine.proofs.Nodes.{below-node}
+use Rattle.machine.proofs.Nodes.{node-of, below-node}
 use Rattle.packet.specs.declared.route.Route.{Route}
 use Rattle.packet.specs.New.{legsTo}
 use Rattle.choice.specs.Answer.{Answer, Given, Refused}
@@ -73,7 +73,7 @@ module _ (s : Shape) (m : Mode) (c : Coords) (t : ℕ) where
 
   pub one-leg : m ≡ Deterministic → isNode s t ≡ true → (e : Coords) → e ≡ coordsAnswer s t → (o : Bool) → o ≡ oddHalfOf s c e → (a : ℕ) → c ≡ coordsOf s a → not o ≡ legKept m s a t
   unfolding legKept
-  one-leg em ht e qe o qo a q = rw (em, qo, odd-coords s a t c e q (coords-is s t ht e qe))
+  one-leg em ht e qe o qo a q = rw (em, qo, odd-coords s (node-of s t ht .sound) a t c e q (coords-is s t ht e qe))
 
 -- What the code answers of a source with these coordinates.
 abbrev pub Each : Shape → Coords → (ℕ → Bool) → Bool → Type 0

@@ -1,5 +1,5 @@
 -- The code's own steps.
-use Prim.Native.Nat.{ℕ, _*_, _%_}
+use Prim.Native.Nat.{ℕ, _+_, _*_, _%_}
 use mathlib.Core.Bool.{Bool, true, not, cond, _&&_, _||_}
 use mathlib.Core.List.{List}
 use mathlib.Core.Path.{_≡_}
@@ -11,7 +11,6 @@ use Rattle.shape.specs.declared.shape.Coords.{Coords}
 use Rattle.shape.specs.declared.shape.Dim.{Dim}
 use Rattle.shape.specs.declared.shape.Dim.the-variants.{X, Y, Z}
 use Rattle.shape.specs.Shape.{extentOf, wrappedIn, coordOf}
-use Rattle.machine.specs.ByCoords.{hopsAlong}
 use Rattle.plan.specs.Checks.{Limits}
 use Rattle.routes.specs.Layout.{first, source, entriesIn}
 use Rattle.routes.specs.Checks.{entriesGood, goodIn}
@@ -19,9 +18,12 @@ use Rattle.conversion.specs.declared.judge.Judged.{Judged}
 use Rattle.conversion.specs.Keeping.{allKept, firstLost}
 use Rattle.conversion.specs.Converting.{keepError, lostEntry}
 
--- Half a ring from an odd coordinate, by coordinates.
+-- Half a ring of len places is between p and q; and half a ring from an odd coordinate, by coordinates.
+unfoldable pub halfBetween : ℕ → ℕ → ℕ → Bool
+halfBetween len p q = eqb (2 * p + len) (2 * q) || eqb (2 * q + len) (2 * p)
+
 unfoldable pub oddHalfAt : Shape → Coords → Coords → Dim → Bool
-oddHalfAt s c t d = wrappedIn s d && (eqb (2 * hopsAlong s c t d) (extentOf s d) && eqb (coordOf c d % 2) 1)
+oddHalfAt s c t d = wrappedIn s d && (halfBetween (extentOf s d) (coordOf c d) (coordOf t d) && eqb (coordOf c d % 2) 1)
 
 unfoldable pub oddHalfOf : Shape → Coords → Coords → Bool
 oddHalfOf s c t = oddHalfAt s c t X || (oddHalfAt s c t Y || oddHalfAt s c t Z)
