@@ -79,6 +79,13 @@ module _ (s : Shape) (m : Mode) (c : Coords) (t : ℕ) where
 abbrev pub Each : Shape → Coords → (ℕ → Bool) → Bool → Type 0
 Each s c kept k = (a : ℕ) → c ≡ coordsOf s a → k ≡ kept a
 
+-- Both legs, where leg one is deterministic: e is where it ends, and where leg two begins.
+pub both-legs :
+    (s : Shape) (c : Coords) (v D : ℕ) (n : Mode) → isNode s v ≡ true → (e : Coords) → e ≡ coordsAnswer s v → (o : Bool) → o ≡ oddHalfOf s c e →
+    (k : Bool) → Each s e (λ a. legKept n s a D) k → (b : Bool) → b ≡ (not o && k) → Each s c (λ a. legKept Deterministic s a v && legKept n s v D) b
+both-legs s c v D n hv e qe o qo k qk b qb a qa =
+    qb ∙ rw (one-leg s Deterministic c v refl hv e qe o qo a qa, qk v (coords-is s v hv e qe))
+
 -- A route by its cases.
 module _ (s : Shape) (h : shapeError s ≡ 0) (D : ℕ) (r : Route) (i : Inside (torus s) (legsTo D r)) where
   pub direct-node : (m : Mode) → r ≡ Route.Direct m → isNode s D ≡ true
@@ -98,7 +105,6 @@ module _ (s : Shape) (h : shapeError s ≡ 0) (D : ℕ) (r : Route) (i : Inside 
     unfolding legsTo
     end-node = below-node s h D ((rw e at i) .1 .0)
 
-    pub via-kept :
-        (c : Coords) (j k b : Bool) → Each s c (λ a. legKept m s a v) j → k ≡ legKept n s v D → b ≡ (j && k) → Each s c (λ a. legsKept s a (legsTo D r)) b
+    pub via-kept : (c : Coords) (b : Bool) → Each s c (λ a. legKept m s a v && legKept n s v D) b → Each s c (λ a. legsKept s a (legsTo D r)) b
     unfolding legsKept legsTo
-    via-kept c j k b qj qk qb a qa = qb ∙ rw (e, qj a qa, qk, and-right (legKept n s v D))
+    via-kept c b q a qa = q a qa ∙ rw (e, and-right (legKept n s v D))
