@@ -13,24 +13,10 @@ pub fn unreadable(out: &mut [u8], at: usize) -> usize {
     put::bytes(out, at, b"unreadable")
 }
 
-pub fn number_of(written: Written) -> u8 {
-    match written {
-        Written::Bytes(_) => 0,
-        Written::Refused(number) => number,
-    }
-}
-
-fn size_of(written: Written) -> usize {
-    match written {
-        Written::Bytes(size) => size,
-        Written::Refused(_) => 0,
-    }
-}
-
 // Writes the fields `number`, `size` and `out`, which is the lent output whole.
 pub fn put_written(out: &mut [u8], at: usize, written: Written, lent: &[u8]) -> usize {
-    let number = put_number(out, at, number_of(written));
-    let size = field::put_number(out, number, b" size=", size_of(written) as u64);
+    let number = put_number(out, at, written.number());
+    let size = field::put_number(out, number, b" size=", written.size() as u64);
     let key = put::bytes(out, size, b" out=");
     hex::put(out, key, lent)
 }

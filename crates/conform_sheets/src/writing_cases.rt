@@ -1,6 +1,5 @@
 // The operations `back`, `convert` and `lost`: a route sheet is written back or converted into lent output filled with EE; the first entry that cannot be
 // kept.
-use conform_fields::answers::number_of;
 use conform_fields::answers::put_number;
 use conform_fields::answers::put_written;
 use conform_fields::answers::unreadable;
@@ -71,6 +70,6 @@ pub fn answer_lost(line: &[u8], out: &mut [u8], at: usize) -> usize {
     };
     let converted = convert(front(&plan, plan_size), front(&sheet, size), &mut output);
     let written = converted.written;
-    let end = put_number(out, at, number_of(written));
+    let end = put_number(out, at, written.number());
     field::put_number(out, end, b" entry=", converted.entry as u64)
 }

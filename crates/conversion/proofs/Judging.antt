@@ -5,7 +5,8 @@ use mathlib.Core.Path.{_≡_, sym, ap, _∙_}
 use mathlib.Core.Bool.{Bool, true, false, not}
 use mathlib.Core.List.{List}
 use lib.ListN.{length}
-use borrow.Author.Tests.{ne-eqb}
+use lib.Dec.{eqb}
+use borrow.Author.Tests.{eqb-true, eqb-false, ne-eqb}
 use Rattle.numbers.specs.Numbers.{wrongRouteSheet, entryNotKept}
 use Rattle.theory.specs.Checks.{declined}
 use Rattle.theory.proofs.Cases.{test}
@@ -13,6 +14,7 @@ use Rattle.theory.proofs.Checks.{declines, then-zero}
 use Rattle.sheet.specs.declared.output.Written.{Written}
 use Rattle.sheet.specs.Output.{roomError, written, outAfter}
 use Rattle.sheet.proofs.Records.{from-length}
+use Rattle.sheet.proofs.Outputs.{unread, room}
 use Rattle.shape.specs.declared.shape.Shape.{Shape}
 use Rattle.machine.specs.Node.{isNode}
 use Rattle.plan.specs.Layout.{shapeOf}
@@ -24,6 +26,7 @@ use Rattle.conversion.specs.declared.judge.Judged.{Judged}
 use Rattle.conversion.specs.Keeping.{allKept, firstLost}
 use Rattle.conversion.specs.Converting.{keepError, converted, convertError, lostEntry}
 use Rattle.conversion.specs.Steps.{Seen, sheetJudged, planJudged}
+use Rattle.conversion.proofs.Bytes.{same-length}
 use Rattle.conversion.proofs.Losing.{all-kept, some-lost}
 
 abbrev judgedAs : ℕ → ℕ → Judged
@@ -91,6 +94,13 @@ module _ (L : Limits) (p s : List ℕ) where
   pub long : keepError L p s ≡ 0 → 0 < length s
   unfolding keepError
   long h = let a = accepted-in first L p s (then-zero (errorIn first L p s) _ h .0) in let l = a .head .long in omega arith
+
+  -- Output as long as the sheet is never too short.
+  pub room-enough : (o : List ℕ) → length s ≤ length o → convertError L p s o ≡ keepError L p s
+  room-enough o h = test (eqb (keepError L p s) 0) (λ t. enough (eqb-true (keepError L p s) 0 t)) (λ t. unread (keepError L p s) (converted s) o (eqb-false (keepError L p s) 0 t))
+    where
+      enough : keepError L p s ≡ 0 → convertError L p s o ≡ keepError L p s
+      enough z = room (keepError L p s) (converted s) o z (rw (same-length s (long z)) h) ∙ sym z
 
   -- The converter's answer, by what was judged.
   module _ (r : Judged) (is : r ≡ planJudged L p s) where

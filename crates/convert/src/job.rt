@@ -6,6 +6,7 @@ use crate::say;
 use crate::tally;
 use crate::tally::Tally;
 use conversion::convert;
+use logic::both;
 use numbers::WRONG_ROUTE_SHEET;
 use plan_input::PLAN_BYTES;
 use plan_input::plan_error;
@@ -15,6 +16,12 @@ use program::say::cannot_write;
 use program::say::refused;
 use sheet::Written;
 use text::part::front;
+ghost use mathlib.Core.Path.{_≡_};
+ghost use Prim.Native.Nat.{_≤_};
+ghost use lib.ListN.{length};
+ghost use Rattle.plan.specs.Checks.{large};
+ghost use Rattle.conversion.specs.Converting.{keepError, lostEntry};
+ghost use Rattle.convert.specs.Tally.{tallied};
 
 // What was found, whether a sheet may follow, and whether the file took all bytes.
 struct Progress {
@@ -34,14 +41,18 @@ fn write_out(tally: Tally, written: Written, out: &[u8], file: i32) -> bool {
     }
 }
 
-// One sheet.
-fn convert_one(plan: &[u8], sheet: &[u8], out: &mut [u8], file: i32, before: Tally) -> Progress {
+// One sheet, with room for it.
+fn convert_one(plan: &[u8], sheet: &[u8], out: &mut [u8], file: i32, before: Tally) -> Progress
+    requires { ⌜ length (now sheet) ≤ length (now out) ⌝ }
+    ensures { λ r. ⌜ r .tally ≡ tallied before (now (sheet .entry)) (keepError large (now (plan .entry)) (now (sheet .entry))) (lostEntry large (now (plan .entry)) (now (sheet .entry))) ⌝ }
+{
     let converted = convert(plan, sheet, out);
-    let tally = tally::add(before, sheet, converted);
-    let writable = write_out(tally, converted.written, out, file);
+    let written = converted.written;
+    let tally = tally::add(before, sheet, written.number(), converted.entry);
+    let writable = write_out(tally, written, out, file);
     Progress {
         tally: tally,
-        more: writable && tally.lost.number != WRONG_ROUTE_SHEET,
+        more: both(writable, tally.lost.number != WRONG_ROUTE_SHEET),
         writable: writable,
     }
 }

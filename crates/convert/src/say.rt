@@ -24,8 +24,8 @@ fn name(lost: Lost) {
     number(b"the first that cannot is sheet ", lost.place as u64);
     if lost.number == ENTRY_NOT_KEPT {
         number(b", of board ", lost.source as u64);
-        number(b", by its entry ", lost.entry as u64);
-        number(b", to board ", lost.dest as u64);
+        number(b", by its entry of kind ", lost.kind as u64);
+        number(b" to board ", lost.dest as u64);
     }
 }
 

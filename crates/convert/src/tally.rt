@@ -1,102 +1,118 @@
-// What was found in the file.
-use conversion::Converted;
+// What is found in the file.
 use numbers::ENTRY_NOT_KEPT;
 use numbers::WRONG_ROUTE_SHEET;
+use program::count::sum;
+use routes::Entry;
 use routes::layout::entry_in;
 use routes::layout::source_in;
-use sheet::Written;
+ghost use mathlib.Core.Path.{_≡_};
+ghost use Rattle.convert.specs.Tally.{declinedAt, notKept, lostAt, named, noTally, tallied, ended};
 
-// A sheet that cannot be converted: its place in the file, from 1; with 17 also its source, the first entry that cannot be kept, from 0, and that entry's
-// destination. The number is 0 where there is none.
+// A sheet that cannot be converted: its place in the file, from 1; with 17 also its source, and the kind and the destination of the first entry that cannot be
+// kept. The number is 0 where there is none.
 pub struct Lost {
     pub number: u8,
     pub place: u32,
     pub source: u16,
-    pub entry: u16,
+    pub kind: u8,
     pub dest: u16,
 }
 
-// The sheets read, how many of them can be converted, and the one that the refusal names.
+// The sheets read, how many of them can be converted, and the one that a refusal names.
 pub struct Tally {
     pub sheets: u32,
     pub kept: u32,
     pub lost: Lost,
 }
 
-pub fn none() -> Tally {
-    Tally {
-        sheets: 0,
-        kept: 0,
-        lost: Lost {
-            number: 0,
-            place: 0,
-            source: 0,
-            entry: 0,
-            dest: 0,
-        },
-    }
-}
-
-// Stays at the largest number.
-fn next(count: u32) -> u32 {
-    if count < 4294967295 { count + 1 } else { count }
-}
-
-// The refusal of the sheet at a place.
-fn lost_at(place: u32, number: u8, entry: u16, sheet: &[u8]) -> Lost {
-    if number != ENTRY_NOT_KEPT {
-        return Lost {
-            number: number,
-            place: place,
-            source: 0,
-            entry: 0,
-            dest: 0,
-        };
-    }
+fn declined_at(place: u32, number: u8) -> Lost
+    ensures { λ r. ⌜ r ≡ declinedAt place number ⌝ }
+{
     Lost {
         number: number,
         place: place,
-        source: source_in(sheet),
-        entry: entry,
-        dest: entry_in(sheet, entry).dest,
+        source: 0,
+        kind: 0,
+        dest: 0,
+    }
+}
+
+fn not_kept(place: u32, source: u16, e: Entry) -> Lost
+    ensures { λ r. ⌜ r ≡ notKept place source e ⌝ }
+{
+    Lost {
+        number: ENTRY_NOT_KEPT,
+        place: place,
+        source: source,
+        kind: e.kind,
+        dest: e.dest,
+    }
+}
+
+// The refusal of the sheet at a place.
+fn lost_at(place: u32, number: u8, entry: u16, sheet: &[u8]) -> Lost
+    ensures { λ r. ⌜ r ≡ lostAt place number entry (now (sheet .entry)) ⌝ }
+{
+    if number == ENTRY_NOT_KEPT {
+        not_kept(place, source_in(sheet), entry_in(sheet, entry))
+    } else {
+        declined_at(place, number)
+    }
+}
+
+pub fn none() -> Tally
+    ensures { λ r. ⌜ r ≡ noTally ⌝ }
+{
+    Tally {
+        sheets: 0,
+        kept: 0,
+        lost: declined_at(0, 0),
     }
 }
 
 // The first refusal stays, but for a damaged sheet, which ends the job.
-fn first_lost(before: Lost, place: u32, number: u8, entry: u16, sheet: &[u8]) -> Lost {
-    if before.number == 0 || number == WRONG_ROUTE_SHEET {
+fn named(before: Lost, place: u32, number: u8, entry: u16, sheet: &[u8]) -> Lost
+    ensures { λ r. ⌜ r ≡ named before place number entry (now (sheet .entry)) ⌝ }
+{
+    if before.number == 0 {
+        return lost_at(place, number, entry, sheet);
+    }
+    if number == WRONG_ROUTE_SHEET {
         return lost_at(place, number, entry, sheet);
     }
     before
 }
 
-// With one sheet more.
-pub fn add(tally: Tally, sheet: &[u8], converted: Converted) -> Tally {
-    let place = next(tally.sheets);
+// With one sheet more: the number with which it is declined, 0 where it is not, and with 17 the first entry that cannot be kept.
+pub fn add(tally: Tally, sheet: &[u8], number: u8, entry: u16) -> Tally
+    ensures { λ r. ⌜ r ≡ tallied tally (now (sheet .entry)) number entry ⌝ }
+{
+    let place = sum(tally.sheets, 1);
     let lost = tally.lost;
-    let written = converted.written;
-    match written {
-        Written::Bytes(_) => Tally {
+    if number == 0 {
+        return Tally {
             sheets: place,
-            kept: next(tally.kept),
+            kept: sum(tally.kept, 1),
             lost: lost,
-        },
-        Written::Refused(number) => Tally {
-            sheets: place,
-            kept: tally.kept,
-            lost: first_lost(lost, place, number, converted.entry, sheet),
-        },
+        };
+    }
+    Tally {
+        sheets: place,
+        kept: tally.kept,
+        lost: named(lost, place, number, entry, sheet),
     }
 }
 
-// A file of no sheets is no file of sheets.
-pub fn ended(tally: Tally) -> Tally {
+// At the end of the file. One without a sheet is no file of sheets.
+pub fn ended(tally: Tally) -> Tally
+    ensures { λ r. ⌜ r ≡ ended tally ⌝ }
+{
     if tally.sheets != 0 {
         return tally;
     }
     Tally {
         sheets: 0,
         kept: 0,
-        lost: lost_at(1, WRONG_ROUTE_SHEET, 0, &[]),
+        lost: declined_at(0, WRONG_ROUTE_SHEET),
     }
 }

@@ -22,6 +22,7 @@ use Rattle.choice.specs.Choice.{det}
 use Rattle.choice.specs.Answer.{answered}
 use Rattle.choice.specs.Outcome.{outcomeNumber, toldAs}
 use Rattle.sheet.specs.declared.output.Written.{Written}
+use Rattle.sheet.specs.Output.{writtenNumber, writtenSize}
 use Rattle.planner.specs.declared.run.Answer.{Answer}
 use Rattle.routes.specs.Said.{saidBy, entryFor, heard}
 use Rattle.nafthurm.specs.declared.forms.ShapeForm.{ShapeForm}
@@ -76,11 +77,10 @@ unfoldable pub walkedFor : PacketForm → Walked → WalkedForm
 walkedFor lent w = record { packet = packetFor lent (w .packet); number = endingNumber (w .ending); ending = endingFor (w .ending); hops = w .hops }
 
 unfoldable pub writtenFor : Written → WrittenForm
-writtenFor (Written.Bytes n) = record { number = 0; size = n }
-writtenFor (Written.Refused e) = record { number = e; size = 0 }
+writtenFor w = record { number = writtenNumber w; size = writtenSize w }
 
 unfoldable pub convertedFor : Written → ℕ → ConvertedForm
-convertedFor w i = record { number = writtenFor w .number; entry = i; size = writtenFor w .size }
+convertedFor w i = record { number = writtenNumber w; entry = i; size = writtenSize w }
 
 -- The number of too small a workspace is 255, which no refusal has.
 unfoldable pub runFor : Answer → RunForm

@@ -208,15 +208,9 @@ pub fn walked_for(lent: PacketForm, walked: Walked) -> WalkedForm
 pub fn written_for(written: Written) -> WrittenForm
     ensures { λ r. ⌜ r ≡ writtenFor written ⌝ }
 {
-    match written {
-        Written::Bytes(size) => WrittenForm {
-            number: 0,
-            size: size,
-        },
-        Written::Refused(number) => WrittenForm {
-            number: number,
-            size: 0,
-        },
+    WrittenForm {
+        number: written.number(),
+        size: written.size(),
     }
 }
 
@@ -224,11 +218,10 @@ pub fn converted_for(converted: Converted) -> ConvertedForm
     ensures { λ r. ⌜ r ≡ convertedFor (converted .written) (converted .entry) ⌝ }
 {
     let written = converted.written;
-    let form = written_for(written);
     ConvertedForm {
-        number: form.number,
+        number: written.number(),
         entry: converted.entry,
-        size: form.size,
+        size: written.size(),
     }
 }
 

@@ -10,7 +10,7 @@ use Rattle.numbers.specs.Numbers.{outputShort}
 use Rattle.theory.proofs.Checks.{declines}
 use Rattle.sheet.specs.declared.output.Written.{Written}
 use Rattle.sheet.specs.declared.output.Written.the-variants.{Bytes, Refused}
-use Rattle.sheet.specs.Output.{roomError, written, outAfter}
+use Rattle.sheet.specs.Output.{roomError, written, outAfter, writtenNumber}
 
 -- A number with which a call declines is not 0.
 pub of-refusal : (P : ℕ → Type 0) → ((k : ℕ) → P (suc k)) → (e : ℕ) → (e ≡ 0 → ⊥) → P e
@@ -22,6 +22,11 @@ pub refused : (k e : ℕ) (s o : List ℕ) → k ≡ e → (e ≡ 0 → ⊥) →
 unfolding written outAfter
 refused k zero s o h n = absurd (n refl)
 refused k (suc e) s o h n = (rw h, rw h)
+
+pub number-written : (k : ℕ) (s : List ℕ) → writtenNumber (written k s) ≡ k
+unfolding written
+number-written zero s = refl
+number-written (suc k) s = refl
 
 module _ (e : ℕ) (s o : List ℕ) where
   pub unread : (e ≡ 0 → ⊥) → roomError e s o ≡ e

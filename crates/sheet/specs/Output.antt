@@ -21,3 +21,12 @@ written (suc e) s = Refused (suc e)
 unfoldable pub outAfter : ℕ → List ℕ → List ℕ → List ℕ
 outAfter zero s o = s ++ drop (length s) o
 outAfter (suc e) s o = o
+
+-- An answer as numbers: 0, or the number of the refusal; and how many bytes are written.
+abbrev pub writtenNumber : Written → ℕ
+writtenNumber (Bytes n) = 0
+writtenNumber (Refused e) = e
+
+abbrev pub writtenSize : Written → ℕ
+writtenSize (Bytes n) = n
+writtenSize (Refused e) = 0

@@ -1,19 +1,16 @@
 -- What was written: sheets, their entries, and among these the pairs without a clear choice.
-use Prim.Native.Nat.{ℕ, _+_, _≤_, min}
+use Prim.Native.Nat.{ℕ, _+_, _≤_}
 use mathlib.Core.Path.{_≡_}
 use mathlib.Core.Bool.{cond}
 use mathlib.Core.List.{List, [], _∷_}
 use lib.ListN.{length}
 use lib.Dec.{eqb}
 use Rattle.numbers.specs.Numbers.{noClearChoice}
+use Rattle.program.specs.Count.{plus}
 use Rattle.sheet.specs.Head.{lengthField}
 use Rattle.routes.specs.declared.layout.Entry.{Entry}
 use Rattle.routes.specs.Layout.{entryCount, entriesOf}
 use Rattle.sheets.specs.declared.tally.Tally.{Tally}
-
--- A sum is at most the largest number of its field.
-abbrev pub plus : ℕ → ℕ → ℕ
-plus a b = min (a + b) 4294967295
 
 -- Kind 11 is no clear choice.
 abbrev pub isWithout : ℕ → ℕ

@@ -1,5 +1,6 @@
 // What was written: sheets, their entries, and among these the pairs without a clear choice.
 use numbers::NO_CLEAR_CHOICE;
+use program::count::sum;
 use routes::layout::count_in;
 use routes::layout::entry_in;
 use sheet::word_at;
@@ -11,7 +12,7 @@ ghost use lib.ListN.{length};
 ghost use Rattle.sheet.specs.Bytes.{word};
 ghost use Rattle.routes.specs.Layout.{entriesOf};
 ghost use Rattle.planner.specs.Run.{joined};
-ghost use Rattle.sheets.specs.Tally.{plus, isWithout, withoutIn, noTally, tallied, talliedAll, EachSized};
+ghost use Rattle.sheets.specs.Tally.{isWithout, withoutIn, noTally, tallied, talliedAll, EachSized};
 
 pub struct Tally {
     pub boards: u32,
@@ -26,17 +27,6 @@ pub fn none() -> Tally
         boards: 0,
         entries: 0,
         without: 0,
-    }
-}
-
-// Stays at the largest number where the sum is past it.
-fn sum(a: u32, b: u32) -> u32
-    ensures { λ r. ⌜ r ≡ plus a b ⌝ }
-{
-    if a <= 4294967295 - b {
-        a + b
-    } else {
-        4294967295
     }
 }
 
