@@ -20,14 +20,14 @@ use Rattle.packet.specs.declared.packet.Packet.{Packet}
 use Rattle.packet.specs.Packet.{stored, WellStored}
 use Rattle.packet.proofs.Stored.{stored-laws}
 use Rattle.plan.specs.Layout.{shapeOf}
-use Rattle.plan.specs.Checks.{Limits, planError}
+use Rattle.plan.specs.Checks.{Limits}
 use Rattle.choice.specs.Choice.{Choice}
 use Rattle.choice.specs.Answer.{Given, answered}
 use Rattle.routes.specs.Layout.{first, formatBy, source, entriesIn, entriesOf}
-use Rattle.routes.specs.Checks.{headGood, entriesGood, routesGood, goodIn, errorIn, sheetError}
+use Rattle.routes.specs.Checks.{entriesGood, routesGood, goodIn, errorIn, sheetError}
 use Rattle.routes.specs.Lookup.{lookupError}
 use Rattle.routes.specs.Says.{saysOf, says}
-use Rattle.routes.proofs.Sheets.{own-entries}
+use Rattle.routes.proofs.Sheets.{AcceptedIn, accepted-in, own-entries}
 use Rattle.conversion.specs.Keeping.{oldTorus, allKept}
 use Rattle.conversion.specs.Converting.{keepError, converted}
 use Rattle.conversion.specs.Kept.{saidBefore, Stands, Kept}
@@ -37,19 +37,16 @@ use Rattle.conversion.proofs.Standing.{routes-second, says-stands}
 
 -- A good version 1 sheet, by its parts.
 pub record Old (L : Limits) (p s : List ℕ) : Type 0 where
-  pub plan : planError L p ≡ 0
-  pub head : headGood first s ≡ true
-  pub routes : routesGood first (shapeOf p) (source s) (entriesIn first s) ≡ true
+  pub sheet : AcceptedIn first L p s
   pub from : isNode (shapeOf p) (source s) ≡ true
   pub entries : entriesGood first (shapeOf p) (source s) 0 (entriesIn first s) ≡ true
 
 pub old-of : (L : Limits) (p s : List ℕ) → errorIn first L p s ≡ 0 → Old L p s
-unfolding errorIn goodIn routesGood
+unfolding routesGood
 old-of L p s h =
-    let q = then-zero (planError L p) _ h in
-    let r = and-true (headGood first s) _ (not-false _ (declined-zero (not (goodIn first (shapeOf p) s)) 12 (q .1))) in
-    let e = and-true (isNode (shapeOf p) (source s)) _ (r .1) in
-    record { plan = q .0; head = r .0; routes = r .1; from = e .0; entries = e .1 }
+    let a = accepted-in first L p s h in
+    let e = and-true (isNode (shapeOf p) (source s)) _ (a .routes) in
+    record { sheet = a; from = e .0; entries = e .1 }
 
 module _ (L : Limits) (p s : List ℕ) (h : keepError L p s ≡ 0) where
   abbrev m : Shape
@@ -73,7 +70,7 @@ module _ (L : Limits) (p s : List ℕ) (h : keepError L p s ≡ 0) where
   unfolding errorIn goodIn
   new-good =
       own-second s some L p
-      ∙ rw (old .plan, head-kept s some (old .head), source-kept s some, entries-kept s some, routes-second m (source s) (entriesIn first s), old .routes)
+      ∙ rw (old .sheet .plan, head-kept s some (old .sheet .head-good), source-kept s some, entries-kept s some, routes-second m (source s) (entriesIn first s), old .sheet .routes)
 
   new-entries : entriesOf (converted s) ≡ entriesIn first s
   unfolding formatBy

@@ -6,7 +6,7 @@ use lib.Dec.{eqb}
 use Rattle.numbers.specs.Numbers.{wrongRouteSheet, entryNotKept}
 use Rattle.program.specs.Count.{plus}
 use Rattle.routes.specs.declared.layout.Entry.{Entry}
-use Rattle.routes.specs.Layout.{source, entryAt}
+use Rattle.routes.specs.Layout.{first, source, entryIn}
 use Rattle.convert.specs.declared.tally.Lost.{Lost}
 use Rattle.convert.specs.declared.tally.Tally.{Tally}
 
@@ -18,9 +18,9 @@ declinedAt place n = record { number = n; place = place; source = 0; kind = 0; d
 abbrev pub notKept : ℕ → ℕ → Entry → Lost
 notKept place S e = record { number = entryNotKept; place = place; source = S; kind = e .kind; dest = e .dest }
 
--- The sheet s at a place, declined with n, with 17 for its entry i.
+-- The version 1 sheet s at a place, declined with n, with 17 for its entry i.
 unfoldable pub lostAt : ℕ → ℕ → ℕ → List ℕ → Lost
-lostAt place n i s = cond (eqb n entryNotKept) (notKept place (source s) (entryAt s i)) (declinedAt place n)
+lostAt place n i s = cond (eqb n entryNotKept) (notKept place (source s) (entryIn first s i)) (declinedAt place n)
 
 abbrev pub noTally : Tally
 noTally = record { sheets = 0; kept = 0; lost = declinedAt 0 0 }

@@ -52,6 +52,7 @@ head-of F s h =
 -- A sheet that the plan's checks and 13 accept, in a format and in its own.
 pub record AcceptedIn (F : Format) (L : Limits) (p s : List ℕ) : Type 0 where
   pub plan : planError L p ≡ 0
+  pub head-good : headGood F s ≡ true
   pub head : Head F s
   pub routes : routesGood F (shapeOf p) (source s) (entriesIn F s) ≡ true
 
@@ -66,7 +67,7 @@ accepted-in F L p s h =
     let q = then-zero (planError L p) _ h in
     let good = not-false _ (declined-zero (not (goodIn F (shapeOf p) s)) 12 (q .1)) in
     let r = and-true (headGood F s) _ good in
-    record { plan = q .0; head = head-of F s (r .0); routes = r .1 }
+    record { plan = q .0; head-good = r .0; head = head-of F s (r .0); routes = r .1 }
 
 pub accepted : (L : Limits) (p s : List ℕ) → sheetError L p s ≡ 0 → Accepted L p s
 unfolding sheetError

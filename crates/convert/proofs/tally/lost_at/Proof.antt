@@ -1,5 +1,6 @@
 use mathlib.Core.Path.{_∙_}
 use borrow.Author.Tests.{eq-eqb, ne-eqb}
+use Rattle.routes.specs.Layout.{formatBy, entryAt}
 use Rattle.convert.specs.Tally.{lostAt}
 use borrow.Author.Needs.{needs}
 use Rattle.convert.proofs.tally.lost_at.Statement.{statement}
@@ -18,7 +19,7 @@ declined-at-requires : tie.Need-declined-at-requires
 declined-at-requires c κs = search needs
 
 returns : tie.Need-returns
-unfolding lostAt
+unfolding lostAt entryAt formatBy
 returns c = c .not-kept .ensures ∙ rw (eq-eqb _ 17 (c .before .before .before .if1 .taken), c .before .entry-in .ensures, c .before .before .source-in .ensures)
 
 returns-2 : tie.Need-returns-2
