@@ -1,4 +1,4 @@
-// The walk as the bench calls it from Rust: its words as they are, and no struct made of them.
+// The step and the walk as the bench calls them from Rust: numbers, and no struct made of them.
 use machine::leg::Mode;
 use packet::Packet;
 use packet::Route;
@@ -31,4 +31,26 @@ pub extern "C" fn nafthurm_walk(
     let packet = Packet::new(node, target, route);
     let walked = packet.walk(shape, dirs);
     walked.hops
+}
+
+// The node after a step of such a packet, and 65,536 for each unit of the refusal's number.
+#[no_mangle]
+pub extern "C" fn nafthurm_step(
+    x: u8,
+    y: u8,
+    z: u8,
+    wrap: u8,
+    node: u16,
+    via: u16,
+    target: u16,
+    first: u8,
+    second: u8,
+    dir: u8,
+) -> u32 {
+    let shape = Shape { x, y, z, wrap };
+    let route = Route::Via(via, mode_of(first), mode_of(second));
+    let stepped = Packet::new(node, target, route).step(shape, dir);
+    let packet = stepped.packet;
+    let answer = stepped.answer;
+    (answer.number() as u32) * 65536 + (packet.node as u32)
 }

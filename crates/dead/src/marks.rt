@@ -1,5 +1,5 @@
 // Marks in a table with a byte for each node, bit d for direction d.
-use crate::names::opposite;
+use machine::hop::opposite;
 use machine::node::has_link;
 use machine::node::neighbour;
 use plan::Fault;

@@ -1,18 +1,11 @@
 // What a fault names.
 use logic::both;
 use logic::either;
+use machine::hop::opposite;
 use plan::Fault;
 use plan::kinds;
 ghost use mathlib.Core.Path.{_≡_};
-ghost use Rattle.machine.specs.Hop.{opposite};
 ghost use Rattle.dead.specs.Dead.{namesNode, namesLink, names};
-
-// The direction back over the same link.
-pub fn opposite(dir: u8) -> u8
-    ensures { λ r. ⌜ r ≡ opposite dir ⌝ }
-{
-    if dir % 2 == 0 { dir + 1 } else { dir - 1 }
-}
 
 // Whether the fault is that node.
 pub fn names_node(f: Fault, node: u16) -> bool

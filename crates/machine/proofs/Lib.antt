@@ -9,3 +9,4 @@ pub mod Nodes
 pub mod Begins
 pub mod Rules
 pub mod Worked
+pub mod HopsLeft

@@ -1,6 +1,6 @@
 -- Node numbers and coordinates: each is the other's inverse, and coordinates are found by two divisions from the top.
 use Prim.Native.Nat.{ℕ, _+_, _-_, _*_, _/_, _%_, _≤_, _<_}
-use mathlib.Core.Path.{_≡_, _∙_}
+use mathlib.Core.Path.{_≡_, refl, _∙_}
 use native.Mathlib.Nat.{mul-comm, mul-assoc, mul-left-comm, mul-pos, mul-le-mul, mul-le-mul-left, mod-lt, mod-eq-of-lt, div-eq-of-lt, mod-add-div, div-lt-iff-lt-mul, div-div-eq-div-mul, add-mul-mod-self-left, add-mul-div-left, zero-add}
 use native.Mathlib.Omega.{arith}
 use lib.Arith.{digits-lt, digits-div, digits-mod, mod-mul}
@@ -9,7 +9,9 @@ use Rattle.shape.specs.declared.shape.Coords.{Coords}
 use Rattle.shape.specs.declared.shape.Dim.the-variants.{X, Y, Z}
 use Rattle.shape.specs.Shape.{shapeError}
 use Rattle.machine.specs.Number.{nodeCount, numberOf, coordsOf, Inside}
+use Rattle.machine.specs.Division.{coordsBy}
 use Rattle.shape.proofs.Shapes.{sound, count-most}
+use Rattle.machine.proofs.Division.{times-is, rest-is}
 
 -- ---- the sums and products of a node number, of bytes of any size
 pub inner-product : (b z : ℕ) → b ≤ 255 → z ≤ 255 → b * z ≤ 65025
@@ -17,6 +19,9 @@ inner-product b z hb hz = mul-le-mul hb hz
 
 pub outer-product : (a y b z : ℕ) → a ≤ 255 → y ≤ 255 → b ≤ 255 → z ≤ 255 → a * (y + b * z) ≤ 16646400
 outer-product a y b z ha hy hb hz = let inner : y + b * z ≤ 65280 = omega (arith, inner-product b z hb hz) in mul-le-mul ha inner
+
+pub count-product : (a b c : ℕ) → a ≤ 255 → b ≤ 255 → c ≤ 255 → a * b * c ≤ 16581375
+count-product a b c ha hb hc = mul-le-mul (inner-product a b ha hb) hc
 
 -- ---- two digits
 pub digits-below : (x a m k : ℕ) → x < a → m < k → x + a * m < a * k
@@ -67,24 +72,25 @@ module _ (s : Shape) (h : shapeError s ≡ 0) where
     z = div-lt-iff-lt-mul (sound s h Y .low) .1 (div-lt-iff-lt-mul (sound s h X .low) .1 (rw (reversed (s .x) (s .y) (s .z)) at hn));
   }
 
-  -- ---- what the code's two divisions ask and give
-  pub plane-turns : (n : ℕ) → n < nodeCount s → n < 16 * (s .x * s .y)
+  -- ---- the two divisions of the code
+  plane-turns : (n : ℕ) → n < nodeCount s → n < 16 * (s .x * s .y)
   unfolding nodeCount
   plane-turns n hn = omega (arith, mul-le-mul-left (s .x * s .y) (sound s h Z .high))
 
-  pub row-turns : (n r : ℕ) → r ≡ n % (s .x * s .y) → r < 16 * s .x
+  row-turns : (n r : ℕ) → r ≡ n % (s .x * s .y) → r < 16 * s .x
   row-turns n r e =
       omega (arith, e, rest-below n (s .x) (s .y) (sound s h X .low) (sound s h Y .low), mul-le-mul-left (s .x) (sound s h Y .high))
 
-  pub row-rest : (r q : ℕ) → q ≡ r % s .x → q < 16
-  row-rest r q e = omega (arith, e, mod-lt r (sound s h X .low), sound s h X .high)
-
-  pub two-divisions : (n p r t q : ℕ) → p ≡ n / (s .x * s .y) → r ≡ n % (s .x * s .y) → t ≡ r / s .x → q ≡ r % s .x → _≡_ {A = Coords} (record { x = q; y = t; z = p }) (coordsOf s n)
-  unfolding coordsOf
-  two-divisions n p r t q ep er et eq =
+  -- The code's subtractions give a node's coordinates.
+  pub coords-by : (n : ℕ) → n < nodeCount s → coordsBy s n ≡ coordsOf s n
+  unfolding coordsBy coordsOf
+  coords-by n hn =
       let hx = sound s h X .low in
       let hy = sound s h Y .low in
-      rw (ep, et, eq, er, rest-mod n (s .x) (s .y) hx hy, rest-div n (s .x) (s .y) hx hy, div-div-eq-div-mul n (s .x) (s .y))
+      let plane = plane-turns n hn in
+      let row = row-turns n _ refl in
+      let small : n % s .x < 256 = omega (arith, mod-lt n hx, sound s h X .high) in
+      rw (rest-is n (s .x * s .y) plane, times-is n (s .x * s .y) plane, rest-is _ (s .x) row, times-is _ (s .x) row, rest-mod n (s .x) (s .y) hx hy, rest-div n (s .x) (s .y) hx hy, div-div-eq-div-mul n (s .x) (s .y), mod-eq-of-lt small)
 
   pub number-fits : (c : Coords) → Inside s c → numberOf s c % 65536 ≡ numberOf s c
   unfolding nodeCount

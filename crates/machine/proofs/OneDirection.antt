@@ -78,7 +78,7 @@ module _ (ties : ℕ → Bool) (s : Shape) where
       let w = direction j (goesAlong ties s c t j) in
       record { low = le-leb _ 5 (w .low); first = rw (w .dim) f; way = rw (w .dim, w .way) }
 
-  allowed-leads : (c t : Coords) (dir : ℕ) → allowedAt ties Deterministic s c t dir ≡ true → Leads c t dir
+  pub allowed-leads : (c t : Coords) (dir : ℕ) → allowedAt ties Deterministic s c t dir ≡ true → Leads c t dir
   unfolding allowedAt
   allowed-leads c t dir h =
       let both = and-true (leb dir 5) _ h in
@@ -92,7 +92,7 @@ module _ (ties : ℕ → Bool) (s : Shape) where
       (λ y. by Y (dim-y c t (eqb-true _ _ x) (eqb-false _ _ y))))
       (λ x. by X (dim-x c t (eqb-false _ _ x)))
 
-  leads-allowed : (c t : Coords) (dir : ℕ) → Leads c t dir → allowedAt ties Deterministic s c t dir ≡ true
+  pub leads-allowed : (c t : Coords) (dir : ℕ) → Leads c t dir → allowedAt ties Deterministic s c t dir ≡ true
   unfolding allowedAt
   leads-allowed c t dir k =
       rw (k .low) (eq-eqb dir (firstAt ties s c t) (sym (first-along c t (dirDim dir) (k .first) ∙ ap (dirOf (dirDim dir)) (k .way) ∙ of-dir dir (leb-true dir 5 (k .low)))))

@@ -6,3 +6,5 @@ pub mod Begins
 pub mod Worked
 -- The code's own steps.
 pub mod ByCoords
+pub mod Division
+pub mod Ways

@@ -13,9 +13,9 @@ ghost use mathlib.Core.Path.{_≡_};
 ghost use Prim.Native.Nat.{_+_, _*_, _%_, _<_};
 ghost use Rattle.shape.specs.Shape.{wrappedIn};
 ghost use Rattle.machine.specs.Number.{numberOf};
-ghost use Rattle.machine.specs.Hop.{dirDim, dirPlus, plusDir, minusDir, rule};
+ghost use Rattle.machine.specs.Hop.{dirDim, dirPlus, plusDir, minusDir, opposite, rule};
 ghost use Rattle.shape.specs.Steps.{goes};
-ghost use Rattle.machine.specs.ByCoords.{inDim, hopsAlong, linkAt, movedAt, usefulAt, towardAt, firstAt, allowedAt};
+ghost use Rattle.machine.specs.ByCoords.{inDim, hopsAlong, hopsAt, linkAt, movedAt, usefulAt, towardAt, firstAt, allowedAt};
 
 fn dim_of(dir: u8) -> Dim
     ensures { λ r. ⌜ r ≡ dirDim dir ⌝ }
@@ -41,6 +41,13 @@ fn is_plus(dir: u8) -> bool
     ensures { λ r. ⌜ r ≡ dirPlus dir ⌝ }
 {
     dir % 2 == 0
+}
+
+// The direction back over the same link.
+pub fn opposite(dir: u8) -> u8
+    ensures { λ r. ⌜ r ≡ opposite dir ⌝ }
+{
+    if dir % 2 == 0 { dir + 1 } else { dir - 1 }
 }
 
 fn plus_dir(d: Dim) -> u8
@@ -100,6 +107,16 @@ pub fn hops_along(shape: Shape, at: Coords, to: Coords, d: Dim) -> u16
         coord(at, d),
         coord(to, d),
     ) as u16
+}
+
+// The hops from one place to another.
+pub fn hops_at(shape: Shape, at: Coords, to: Coords) -> u16
+    ensures { λ r. ⌜ r ≡ hopsAt shape at to ⌝ }
+{
+    let x = hops_along(shape, at, to, Dim::X);
+    let y = hops_along(shape, at, to, Dim::Y);
+    let z = hops_along(shape, at, to, Dim::Z);
+    x + y + z
 }
 
 // Whether a link leaves that place in a direction.

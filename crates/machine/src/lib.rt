@@ -2,4 +2,5 @@
 pub mod hop;
 pub mod leg;
 pub mod node;
-mod number;
+pub mod number;
+pub mod ways;

@@ -16,7 +16,7 @@ pub fn count(shape: Shape) -> u16
     ensures { λ r. ⌜ r ≡ countAnswer shape ⌝ }
 {
     if shape_error(shape) == 0 {
-        node_count(shape)
+        node_count(shape) as u16
     } else {
         0
     }
@@ -27,7 +27,7 @@ pub fn is_node(shape: Shape, node: u16) -> bool
     ensures { λ r. ⌜ r ≡ isNode shape node ⌝ }
 {
     if shape_error(shape) == 0 {
-        node < node_count(shape)
+        (node as u32) < node_count(shape)
     } else {
         false
     }

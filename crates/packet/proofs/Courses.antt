@@ -1,41 +1,44 @@
 -- What a walk carries stays what its packet says.
-use Prim.Native.Nat.{ℕ, _-_, _%_, _<_}
+use Prim.Native.Nat.{ℕ, _+_, _-_, _%_, _<_}
 use native.Mathlib.Omega.{arith}
 use mathlib.Core.Path.{_≡_, refl, sym, ap, _∙_}
-use mathlib.Core.Bool.{Bool, true, false, cond, false≢true}
+use mathlib.Core.Bool.{Bool, true, false, cond}
 use mathlib.Core.List.{List}
 use lib.Dec.{eqb}
-use borrow.Author.Tests.{eq-eqb, ne-eqb, eqb-false, lt-ltb}
+use borrow.Author.Tests.{eq-eqb, ne-eqb, eqb-false}
 use Rattle.theory.specs.Machine.{allows}
 use Rattle.theory.proofs.Cases.{by-le}
 use Rattle.shape.specs.declared.shape.Shape.{Shape}
 use Rattle.shape.specs.declared.shape.Coords.{Coords}
 use Rattle.shape.specs.Shape.{shapeError}
 use Rattle.machine.specs.declared.leg.Leg.{Leg}
-use Rattle.machine.specs.Number.{nodeCount, coordsOf, numberOf}
-use Rattle.machine.specs.Hop.{neighbour, rule}
-use Rattle.machine.specs.Torus.{torus}
-use Rattle.machine.specs.ByCoords.{movedAt, allowedAt}
-use Rattle.machine.specs.Node.{isNode, coordsAnswer}
-use Rattle.machine.proofs.ByCoords.{neighbour-coords, neighbour-number, allowed-at}
+use Rattle.machine.specs.declared.leg.Mode.{Mode}
+use Rattle.machine.specs.Number.{nodeCount, coordsOf, numberOf, Inside}
+use Rattle.machine.specs.Division.{coordsBy}
+use Rattle.machine.specs.Hop.{hops, neighbour, useful, rule}
+use Rattle.machine.specs.Torus.{allowedBy, torus}
+use Rattle.machine.specs.ByCoords.{hopsAt, movedAt, allowedAt}
+use Rattle.machine.specs.Ways.{waysAt, standingAt, allowedIn, taken}
+use Rattle.machine.proofs.Numbers.{coords-by, number-coords, number-fits, inside}
+use Rattle.machine.proofs.ByCoords.{hops-at, neighbour-coords, neighbour-number, neighbour-below, allowed-at}
+use Rattle.machine.proofs.Laws.{useful-lowers, hops-self, hops-zero}
+use Rattle.machine.proofs.Torus.{allowed-useful}
+use Rattle.machine.proofs.HopsLeft.{standing-is, ways-allow, ways-moved}
 use Rattle.packet.specs.declared.packet.Packet.{Packet}
 use Rattle.packet.specs.declared.course.Course.{Course}
 use Rattle.packet.specs.Packet.{noLeg, legsLeft}
 use Rattle.packet.specs.Steps.{frontOf, frontOr, settled, moved, Fine}
-use Rattle.packet.specs.Course.{packetOf, courseOf, On}
+use Rattle.packet.specs.Course.{packetOf, endOf, courseOf, waysOf, On}
 use Rattle.packet.proofs.Drops.{settled-same, fine-moved, fine-front, allows-front, allows-none}
 
 -- ---- the front leg
-front-or : (q : Packet) → (q .left ≡ 0 → ⊥) → frontOr q ≡ frontOf q
-unfolding frontOr
-front-or q ne = rw (ne-eqb (q .left) 0 ne)
-
 pub front-none : (q : Packet) → q .left ≡ 0 → noLeg ≡ frontOr q
 unfolding frontOr
 front-none q e = rw (eq-eqb (q .left) 0 e)
 
 pub front-some : (q : Packet) → (q .left ≡ 0 → ⊥) → frontOf q ≡ frontOr q
-front-some q ne = sym (front-or q ne)
+unfolding frontOr
+front-some q ne = rw (ne-eqb (q .left) 0 ne)
 
 -- Its target is a node, also of the leg of zeros.
 front-node : (s : Shape) (q : Packet) → Fine s q → frontOr q .target < nodeCount s
@@ -46,78 +49,136 @@ front-node s q f = go (eqb (q .left) 0) refl
     go true e = omega (arith, f .node)
     go false e = let ne : q .left ≡ 0 → ⊥ = eqb-false (q .left) 0 e in fine-front s q f (omega arith)
 
--- The coordinates of a node that exists.
-coords-node : (s : Shape) (n : ℕ) → shapeError s ≡ 0 → n < nodeCount s → coordsAnswer s n ≡ coordsOf s n
-unfolding isNode
-coords-node s n h hn = rw (eq-eqb (shapeError s) 0 h, lt-ltb n (nodeCount s) hn)
+front-moved : (s : Shape) (q : Packet) (d : ℕ) → frontOr (moved s q d) ≡ frontOr q
+unfolding frontOr
+front-moved s q d = refl
+
+-- A node's number, worked out from its coordinates.
+node-number : (s : Shape) (n : ℕ) → shapeError s ≡ 0 → n < nodeCount s → numberOf s (coordsOf s n) % 65536 ≡ n
+node-number s n h hn = number-fits s h (coordsOf s n) (inside s h n hn) ∙ number-coords s h n
+
+-- ---- a hop as the code makes it, from the coordinates of its leg's ends
+module _ (s : Shape) (q : Packet) (f : Fine s q) (h : 0 < q .left) (at to : Coords) (ea : at ≡ coordsBy s (q .node)) (et : to ≡ coordsBy s (frontOf q .target)) where
+  pub ends-allow : (d : ℕ) → allowedAt rule (frontOf q .mode) s at to d ≡ allows (torus s) (q .node) (legsLeft q) d
+  ends-allow d =
+      rw (ea, et, coords-by s (f .sound) (q .node) (f .node), coords-by s (f .sound) (frontOf q .target) (fine-front s q f h))
+      (sym (allows-front s q d h ∙ allowed-at s (f .sound) (q .node) (f .node) (frontOf q .target) rule (frontOf q .mode) d))
+
+  pub ends-moved : (d n : ℕ) (next : Coords) → next ≡ movedAt s at d → n ≡ numberOf s next % 65536 → _≡_ {A = Packet} (record { node = n; legs = q .legs; left = q .left }) (moved s q d)
+  ends-moved d n next en eq =
+      let e : n ≡ neighbour s (q .node) d = eq ∙ rw (en, ea, coords-by s (f .sound) (q .node) (f .node)) (neighbour-number s (f .sound) (q .node) (f .node) d) in
+      rw e
 
 -- ---- the course of a packet
-pub packet-course : (s : Shape) (q : Packet) (legs : List Leg) → legs ≡ q .legs → packetOf legs (courseOf s q) ≡ q
-unfolding courseOf
-packet-course s q legs e = rw e
+module _ (s : Shape) (q : Packet) (f : Fine s q) where
+  pub packet-course : (legs : List Leg) → legs ≡ q .legs → packetOf s legs (courseOf s q) (waysOf s q) ≡ q
+  unfolding packetOf courseOf waysOf
+  packet-course legs e =
+      rw (e, standing-is rule (frontOr q .mode) s (coordsOf s (q .node)) (coordsOf s (frontOr q .target)) (inside s (f .sound) (q .node) (f .node)) (inside s (f .sound) (frontOr q .target) (front-node s q f)) (f .sound), node-number s (q .node) (f .sound) (f .node))
 
-pub on-course : (s : Shape) (q : Packet) (legs : List Leg) → legs ≡ q .legs → Fine s q → On s legs (courseOf s q)
-on-course s q legs e f = record { fine = rw (packet-course s q legs e) f; is = rw (packet-course s q legs e) }
+  pub on-course : On s q (courseOf s q) (waysOf s q)
+  on-course = record { fine = f; course = refl; ways = refl }
 
--- As the code makes it.
-pub of-course :
-    (s : Shape) (q : Packet) (front : Leg) (at to : Coords) →
-    Fine s q →
-    front ≡ frontOr q →
-    at ≡ coordsAnswer s (q .node) →
-    to ≡ coordsAnswer s (front .target) →
-    _≡_ {A = Course} (record { node = q .node; left = q .left; front = front; at = at; to = to }) (courseOf s q)
-unfolding courseOf
-of-course s q front at to f ef ea et =
-    rw (et, ea, ef, coords-node s (q .node) (f .sound) (f .node), coords-node s (frontOr q .target) (f .sound) (front-node s q f))
+  -- As the code makes it.
+  pub of-course :
+      (front : Leg) (mode : Mode) (at to : Coords) (n : ℕ) (ws : List ℕ) →
+      front ≡ frontOr q →
+      mode ≡ front .mode →
+      at ≡ coordsBy s (q .node) →
+      to ≡ coordsBy s (front .target) →
+      n ≡ hopsAt s at to →
+      ws ≡ waysAt rule mode s at to →
+      (_≡_ {A = Course} (record { left = q .left; mode = mode; hops = n; to = to }) (courseOf s q)) × (ws ≡ waysOf s q)
+  unfolding courseOf waysOf
+  of-course front mode at to n ws ef em ea et en ew =
+      let here = coords-by s (f .sound) (q .node) (f .node) in
+      let there = coords-by s (f .sound) (frontOr q .target) (front-node s q f) in
+      (rw (en, et, em, ea, ef, here, there, hops-at s (q .node) (frontOr q .target)), rw (ew, et, em, ea, ef, here, there))
 
-module _ (s : Shape) (legs : List Leg) (c : Course) (on : On s legs c) where
-  abbrev q : Packet
-  q = packetOf legs c
+-- ---- one hop
+module _ (s : Shape) (q : Packet) (c : Course) (ws : List ℕ) (on : On s q c ws) where
+  abbrev target : ℕ
+  target = frontOr q .target
 
-  front-is : c .front ≡ frontOr q
+  pub left-is : c .left ≡ q .left
   unfolding courseOf
-  front-is = ap (λ c. c .front) (on .is)
+  left-is = ap (λ c. c .left) (on .course)
 
-  at-is : c .at ≡ coordsOf s (c .node)
+  mode-is : c .mode ≡ frontOr q .mode
   unfolding courseOf
-  at-is = ap (λ c. c .at) (on .is)
+  mode-is = ap (λ c. c .mode) (on .course)
 
-  to-is : c .to ≡ coordsOf s (c .front .target)
+  hops-are : c .hops ≡ hops s (q .node) target
   unfolding courseOf
-  to-is = rw front-is (ap (λ c. c .to) (on .is))
+  hops-are = ap (λ c. c .hops) (on .course)
 
-  -- ---- the directions allowed
-  pub on-allows : (d : ℕ) → (c .left ≡ 0 → ⊥) → allowedAt rule (c .front .mode) s (c .at) (c .to) d ≡ allows (torus s) (c .node) (legsLeft q) d
-  on-allows d ne =
-      rw (at-is, to-is, front-is, front-or q ne)
-      (sym (allows-front s q d (omega arith) ∙ allowed-at s (on .fine .sound) (c .node) (on .fine .node) (frontOf q .target) rule (frontOf q .mode) d))
+  to-is : c .to ≡ coordsOf s target
+  unfolding courseOf
+  to-is = ap (λ c. c .to) (on .course)
 
-  -- One is allowed only of a leg.
-  pub allows-leg : (d : ℕ) → allows (torus s) (c .node) (legsLeft q) d ≡ true → 0 < c .left
-  allows-leg d h = by-le 1 (c .left) (λ e. e) (λ e. absurd (false≢true (sym (allows-none s q d (omega arith)) ∙ h)))
+  ways-are : ws ≡ waysAt rule (frontOr q .mode) s (coordsOf s (q .node)) (coordsOf s target)
+  unfolding waysOf
+  ways-are = on .ways
 
-  -- ---- a hop, as the code makes it: the coordinates after it, and from those the node's number
-  module _ (d : ℕ) (at : Coords) (n : ℕ) (ea : at ≡ movedAt s (c .at) d) (en : n ≡ numberOf s at % 65536) where
-    at-next : at ≡ coordsOf s (neighbour s (c .node) d)
-    at-next = ea ∙ rw at-is (sym (neighbour-coords s (on .fine .sound) (c .node) (on .fine .node) d))
+  pub packet-on : (legs : List Leg) → legs ≡ q .legs → packetOf s legs c ws ≡ q
+  packet-on legs e = rw (on .course, on .ways) (packet-course s q (on .fine) legs e)
 
-    node-next : n ≡ neighbour s (c .node) d
-    node-next = en ∙ rw (ea, at-is) (neighbour-number s (on .fine .sound) (c .node) (on .fine .node) d)
+  module _ (some : c .left ≡ 0 → ⊥) (d : ℕ) where
+    sound : shapeError s ≡ 0
+    sound = on .fine .sound
 
-    packet-next : _≡_ {A = Packet} (record { node = n; legs = legs; left = c .left }) (moved s q d)
-    packet-next = rw node-next
+    here : Inside s (coordsOf s (q .node))
+    here = inside s sound (q .node) (on .fine .node)
 
-    pub hop-fine : Fine s (record { node = n; legs = legs; left = c .left })
-    hop-fine = rw packet-next (fine-moved s q d (on .fine))
+    there : Inside s (coordsOf s target)
+    there = inside s sound target (front-node s q (on .fine))
 
-    -- At the front leg's target legs are dropped; elsewhere none is.
-    pub hop-drops : (r : Course) → r ≡ courseOf s (settled (record { node = n; legs = legs; left = c .left })) → r ≡ courseOf s (settled (moved s q d))
-    hop-drops r e = rw (← packet-next) e
+    front-is : frontOf q ≡ frontOr q
+    front-is = front-some q (λ e. some (left-is ∙ e))
 
-    pub hop-stays : 0 < c .left → (n ≡ c .front .target → ⊥) → _≡_ {A = Course} (record { node = n; left = c .left; front = c .front; at = at; to = c .to }) (courseOf s (settled (moved s q d)))
-    unfolding courseOf frontOr
-    hop-stays h ne = rw (settled-same (moved s q d) h other, node-next, at-next, to-is, front-is)
-      where
-        other : frontOf (moved s q d) .target ≡ neighbour s (c .node) d → ⊥
-        other e = ne (node-next ∙ sym e ∙ ap (λ l. l .target) (front-some q (λ z. omega arith) ∙ sym front-is))
+    -- The directions allowed.
+    by-mode : allowedIn (c .mode) ws d ≡ allowedBy rule (frontOr q .mode) s (q .node) target d
+    by-mode =
+        rw (mode-is, ways-are)
+        (ways-allow rule (frontOr q .mode) s (coordsOf s (q .node)) (coordsOf s target) here there d
+        ∙ sym (allowed-at s sound (q .node) (on .fine .node) target rule (frontOr q .mode) d))
+
+    pub on-allows : allowedIn (c .mode) ws d ≡ allows (torus s) (q .node) (legsLeft q) d
+    on-allows = by-mode ∙ sym (allows-front s q d (omega (arith, left-is)) ∙ rw front-is)
+
+    -- A hop that is allowed leaves one hop fewer: at none the leg's target is reached, and legs are dropped.
+    module _ (a : allowedIn (c .mode) ws d ≡ true) where
+      fewer : hops s (neighbour s (q .node) d) target + 1 ≡ c .hops
+      fewer = useful-lowers s (q .node) target d (allowed-useful s sound (q .node) target (on .fine .node) (front-node s q (on .fine)) (frontOr q .mode) d (sym by-mode ∙ a)) ∙ sym hops-are
+
+      pub some-hops : 0 < c .hops
+      some-hops = omega (arith, fewer)
+
+      ways-next : taken (c .mode) ws d ≡ waysOf s (moved s q d)
+      unfolding waysOf
+      ways-next =
+          let b : allowedIn (frontOr q .mode) (waysAt rule (frontOr q .mode) s (coordsOf s (q .node)) (coordsOf s target)) d ≡ true = rw (mode-is, ways-are) at a in
+          rw (mode-is, ways-are, ways-moved rule (frontOr q .mode) s (coordsOf s (q .node)) (coordsOf s target) here there d b, front-moved s q d, neighbour-coords s sound (q .node) (on .fine .node) d)
+
+      pub hop-stays : (c .hops - 1 ≡ 0 → ⊥) → On s (settled (moved s q d)) (record { left = c .left; mode = c .mode; hops = c .hops - 1; to = c .to }) (taken (c .mode) ws d)
+      unfolding courseOf
+      hop-stays more = rw (settled-same (moved s q d) (omega (arith, left-is)) other) (record {
+        fine = fine-moved s q d (on .fine);
+        course = rw (left-is, mode-is, to-is, front-moved s q d, ← fewer, less);
+        ways = ways-next;
+      })
+        where
+          less : hops s (neighbour s (q .node) d) target + 1 - 1 ≡ hops s (neighbour s (q .node) d) target
+          less = omega arith
+
+          none : neighbour s (q .node) d ≡ target → hops s (neighbour s (q .node) d) target ≡ 0
+          none e = rw e (hops-self s target)
+
+          other : frontOf (moved s q d) .target ≡ neighbour s (q .node) d → ⊥
+          other e = more (omega (arith, fewer, none (sym e ∙ ap (λ l. l .target) front-is)))
+
+      pub hop-ends : (legs : List Leg) → legs ≡ q .legs → c .hops - 1 ≡ 0 → endOf s legs (record { left = c .left; mode = c .mode; hops = c .hops - 1; to = c .to }) ≡ moved s q d
+      unfolding endOf
+      hop-ends legs el z =
+          let e : neighbour s (q .node) d ≡ target = hops-zero s sound (neighbour s (q .node) d) target (neighbour-below s sound (q .node) (on .fine .node) d) (front-node s q (on .fine)) (omega (arith, fewer)) in
+          rw (el, left-is, to-is, node-number s target sound (front-node s q (on .fine)), e)

@@ -18,7 +18,6 @@ use Rattle.machine.specs.declared.leg.Leg.{Leg}
 use Rattle.shape.specs.Shape.{shapeError}
 use Rattle.machine.specs.Number.{nodeCount}
 use Rattle.machine.specs.Hop.{neighbour, rule}
-use Rattle.machine.specs.Node.{countAnswer}
 use Rattle.machine.specs.Torus.{allowedBy, torus}
 use Rattle.machine.proofs.ByCoords.{neighbour-below}
 use Rattle.packet.specs.declared.packet.Packet.{Packet}
@@ -165,13 +164,12 @@ pub error-rest :
     (s : Shape) (q : Packet) (nodes r : ℕ) (legs : Bool) →
     shapeError s ≡ 0 →
     q .left ≤ mostLegs →
-    nodes ≡ countAnswer s →
+    nodes ≡ nodeCount s →
     legs ≡ outside nodes (legsLeft q) →
     r ≡ cond (leb nodes (q .node) || legs) wrongPacket 0 →
     r ≡ packetError s q
 unfolding packetError badPacket
-error-rest s q nodes r legs h k en el er =
-    let e : nodes ≡ nodeCount s = en ∙ rw (eq-eqb (shapeError s) 0 h) in
+error-rest s q nodes r legs h k e el er =
     er ∙ rw (el, e, h, le-ltb mostLegs (q .left) k) (sym (then-cond (leb (nodeCount s) (q .node) || outside (nodeCount s) (legsLeft q)) _ 0))
 
 -- ---- the hop as the code makes it

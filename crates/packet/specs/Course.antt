@@ -1,33 +1,42 @@
--- The code's own steps: what a walk carries from hop to hop.
-use Prim.Native.Nat.{ℕ}
+-- The code's own steps: what a walk carries along a leg.
+use Prim.Native.Nat.{ℕ, _%_}
 use mathlib.Core.Path.{_≡_}
 use mathlib.Core.Bool.{cond}
 use mathlib.Core.List.{List}
 use lib.Dec.{eqb}
 use Rattle.shape.specs.declared.shape.Shape.{Shape}
 use Rattle.machine.specs.declared.leg.Leg.{Leg}
-use Rattle.machine.specs.Number.{coordsOf}
+use Rattle.machine.specs.Number.{numberOf, coordsOf}
+use Rattle.machine.specs.Hop.{hops, rule}
+use Rattle.machine.specs.Ways.{waysAt, standingAt}
 use Rattle.packet.specs.declared.packet.Packet.{Packet}
 use Rattle.packet.specs.declared.course.Course.{Course}
 use Rattle.packet.specs.Steps.{frontOr, Fine}
 
--- The packet of a course, its array of legs beside it; and the course of a packet.
-abbrev pub packetOf : List Leg → Course → Packet
-packetOf legs c = record { node = c .node; legs = legs; left = c .left }
-
+-- The course of a packet, and the hops left in each direction.
 unfoldable pub courseOf : Shape → Packet → Course
 courseOf s q = record {
-  node = q .node;
   left = q .left;
-  front = frontOr q;
-  at = coordsOf s (q .node);
+  mode = frontOr q .mode;
+  hops = hops s (q .node) (frontOr q .target);
   to = coordsOf s (frontOr q .target);
 }
 
--- The course is that of its packet, which no check declines.
-pub record On (s : Shape) (legs : List Leg) (c : Course) : Type 0 where
-  pub fine : Fine s (packetOf legs c)
-  pub is : c ≡ courseOf s (packetOf legs c)
+unfoldable pub waysOf : Shape → Packet → List ℕ
+waysOf s q = waysAt rule (frontOr q .mode) s (coordsOf s (q .node)) (coordsOf s (frontOr q .target))
+
+-- The packet of a course, its array of legs beside it; and at the end of its leg.
+unfoldable pub packetOf : Shape → List Leg → Course → List ℕ → Packet
+packetOf s legs c ws = record { node = numberOf s (standingAt s ws (c .to)) % 65536; legs = legs; left = c .left }
+
+unfoldable pub endOf : Shape → List Leg → Course → Packet
+endOf s legs c = record { node = numberOf s (c .to) % 65536; legs = legs; left = c .left }
+
+-- The course and the hops left are those of a packet that no check declines.
+pub record On (s : Shape) (q : Packet) (c : Course) (ws : List ℕ) : Type 0 where
+  pub fine : Fine s q
+  pub course : c ≡ courseOf s q
+  pub ways : ws ≡ waysOf s q
 
 -- The packet of a walk after some hops: as it was lent, drops not stored, while there are none.
 unfoldable pub keptOf : Packet → ℕ → Packet → Packet

@@ -2,7 +2,7 @@
 use logic::either;
 use logic::pick;
 use machine::leg::Leg;
-use machine::node::count;
+use machine::number::node_count;
 use numbers::WRONG_PACKET;
 use shape::Shape;
 use shape::shape::shape_error;
@@ -76,7 +76,7 @@ impl Packet {
     }
 
     // A leg that is left names a node outside the shape.
-    fn leg_outside(self, count: u16) -> bool
+    fn leg_outside(self, count: u32) -> bool
         requires { ⌜ self .left ≤ mostLegs ⌝ }
         ensures { λ r. ⌜ r ≡ outside count (legsLeft self) ⌝ }
     {
@@ -86,7 +86,7 @@ impl Packet {
         while judged < left {
             judged = judged + 1;
             let leg = self.leg(MOST_LEGS - judged);
-            bad = either(count <= leg.target, bad);
+            bad = either(count <= leg.target as u32, bad);
         }
         bad
     }
@@ -102,9 +102,9 @@ impl Packet {
         if MOST_LEGS < self.left as usize {
             return WRONG_PACKET;
         }
-        let nodes = count(shape);
+        let nodes = node_count(shape);
         pick(
-            either(nodes <= self.node, self.leg_outside(nodes)),
+            either(nodes <= self.node as u32, self.leg_outside(nodes)),
             WRONG_PACKET,
             0,
         )

@@ -1,6 +1,12 @@
 // The step and the walk.
 use crate::course::Course;
 use crate::packet::Packet;
+use machine::hop::allowed_at;
+use machine::hop::moved_at;
+use machine::hop::number_at;
+use machine::number::coords_of;
+use machine::ways::Ways;
+use machine::ways::take;
 use numbers::NOT_ALLOWED;
 use shape::Shape;
 ghost use mathlib.Core.Path.{_≡_};
@@ -63,14 +69,14 @@ pub struct Walked {
 }
 
 // The packet that a walk hands back: only a hop stores the drops.
-fn kept(lent: Packet, hops: usize, course: Course) -> Packet
-    ensures { λ r. ⌜ r ≡ keptOf lent hops (packetOf (lent .legs) course) ⌝ }
+fn kept(lent: Packet, shape: Shape, hops: usize, course: Course, ways: &Ways) -> Packet
+    ensures { λ r. ⌜ r ≡ keptOf lent hops (packetOf shape (lent .legs) course (now (ways .entry))) ⌝ }
 {
     if hops == 0 {
         return lent;
     }
     let legs = lent.legs;
-    course.packet(legs)
+    course.packet(shape, legs, ways)
 }
 
 // One hop a byte, until the packet has arrived, a direction is not allowed or the bytes are used up.
@@ -79,36 +85,43 @@ fn walk_on(lent: Packet, shape: Shape, dirs: &[u8]) -> Walked
     ensures { λ r. ⌜ r ≡ toldWalk (goes (torus shape) (stored shape) lent (now (dirs .entry))) ⌝ }
 {
     let legs = lent.legs;
-    let mut way = Course::of(lent, shape);
+    let start = Course::of(lent, shape);
+    let mut way = start.course;
+    let mut ways = start.ways;
     let mut hops: usize = 0;
     while hops < dirs.len() {
         if way.left == 0 {
             return Walked {
-                packet: kept(lent, hops, way),
+                packet: kept(lent, shape, hops, way, &ways),
                 hops: hops,
                 ending: Ending::Arrived,
             };
         }
-        let dir = dirs[hops];
-        if !way.allows(shape, legs, dir) {
+        let mode = way.mode;
+        if !take(&mut ways, mode, dirs[hops]) {
             return Walked {
-                packet: kept(lent, hops, way),
+                packet: kept(lent, shape, hops, way, &ways),
                 hops: hops,
                 ending: Ending::NotAllowed,
             };
         }
-        way = way.hop(shape, legs, dir);
         hops = hops + 1;
+        way.hops = way.hops - 1;
+        if way.hops == 0 {
+            let next = Course::of(way.end(shape, legs), shape);
+            way = next.course;
+            ways = next.ways;
+        }
     }
     if way.left == 0 {
         return Walked {
-            packet: kept(lent, hops, way),
+            packet: kept(lent, shape, hops, way, &ways),
             hops: hops,
             ending: Ending::Arrived,
         };
     }
     Walked {
-        packet: kept(lent, hops, way),
+        packet: kept(lent, shape, hops, way, &ways),
         hops: hops,
         ending: Ending::UsedUp,
     }
@@ -127,17 +140,31 @@ impl Packet {
                 answer: Answer::Refused(error),
             };
         }
-        let legs = self.legs;
-        let way = Course::of(self, shape);
-        if !way.allows(shape, legs, dir) {
+        let ready = self.drop_all();
+        if ready.left == 0 {
             return Stepped {
                 packet: self,
                 answer: Answer::Refused(NOT_ALLOWED),
             };
         }
-        let next = way.hop(shape, legs, dir);
+        let front = ready.front();
+        let mode = front.mode;
+        let at = coords_of(shape, ready.node);
+        let to = coords_of(shape, front.target);
+        if !allowed_at(mode, shape, at, to, dir) {
+            return Stepped {
+                packet: self,
+                answer: Answer::Refused(NOT_ALLOWED),
+            };
+        }
+        let legs = ready.legs;
+        let moved = Packet {
+            node: number_at(shape, moved_at(shape, at, dir)),
+            legs: legs,
+            left: ready.left,
+        };
         Stepped {
-            packet: next.packet(legs),
+            packet: moved.drop_all(),
             answer: Answer::Hopped,
         }
     }

@@ -271,3 +271,22 @@ axis-triangle (suc k) len ring p c q hp hc hq e =
     let less = useful-less len ring p c plus u in
     omega (arith, axis-triangle k len ring (place len p plus) c q (place-below len p plus hp) hc hq (omega arith), axis-step len ring p q plus hp hq (useful-has len ring p c plus u)) in
     ⊎-elim (by true) (by false) (axis-some len ring p c hp hc ne)
+
+-- ---- where the hops of a useful way lead: to q, counted on past the end of the dimension where they go round
+pub plus-leads : (len : ℕ) (ring : Bool) (p q : ℕ) → p < len → q < len → axisUseful len ring p q true ≡ true → (p + axisHops len ring p q ≡ q) ⊎ (p + axisHops len ring p q ≡ q + len)
+unfolding axisHops
+plus-leads len false p q hp hq e = let a = ltb-true p q (sym (open-useful len p q true hp hq) ∙ e) in inl (omega arith)
+plus-leads len true p q hp hq e =
+    let w = ahead-is len p q hp hq in
+    let a = leb-true (2 * ahead len p q) len (and-true (not (eqb (ahead len p q) 0)) (leb (2 * ahead len p q) len) (sym (ring-useful len p q true hp hq) ∙ e) .1) in
+    let n = ring-hops len p q (ahead len p q) hp hq w in
+    by-le p q (λ b. inl (omega (arith, w .up b))) (λ b. inr (omega (arith, w .round b)))
+
+pub minus-leads : (len : ℕ) (ring : Bool) (p q : ℕ) → p < len → q < len → axisUseful len ring p q false ≡ true → (q + axisHops len ring p q ≡ p) ⊎ (q + axisHops len ring p q ≡ p + len)
+unfolding axisHops
+minus-leads len false p q hp hq e = let a = ltb-true q p (sym (open-useful len p q false hp hq) ∙ e) in inl (omega arith)
+minus-leads len true p q hp hq e =
+    let w = ahead-is len p q hp hq in
+    let a = leb-true len (2 * ahead len p q) (and-true (not (eqb (ahead len p q) 0)) (leb len (2 * ahead len p q)) (sym (ring-useful len p q false hp hq) ∙ e) .1) in
+    let n = ring-hops len p q (ahead len p q) hp hq w in
+    by-le p q (λ b. inr (omega (arith, w .up b, w .below))) (λ b. inl (omega (arith, w .round b, w .below)))

@@ -1,4 +1,5 @@
 use mathlib.Core.Path.{sym, _∙_}
+use Rattle.machine.proofs.Numbers.{coords-by}
 use Rattle.machine.proofs.Nodes.{node-of}
 use borrow.Author.Needs.{needs}
 use Rattle.machine.proofs.node.coords.Statement.{statement}
@@ -8,10 +9,10 @@ is-node-requires : tie.Need-is-node-requires
 is-node-requires c κs = search needs
 
 coords-of-requires : tie.Need-coords-of-requires
-coords-of-requires c κs = let n = node-of _ _ (sym (c .before .is-node .ensures) ∙ c .if1 .taken) in (n .sound, n .below)
+coords-of-requires c κs = search needs
 
 returns : tie.Need-returns
-returns c = rw (← c .before .before .is-node .ensures, c .before .if1 .taken) (c .coords-of .ensures)
+returns c = let n = node-of _ _ (sym (c .before .before .is-node .ensures) ∙ c .before .if1 .taken) in rw (← c .before .before .is-node .ensures, c .before .if1 .taken) (c .coords-of .ensures ∙ coords-by _ (n .sound) _ (n .below))
 
 returns-2 : tie.Need-returns-2
 returns-2 c = rw (← c .before .is-node .ensures, c .if1 .left)

@@ -1,5 +1,6 @@
 use Rattle.machine.proofs.ByCoords.{link-at}
 use mathlib.Core.Path.{sym, _∙_}
+use Rattle.machine.proofs.Numbers.{coords-by}
 use Rattle.machine.proofs.Nodes.{node-of}
 use borrow.Author.Needs.{needs}
 use Rattle.machine.proofs.node.has_link.Statement.{statement}
@@ -9,13 +10,13 @@ is-node-requires : tie.Need-is-node-requires
 is-node-requires c κs = search needs
 
 coords-of-requires : tie.Need-coords-of-requires
-coords-of-requires c κs = let n = node-of _ _ (sym (c .before .is-node .ensures) ∙ c .if1 .taken) in (n .sound, n .below)
+coords-of-requires c κs = search needs
 
 link-at-requires : tie.Need-link-at-requires
 link-at-requires c κs = search needs
 
 returns : tie.Need-returns
-returns c = rw (← c .before .before .before .is-node .ensures, c .before .before .if1 .taken, link-at, c .link-at .ensures, c .before .coords-of .ensures)
+returns c = let n = node-of _ _ (sym (c .before .before .before .is-node .ensures) ∙ c .before .before .if1 .taken) in rw (← c .before .before .before .is-node .ensures, c .before .before .if1 .taken, link-at, c .link-at .ensures, c .before .coords-of .ensures, coords-by _ (n .sound) _ (n .below))
 
 returns-2 : tie.Need-returns-2
 returns-2 c = rw (← c .before .is-node .ensures, c .if1 .left)

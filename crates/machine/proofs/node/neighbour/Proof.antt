@@ -1,5 +1,6 @@
 use Rattle.machine.proofs.ByCoords.{neighbour-number}
 use mathlib.Core.Path.{sym, _∙_}
+use Rattle.machine.proofs.Numbers.{coords-by}
 use Rattle.machine.proofs.Nodes.{node-of}
 use borrow.Author.Needs.{needs}
 use Rattle.machine.proofs.node.neighbour.Statement.{statement}
@@ -9,7 +10,7 @@ is-node-requires : tie.Need-is-node-requires
 is-node-requires c κs = search needs
 
 coords-of-requires : tie.Need-coords-of-requires
-coords-of-requires c κs = let n = node-of _ _ (sym (c .before .is-node .ensures) ∙ c .if1 .taken) in (n .sound, n .below)
+coords-of-requires c κs = search needs
 
 moved-at-requires : tie.Need-moved-at-requires
 moved-at-requires c κs = search needs
@@ -18,7 +19,7 @@ number-at-requires : tie.Need-number-at-requires
 number-at-requires c κs = search needs
 
 returns : tie.Need-returns
-returns c = let n = node-of _ _ (sym (c .before .before .before .before .is-node .ensures) ∙ c .before .before .before .if1 .taken) in rw (← c .before .before .before .before .is-node .ensures, c .before .before .before .if1 .taken, ← neighbour-number _ (n .sound) _ (n .below) _, c .number-at .ensures, c .before .moved-at .ensures, c .before .before .coords-of .ensures)
+returns c = let n = node-of _ _ (sym (c .before .before .before .before .is-node .ensures) ∙ c .before .before .before .if1 .taken) in rw (← c .before .before .before .before .is-node .ensures, c .before .before .before .if1 .taken, ← neighbour-number _ (n .sound) _ (n .below) _, c .number-at .ensures, c .before .moved-at .ensures, c .before .before .coords-of .ensures, coords-by _ (n .sound) _ (n .below))
 
 returns-2 : tie.Need-returns-2
 returns-2 c = rw (← c .before .is-node .ensures, c .if1 .left)

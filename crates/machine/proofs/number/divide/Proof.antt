@@ -1,31 +1,25 @@
-use Rattle.machine.proofs.Division.{turn, turns, done}
 use native.Mathlib.Omega.{arith}
-use mathlib.Core.Path.{_≡_}
-use Prim.Native.Nat.{_+_, _*_}
+use Rattle.machine.proofs.Division.{whole, half, done}
+use borrow.Author.Needs.{needs}
 use Rattle.machine.proofs.number.divide.Statement.{statement}
 use Rattle.machine.proofs.number.divide.Tie as tie
 
-abbrev Inv-loop : tie.InvT-loop
-Inv-loop n d times₀ rest₀ times rest = n ≡ times * d + rest
+less-by-requires : tie.Need-less-by-requires
+less-by-requires c κs = search needs
 
-abbrev μ-loop : tie.MeasureT-loop
-μ-loop n d times₀ rest₀ times rest = rest
+less-by-requires-2 : tie.Need-less-by-requires-2
+less-by-requires-2 c κs = omega (arith, (half _ _ 8 _ _ _ _ (whole (c .before .args .n) (c .before .args .d)) (c .less-by .ensures .0) (c .less-by .ensures .1)) .few)
 
-loop-holds : tie.Need-loop-holds Inv-loop μ-loop
-loop-holds c = omega arith
+less-by-requires-3 : tie.Need-less-by-requires-3
+less-by-requires-3 c κs = omega (arith, (half _ _ 4 _ _ _ _ (half _ _ 8 _ _ _ _ (whole (c .before .before .args .n) (c .before .before .args .d)) (c .before .less-by .ensures .0) (c .before .less-by .ensures .1)) (c .less-by2 .ensures .0) (c .less-by2 .ensures .1)) .few)
 
-add-times : tie.Need-add-times Inv-loop μ-loop
-add-times c = omega (arith, turns _ _ _ _ (c .before .before .pre) (c .before .loop .inv) (c .loop-test .taken))
+less-by-requires-4 : tie.Need-less-by-requires-4
+less-by-requires-4 c κs = omega (arith, (half _ _ 2 _ _ _ _ (half _ _ 4 _ _ _ _ (half _ _ 8 _ _ _ _ (whole (c .before .before .before .args .n) (c .before .before .before .args .d)) (c .before .before .less-by .ensures .0) (c .before .before .less-by .ensures .1)) (c .before .less-by2 .ensures .0) (c .before .less-by2 .ensures .1)) (c .less-by3 .ensures .0) (c .less-by3 .ensures .1)) .few)
 
-loop-less : tie.Need-loop-less Inv-loop μ-loop
-loop-less c = omega arith
-
-loop-again : tie.Need-loop-again Inv-loop μ-loop
-loop-again c = turn _ _ _ _ (c .before .loop .inv) (c .loop-test .taken)
-
-returns : tie.Need-returns Inv-loop μ-loop
-returns c = done _ _ _ _ (c .before .loop .inv) (c .loop-test .left)
+returns : tie.Need-returns
+returns c = done _ _ _ _ (half _ _ 1 _ _ _ _ (half _ _ 2 _ _ _ _ (half _ _ 4 _ _ _ _ (half _ _ 8 _ _ _ _ (whole (c .before .before .before .before .args .n) (c .before .before .before .before .args .d)) (c .before .before .before .less-by .ensures .0) (c .before .before .before .less-by .ensures .1)) (c .before .before .less-by2 .ensures .0) (c .before .before .less-by2 .ensures .1)) (c .before .less-by3 .ensures .0) (c .before .less-by3 .ensures .1)) (c .less-by4 .ensures .0) (c .less-by4 .ensures .1))
 
 pub divide-spec : {M : Type 1} → statement M
 divide-spec =
-    tie.close (tie.spec Inv-loop μ-loop loop-holds add-times loop-less loop-again returns)
+    tie.close
+    (tie.spec less-by-requires less-by-requires-2 less-by-requires-3 less-by-requires-4 returns)

@@ -1,7 +1,7 @@
-use Rattle.machine.specs.Number.{nodeCount}
 use native.Mathlib.Omega.{arith}
-use Rattle.shape.proofs.Shapes.{plane-most, count-most}
 use mathlib.Core.Path.{refl}
+use Rattle.machine.specs.Number.{nodeCount}
+use Rattle.machine.proofs.Numbers.{inner-product, count-product}
 use borrow.Author.Needs.{needs}
 use Rattle.machine.proofs.number.node_count.Statement.{statement}
 use Rattle.machine.proofs.number.node_count.Tie as tie
@@ -16,10 +16,10 @@ cast-c : tie.Need-cast-c
 cast-c c = search needs
 
 mul-result : tie.Need-mul-result
-mul-result c = omega (arith, plane-most _ (c .before .before .before .pre))
+mul-result c = omega (arith, inner-product (c .before .before .before .args .shape .x) (c .before .before .before .args .shape .y) (search needs) (search needs))
 
 mul-result-2 : tie.Need-mul-result-2
-mul-result-2 c = omega (arith, count-most _ (c .before .before .before .pre))
+mul-result-2 c = omega (arith, count-product (c .before .before .before .args .shape .x) (c .before .before .before .args .shape .y) (c .before .before .before .args .shape .z) (search needs) (search needs) (search needs))
 
 returns : tie.Need-returns
 unfolding nodeCount

@@ -1,3 +1,4 @@
+use mathlib.Core.Path.{refl}
 use Rattle.packet.proofs.Drops.{fine-settled}
 use Rattle.packet.proofs.Courses.{of-course}
 use borrow.Author.Needs.{needs}
@@ -10,16 +11,29 @@ drop-all-requires c κs = search needs
 front-or-requires : tie.Need-front-or-requires
 front-or-requires c κs = rw (c .drop-all .ensures) (fine-settled _ _ (c .before .pre) .few)
 
-coords-requires : tie.Need-coords-requires
-coords-requires c κs = search needs
+coords-of-requires : tie.Need-coords-of-requires
+coords-of-requires c κs = search needs
 
-coords-requires-2 : tie.Need-coords-requires-2
-coords-requires-2 c κs = search needs
+coords-of-requires-2 : tie.Need-coords-of-requires-2
+coords-of-requires-2 c κs = search needs
+
+hops-at-requires : tie.Need-hops-at-requires
+hops-at-requires c κs = search needs
+
+ways-requires : tie.Need-ways-requires
+ways-requires c κs = search needs
 
 returns : tie.Need-returns
-returns c = let e = c .before .before .before .drop-all .ensures in rw (← e) (of-course _ (c .before .before .before .drop-all .result) _ _ _ (rw e (fine-settled _ _ (c .before .before .before .before .pre))) (c .before .before .front-or .ensures) (c .before .coords .ensures) (c .coords2 .ensures))
+returns c = let e = c .before .before .before .before .before .drop-all .ensures in rw (← e) (of-course _ (c .before .before .before .before .before .drop-all .result) (rw e (fine-settled _ _ (c .before .before .before .before .before .before .pre))) _ _ _ _ _ _ (c .before .before .before .before .front-or .ensures) refl (c .before .before .before .coords-of .ensures) (c .before .before .coords-of2 .ensures) (c .before .hops-at .ensures) (c .ways .ensures))
 
 pub of-spec : {M : Type 1} → statement M
 of-spec =
     tie.close
-    (tie.spec drop-all-requires front-or-requires coords-requires coords-requires-2 returns)
+    (tie.spec
+    drop-all-requires
+    front-or-requires
+    coords-of-requires
+    coords-of-requires-2
+    hops-at-requires
+    ways-requires
+    returns)

@@ -22,8 +22,11 @@ returns-2 : tie.Need-returns-2
 unfolding packetError badPacket
 returns-2 c = rw (← c .before .before .before .shape-error .ensures, c .before .before .if1 .left, lt-ltb _ _ (c .if2 .taken))
 
-count-requires : tie.Need-count-requires
-count-requires c κs = search needs
+node-count-requires : tie.Need-node-count-requires
+node-count-requires c κs = search needs
+
+cast-either : tie.Need-cast-either
+cast-either c = search needs
 
 leg-outside-requires : tie.Need-leg-outside-requires
 leg-outside-requires c κs = search needs
@@ -35,7 +38,7 @@ pick-requires : tie.Need-pick-requires
 pick-requires c κs = search needs
 
 returns-3 : tie.Need-returns-3
-returns-3 c = error-rest _ _ _ _ _ (omega arith) (omega arith) (c .before .before .before .before .count .ensures) (c .before .before .leg-outside .ensures) (rw (c .pick .ensures, c .before .either .ensures))
+returns-3 c = error-rest _ _ _ _ _ (omega arith) (omega arith) (c .before .before .before .before .node-count .ensures) (c .before .before .leg-outside .ensures) (rw (c .pick .ensures, c .before .either .ensures))
 
 pub check-spec : {M : Type 1} → statement M
 check-spec =
@@ -45,7 +48,8 @@ check-spec =
     returns
     cast-if2
     returns-2
-    count-requires
+    node-count-requires
+    cast-either
     leg-outside-requires
     either-requires
     pick-requires

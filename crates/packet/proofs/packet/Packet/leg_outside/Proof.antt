@@ -25,6 +25,9 @@ sub-leg c = omega arith
 leg-requires : tie.Need-leg-requires Inv-loop μ-loop
 leg-requires c κs = omega arith
 
+cast-either : tie.Need-cast-either Inv-loop μ-loop
+cast-either c = omega arith
+
 either-requires : tie.Need-either-requires Inv-loop μ-loop
 either-requires c κs = tt
 
@@ -48,6 +51,7 @@ leg-outside-spec =
     add-judged
     sub-leg
     leg-requires
+    cast-either
     either-requires
     loop-less
     loop-again

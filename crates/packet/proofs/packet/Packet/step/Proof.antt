@@ -1,8 +1,8 @@
+use native.Mathlib.Omega.{arith}
 use mathlib.Core.Path.{sym, _∙_}
 use borrow.Author.Tests.{not-true, not-false}
-use Rattle.packet.proofs.Walks.{step-refused, on-way, step-hopped, step-stays}
+use Rattle.packet.proofs.Walks.{step-refused, ready-fine, step-arrived, step-declined, step-hopped}
 use Rattle.packet.proofs.Answers.{step-told}
-use Rattle.packet.proofs.Courses.{allows-leg}
 use Rattle.packet.proofs.Stored.{fine-of}
 use borrow.Author.Needs.{needs}
 use Rattle.packet.proofs.packet.Packet.step.Statement.{statement}
@@ -14,23 +14,38 @@ check-requires c κs = search needs
 returns : tie.Need-returns
 returns c = step-told _ _ (step-refused _ _ _ _ (c .before .check .ensures) (c .if1 .taken))
 
-of-requires : tie.Need-of-requires
-of-requires c κs = fine-of _ _ (sym (c .before .before .check .ensures) ∙ c .before .if1 .left)
-
-allows-requires : tie.Need-allows-requires
-allows-requires c κs = on-way _ _ (fine-of _ _ (sym (c .before .before .before .check .ensures) ∙ c .before .before .if1 .left)) _ (c .of .ensures)
+drop-all-requires : tie.Need-drop-all-requires
+drop-all-requires c κs = (fine-of _ _ (sym (c .before .check .ensures) ∙ c .if1 .left)) .few
 
 returns-2 : tie.Need-returns-2
-returns-2 c = step-told _ _ (step-stays _ _ (fine-of _ _ (sym (c .before .before .before .before .before .check .ensures) ∙ c .before .before .before .before .if1 .left)) _ (c .before .before .of .ensures) _ (sym (c .before .allows .ensures) ∙ not-true _ (c .if2 .taken)))
+returns-2 c = step-told _ _ (step-arrived _ _ (fine-of _ _ (sym (c .before .before .before .before .check .ensures) ∙ c .before .before .before .if1 .left)) _ (c .before .before .drop-all .ensures) _ (c .if2 .taken))
 
-hop-requires : tie.Need-hop-requires
-hop-requires c κs = let on = on-way _ _ (fine-of _ _ (sym (c .before .before .before .before .before .check .ensures) ∙ c .before .before .before .before .if1 .left)) _ (c .before .before .of .ensures) in (on, allows-leg _ _ _ on _ (sym (c .before .allows .ensures) ∙ not-false _ (c .if2 .left)))
+front-requires : tie.Need-front-requires
+front-requires c κs = (omega arith, ready-fine _ _ (fine-of _ _ (sym (c .before .before .before .before .check .ensures) ∙ c .before .before .before .if1 .left)) _ (c .before .before .drop-all .ensures) .few)
 
-packet-requires : tie.Need-packet-requires
-packet-requires c κs = search needs
+coords-of-requires : tie.Need-coords-of-requires
+coords-of-requires c κs = search needs
+
+coords-of-requires-2 : tie.Need-coords-of-requires-2
+coords-of-requires-2 c κs = search needs
+
+allowed-at-requires : tie.Need-allowed-at-requires
+allowed-at-requires c κs = search needs
 
 returns-3 : tie.Need-returns-3
-returns-3 c = step-told _ _ (step-hopped _ _ (fine-of _ _ (sym (c .before .before .before .before .before .before .before .check .ensures) ∙ c .before .before .before .before .before .before .if1 .left)) _ (c .before .before .before .before .of .ensures) _ _ _ (c .before .hop .ensures) (c .packet .ensures) (sym (c .before .before .before .allows .ensures) ∙ not-false _ (c .before .before .if2 .left)))
+returns-3 c = step-told _ _ (step-declined _ _ (fine-of _ _ (sym (c .before .before .before .before .before .before .before .before .before .check .ensures) ∙ c .before .before .before .before .before .before .before .before .if1 .left)) _ (c .before .before .before .before .before .before .before .drop-all .ensures) _ (c .before .before .before .before .before .if2 .left) _ (c .before .before .before .before .front .ensures) _ _ (c .before .before .before .coords-of .ensures) (c .before .before .coords-of2 .ensures) _ (c .before .allowed-at .ensures) (not-true _ (c .if3 .taken)))
+
+moved-at-requires : tie.Need-moved-at-requires
+moved-at-requires c κs = search needs
+
+number-at-requires : tie.Need-number-at-requires
+number-at-requires c κs = search needs
+
+drop-all-requires-2 : tie.Need-drop-all-requires-2
+drop-all-requires-2 c κs = ready-fine _ _ (fine-of _ _ (sym (c .before .before .before .before .before .before .before .before .before .before .before .before .check .ensures) ∙ c .before .before .before .before .before .before .before .before .before .before .before .if1 .left)) _ (c .before .before .before .before .before .before .before .before .before .before .drop-all .ensures) .few
+
+returns-4 : tie.Need-returns-4
+returns-4 c = step-told _ _ (step-hopped _ _ (fine-of _ _ (sym (c .before .before .before .before .before .before .before .before .before .before .before .before .before .check .ensures) ∙ c .before .before .before .before .before .before .before .before .before .before .before .before .if1 .left)) _ (c .before .before .before .before .before .before .before .before .before .before .before .drop-all .ensures) _ (c .before .before .before .before .before .before .before .before .before .if2 .left) _ (c .before .before .before .before .before .before .before .before .front .ensures) _ _ (c .before .before .before .before .before .before .before .coords-of .ensures) (c .before .before .before .before .before .before .coords-of2 .ensures) _ (c .before .before .before .before .before .allowed-at .ensures) (not-false _ (c .before .before .before .before .if3 .left)) _ _ _ (c .before .before .moved-at .ensures) (c .before .number-at .ensures) (c .drop-all2 .ensures))
 
 pub step-spec : {M : Type 1} → statement M
 step-spec =
@@ -38,9 +53,14 @@ step-spec =
     (tie.spec
     check-requires
     returns
-    of-requires
-    allows-requires
+    drop-all-requires
     returns-2
-    hop-requires
-    packet-requires
-    returns-3)
+    front-requires
+    coords-of-requires
+    coords-of-requires-2
+    allowed-at-requires
+    returns-3
+    moved-at-requires
+    number-at-requires
+    drop-all-requires-2
+    returns-4)

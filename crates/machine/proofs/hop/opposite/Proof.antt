@@ -1,8 +1,8 @@
 use borrow.Author.Tests.{eq-eqb, ne-eqb}
 use Rattle.machine.specs.Hop.{opposite}
 use borrow.Author.Needs.{needs}
-use Rattle.dead.proofs.names.opposite.Statement.{statement}
-use Rattle.dead.proofs.names.opposite.Tie as tie
+use Rattle.machine.proofs.hop.opposite.Statement.{statement}
+use Rattle.machine.proofs.hop.opposite.Tie as tie
 
 add-result : tie.Need-add-result
 add-result c = search needs
