@@ -11,7 +11,11 @@ use Rattle.machine.specs.Hop.{hops, rule}
 use Rattle.machine.specs.Ways.{waysAt, standingAt}
 use Rattle.packet.specs.declared.packet.Packet.{Packet}
 use Rattle.packet.specs.declared.course.Course.{Course}
+use Rattle.packet.specs.declared.course.Start.{Start}
 use Rattle.packet.specs.Steps.{frontOr, Fine}
+
+abbrev pub courseIn : Start → Course
+courseIn r = record { left = r .left; mode = r .mode; hops = r .hops; to = record { x = r .x; y = r .y; z = r .z } }
 
 -- The course of a packet, and the hops left in each direction.
 unfoldable pub courseOf : Shape → Packet → Course

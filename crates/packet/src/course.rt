@@ -16,7 +16,7 @@ ghost use mathlib.Core.Path.{_≡_};
 ghost use Prim.Native.Nat.{_≤_};
 ghost use Rattle.packet.specs.Packet.{mostLegs};
 ghost use Rattle.packet.specs.Steps.{Fine, frontOr, settled};
-ghost use Rattle.packet.specs.Course.{packetOf, endOf, courseOf, waysOf};
+ghost use Rattle.packet.specs.Course.{courseIn, packetOf, endOf, courseOf, waysOf};
 
 pub struct Course {
     pub left: u8,
@@ -25,9 +25,34 @@ pub struct Course {
     pub to: Coords,
 }
 
+// A course and its ways, as they are worked out where a leg begins. Flat, so that a walk reads each field as it was stored: one read of several that were
+// just stored apart waits for them.
 pub struct Start {
-    pub course: Course,
+    pub left: u8,
+    pub mode: Mode,
+    pub hops: u16,
+    pub x: u8,
+    pub y: u8,
+    pub z: u8,
     pub ways: Ways,
+}
+
+impl Start {
+    pub fn course(self) -> Course
+        ensures { λ r. ⌜ r ≡ courseIn self ⌝ }
+    {
+        let mode = self.mode;
+        Course {
+            left: self.left,
+            mode: mode,
+            hops: self.hops,
+            to: Coords {
+                x: self.x,
+                y: self.y,
+                z: self.z,
+            },
+        }
+    }
 }
 
 // The front leg; a leg of zeros where none is left.
@@ -48,22 +73,21 @@ impl Course {
     // The course of a packet with the drops stored.
     pub fn of(packet: Packet, shape: Shape) -> Start
         requires { ⌜ Fine shape packet ⌝ }
-        ensures { λ r. ⌜ (r .course ≡ courseOf shape (settled packet)) × (r .ways ≡ waysOf shape (settled packet)) ⌝ }
+        ensures { λ r. ⌜ (courseIn r ≡ courseOf shape (settled packet)) × (r .ways ≡ waysOf shape (settled packet)) ⌝ }
     {
         let ready = packet.drop_all();
         let front = front_or(ready);
         let mode = front.mode;
         let at = coords_of(shape, ready.node);
         let to = coords_of(shape, front.target);
-        let course = Course {
+        let ways = ways(mode, shape, at, to);
+        Start {
             left: ready.left,
             mode: mode,
             hops: hops_at(shape, at, to),
-            to: to,
-        };
-        let ways = ways(mode, shape, at, to);
-        Start {
-            course: course,
+            x: to.x,
+            y: to.y,
+            z: to.z,
             ways: ways,
         }
     }

@@ -86,7 +86,7 @@ fn walk_on(lent: Packet, shape: Shape, dirs: &[u8]) -> Walked
 {
     let legs = lent.legs;
     let start = Course::of(lent, shape);
-    let mut way = start.course;
+    let mut way = start.course();
     let mut ways = start.ways;
     let mut hops: usize = 0;
     while hops < dirs.len() {
@@ -109,7 +109,7 @@ fn walk_on(lent: Packet, shape: Shape, dirs: &[u8]) -> Walked
         way.hops = way.hops - 1;
         if way.hops == 0 {
             let next = Course::of(way.end(shape, legs), shape);
-            way = next.course;
+            way = next.course();
             ways = next.ways;
         }
     }

@@ -16,8 +16,11 @@ abbrev μ-loop : tie.MeasureT-loop
 of-requires : tie.Need-of-requires Inv-loop μ-loop
 of-requires c κs = c .before .before .pre
 
+course-requires : tie.Need-course-requires Inv-loop μ-loop
+course-requires c κs = tt
+
 loop-holds : tie.Need-loop-holds Inv-loop μ-loop
-loop-holds c = begin _ _ (c .before .before .before .before .before .pre) _ _ (c .before .before .of .ensures) _
+loop-holds c = begin _ _ (c .before .before .before .before .before .pre) _ _ (c .before .course .ensures ∙ c .before .before .of .ensures .0, c .before .before .of .ensures .1) _
 
 kept-requires : tie.Need-kept-requires Inv-loop μ-loop
 kept-requires c κs = tt
@@ -49,11 +52,14 @@ end-requires c κs = tt
 of-requires-2 : tie.Need-of-requires-2 Inv-loop μ-loop
 of-requires-2 c κs = end-fine _ _ _ _ _ _ _ (c .before .before .before .before .before .before .before .before .before .before .before .loop .inv) (c .before .before .before .before .before .before .before .before .before .before .loop-test .taken) (ne-eqb _ _ (c .before .before .before .before .before .before .before .before .if1 .left)) (sym (c .before .before .before .before .before .take .ensures .0) ∙ not-false _ (c .before .before .before .before .if2 .left)) (c .before .if3 .taken) _ (c .end .ensures)
 
+course-requires-2 : tie.Need-course-requires-2 Inv-loop μ-loop
+course-requires-2 c κs = tt
+
 loop-less : tie.Need-loop-less Inv-loop μ-loop
 loop-less c = omega (arith, c .before .before .before .before .before .before .before .before .before .before .before .before .before .loop-test .taken)
 
 loop-again : tie.Need-loop-again Inv-loop μ-loop
-loop-again c = tried-ends _ _ _ _ _ _ _ (c .before .before .before .before .before .before .before .before .before .before .before .before .before .before .loop .inv) (c .before .before .before .before .before .before .before .before .before .before .before .before .before .loop-test .taken) (ne-eqb _ _ (c .before .before .before .before .before .before .before .before .before .before .before .if1 .left)) (sym (c .before .before .before .before .before .before .before .before .take .ensures .0) ∙ not-false _ (c .before .before .before .before .before .before .before .if2 .left)) (c .before .before .before .before .if3 .taken) _ (c .before .before .before .end .ensures) _ _ (c .before .before .of2 .ensures)
+loop-again c = tried-ends _ _ _ _ _ _ _ (c .before .before .before .before .before .before .before .before .before .before .before .before .before .before .loop .inv) (c .before .before .before .before .before .before .before .before .before .before .before .before .before .loop-test .taken) (ne-eqb _ _ (c .before .before .before .before .before .before .before .before .before .before .before .if1 .left)) (sym (c .before .before .before .before .before .before .before .before .take .ensures .0) ∙ not-false _ (c .before .before .before .before .before .before .before .if2 .left)) (c .before .before .before .before .if3 .taken) _ (c .before .before .before .end .ensures) _ _ (c .before .course2 .ensures ∙ c .before .before .of2 .ensures .0, c .before .before .of2 .ensures .1)
 
 loop-less-2 : tie.Need-loop-less-2 Inv-loop μ-loop
 loop-less-2 c = omega (arith, c .before .before .before .before .before .before .before .before .before .loop-test .taken)
@@ -80,6 +86,7 @@ walk-on-spec =
     Inv-loop
     μ-loop
     of-requires
+    course-requires
     loop-holds
     kept-requires
     returns
@@ -91,6 +98,7 @@ walk-on-spec =
     sub-way
     end-requires
     of-requires-2
+    course-requires-2
     loop-less
     loop-again
     loop-less-2

@@ -17,14 +17,14 @@ coords-of-requires c κs = search needs
 coords-of-requires-2 : tie.Need-coords-of-requires-2
 coords-of-requires-2 c κs = search needs
 
-hops-at-requires : tie.Need-hops-at-requires
-hops-at-requires c κs = search needs
-
 ways-requires : tie.Need-ways-requires
 ways-requires c κs = search needs
 
+hops-at-requires : tie.Need-hops-at-requires
+hops-at-requires c κs = search needs
+
 returns : tie.Need-returns
-returns c = let e = c .before .before .before .before .before .drop-all .ensures in rw (← e) (of-course _ (c .before .before .before .before .before .drop-all .result) (rw e (fine-settled _ _ (c .before .before .before .before .before .before .pre))) _ _ _ _ _ _ (c .before .before .before .before .front-or .ensures) refl (c .before .before .before .coords-of .ensures) (c .before .before .coords-of2 .ensures) (c .before .hops-at .ensures) (c .ways .ensures))
+returns c = let e = c .before .before .before .before .before .drop-all .ensures in rw (← e) (of-course _ (c .before .before .before .before .before .drop-all .result) (rw e (fine-settled _ _ (c .before .before .before .before .before .before .pre))) _ _ _ _ _ _ (c .before .before .before .before .front-or .ensures) refl (c .before .before .before .coords-of .ensures) (c .before .before .coords-of2 .ensures) (c .hops-at .ensures) (c .before .ways .ensures))
 
 pub of-spec : {M : Type 1} → statement M
 of-spec =
@@ -34,6 +34,6 @@ of-spec =
     front-or-requires
     coords-of-requires
     coords-of-requires-2
-    hops-at-requires
     ways-requires
+    hops-at-requires
     returns)
