@@ -1,4 +1,5 @@
-//! The stepper in plain Rust, as a programmer would write it for speed: coordinates carried along a walk, useful hops by the way round the ring.
+//! The stepper in plain Rust, as a programmer would write it for speed. Coordinates come by division or by subtraction; a walk carries coordinates, or the hops
+//! left of its leg, as the proved stepper does.
 
 #[derive(Clone, Copy, PartialEq)]
 pub enum Mode {
@@ -33,6 +34,40 @@ pub enum Ending {
     Refused(u8),
 }
 
+/// How a node number is taken apart.
+pub trait Division {
+    fn divide(n: u16, d: u16) -> (u16, u16);
+}
+
+pub struct Divides;
+
+impl Division for Divides {
+    fn divide(n: u16, d: u16) -> (u16, u16) {
+        (n / d, n % d)
+    }
+}
+
+/// Of a quotient below 16.
+pub struct Subtracts;
+
+impl Division for Subtracts {
+    fn divide(n: u16, d: u16) -> (u16, u16) {
+        let (mut times, mut rest) = (0, n);
+        for k in [8, 4, 2, 1] {
+            if k * d <= rest {
+                rest -= k * d;
+                times += k;
+            }
+        }
+        (times, rest)
+    }
+}
+
+/// At half a ring, where both ways are useful, a deterministic leg goes plus from an even coordinate.
+fn goes_plus(p: u8) -> bool {
+    p % 2 == 0
+}
+
 impl Shape {
     fn error(&self) -> u8 {
         if self.extents.iter().any(|&e| !(1..=16).contains(&e)) {
@@ -53,9 +88,11 @@ impl Shape {
         self.extents.iter().map(|&e| e as u16).product()
     }
 
-    fn coords(&self, node: u16) -> [u8; 3] {
+    pub fn coords<D: Division>(&self, node: u16) -> [u8; 3] {
         let [a, b, _] = self.extents.map(|e| e as u16);
-        [(node % a) as u8, (node / a % b) as u8, (node / a / b) as u8]
+        let (z, rest) = D::divide(node, a * b);
+        let (y, x) = D::divide(rest, a);
+        [x as u8, y as u8, z as u8]
     }
 
     fn number(&self, c: [u8; 3]) -> u16 {
@@ -73,7 +110,6 @@ impl Shape {
         (up != 0 && 2 * up <= len, up != 0 && 2 * up >= len)
     }
 
-    /// At half a ring, where both are useful, a deterministic leg goes plus from an even coordinate.
     pub fn allows(&self, mode: Mode, at: [u8; 3], to: [u8; 3], dir: u8) -> bool {
         if dir > 5 {
             return false;
@@ -83,7 +119,7 @@ impl Shape {
         match mode {
             Mode::Adaptive => if plus { up } else { down },
             Mode::Deterministic => match (0..3).find(|&i| at[i] != to[i]) {
-                Some(first) => first == d && plus == if up && down { at[d] % 2 == 0 } else { up },
+                Some(first) => first == d && plus == if up && down { goes_plus(at[d]) } else { up },
                 None => false,
             },
         }
@@ -99,6 +135,63 @@ impl Shape {
             (false, p) => p - 1,
         };
         at
+    }
+
+    /// The hops left from p to q in dimension d going plus, and going minus, 0 where the leg may not: an open dimension is like a ring of twice its extent.
+    fn hops_left(&self, mode: Mode, d: usize, p: u8, q: u8) -> [u8; 2] {
+        let ring = if self.wrapped(d) { self.extents[d] } else { 2 * self.extents[d] };
+        let up = if p <= q { q - p } else { ring - (p - q) };
+        let half = mode == Mode::Deterministic && 2 * up == ring;
+        let plus = 2 * up <= ring && !(half && !goes_plus(p));
+        let minus = ring <= 2 * up && !(half && goes_plus(p));
+        [if plus { up } else { 0 }, if minus { ring - up } else { 0 }]
+    }
+
+    /// The place from which these hops lead to q in dimension d.
+    fn before(&self, d: usize, q: u8, [plus, minus]: [u8; 2]) -> u8 {
+        let len = self.extents[d];
+        let place = q + if plus == 0 { minus } else { len - plus };
+        if len <= place { place - len } else { place }
+    }
+}
+
+/// A packet on a leg: the hops left to its target, and in each direction.
+#[derive(Clone, Copy)]
+struct Course {
+    left: u8,
+    mode: Mode,
+    hops: u8,
+    to: [u8; 3],
+    ways: [u8; 6],
+}
+
+impl Course {
+    fn of<D: Division>(packet: Packet, shape: &Shape) -> Course {
+        let packet = packet.drops();
+        let front = if packet.left == 0 { Leg { target: 0, mode: Mode::Adaptive } } else { packet.front() };
+        let (at, to) = (shape.coords::<D>(packet.node), shape.coords::<D>(front.target));
+        let [x, y, z] = [0, 1, 2].map(|d| shape.hops_left(front.mode, d, at[d], to[d]));
+        let hops = [x, y, z].map(|[plus, minus]| plus.max(minus)).iter().sum();
+        Course { left: packet.left, mode: front.mode, hops, to, ways: [x[0], x[1], y[0], y[1], z[0], z[1]] }
+    }
+
+    fn take(&mut self, dir: u8) -> bool {
+        let (d, w) = (dir as usize, &mut self.ways);
+        if dir > 5 || w[d] == 0 {
+            return false;
+        }
+        if self.mode == Mode::Deterministic && (dir > 1 && (w[0] | w[1]) != 0 || dir > 3 && (w[2] | w[3]) != 0) {
+            return false;
+        }
+        w[d] -= 1;
+        w[d ^ 1] = 0;
+        self.hops -= 1;
+        true
+    }
+
+    fn packet(&self, shape: &Shape, legs: [Leg; 2]) -> Packet {
+        let at = [0, 1, 2].map(|d| shape.before(d, self.to[d], [self.ways[2 * d], self.ways[2 * d + 1]]));
+        Packet { node: shape.number(at), legs, left: self.left }
     }
 }
 
@@ -130,15 +223,33 @@ impl Packet {
         0
     }
 
-    pub fn walk(self, shape: &Shape, dirs: &[u8]) -> (Packet, usize, Ending) {
+    pub fn step<D: Division>(self, shape: &Shape, dir: u8) -> (Packet, u8) {
+        let error = self.error(shape);
+        if error != 0 {
+            return (self, error);
+        }
+        let packet = self.drops();
+        if packet.left == 0 {
+            return (self, 15);
+        }
+        let (at, to) = (shape.coords::<D>(packet.node), shape.coords::<D>(packet.front().target));
+        if !shape.allows(packet.front().mode, at, to, dir) {
+            return (self, 15);
+        }
+        let node = shape.number(shape.moved(at, dir));
+        (Packet { node, ..packet }.drops(), 0)
+    }
+
+    /// A walk that carries coordinates.
+    pub fn walk<D: Division>(self, shape: &Shape, dirs: &[u8]) -> (Packet, usize, Ending) {
         let error = self.error(shape);
         if error != 0 {
             return (self, 0, Ending::Refused(error));
         }
         let mut packet = self.drops();
         let kept = |hops, packet| if hops == 0 { self } else { packet };
-        let mut at = shape.coords(self.node);
-        let mut to = if packet.left == 0 { at } else { shape.coords(packet.front().target) };
+        let mut at = shape.coords::<D>(self.node);
+        let mut to = if packet.left == 0 { at } else { shape.coords::<D>(packet.front().target) };
         for (hops, &dir) in dirs.iter().enumerate() {
             if packet.left == 0 {
                 return (kept(hops, packet), hops, Ending::Arrived);
@@ -151,10 +262,33 @@ impl Packet {
             let before = packet.left;
             packet = packet.drops();
             if packet.left != before && packet.left > 0 {
-                to = shape.coords(packet.front().target);
+                to = shape.coords::<D>(packet.front().target);
             }
         }
         let ending = if packet.left == 0 { Ending::Arrived } else { Ending::UsedUp };
         (kept(dirs.len(), packet), dirs.len(), ending)
+    }
+
+    /// A walk that carries the hops left of its leg.
+    pub fn walk_by_hops_left<D: Division>(self, shape: &Shape, dirs: &[u8]) -> (Packet, usize, Ending) {
+        let error = self.error(shape);
+        if error != 0 {
+            return (self, 0, Ending::Refused(error));
+        }
+        let mut way = Course::of::<D>(self, shape);
+        let kept = |hops, way: Course| if hops == 0 { self } else { way.packet(shape, self.legs) };
+        for (hops, &dir) in dirs.iter().enumerate() {
+            if way.left == 0 {
+                return (kept(hops, way), hops, Ending::Arrived);
+            }
+            if !way.take(dir) {
+                return (kept(hops, way), hops, Ending::NotAllowed);
+            }
+            if way.hops == 0 {
+                way = Course::of::<D>(Packet { node: shape.number(way.to), legs: self.legs, left: way.left }, shape);
+            }
+        }
+        let ending = if way.left == 0 { Ending::Arrived } else { Ending::UsedUp };
+        (kept(dirs.len(), way), dirs.len(), ending)
     }
 }

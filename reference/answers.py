@@ -11,7 +11,7 @@
 import reference as ref
 import vectors
 
-STAGE = ref.E3                 # the last change request that has landed
+STAGE = ref.E4                 # the last change request that has landed
 SHEET_BYTES = 20482            # the largest route sheet
 
 

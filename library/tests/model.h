@@ -1,4 +1,4 @@
-/* What document 01 with E1, E2 and E3 says, told plainly and from the bytes alone: the tests hold the library to it. Slow, and meant to be read. */
+/* What document 01 with E1 to E4 says, told plainly and from the bytes alone: the tests hold the library to it. Slow, and meant to be read. */
 #ifndef MODEL_H
 #define MODEL_H
 

@@ -12,7 +12,8 @@ fn mode_of(mode: u8) -> Mode {
     }
 }
 
-// The hops that the walk of a packet with two legs takes; mode 0 is adaptive, any other deterministic.
+// The hops that the walk of a packet with two legs takes, and 65,536 for each unit of the number of the node that it ends at. Mode 0 is adaptive, any other
+// deterministic. Fewer than 65,536 directions are told apart.
 #[no_mangle]
 pub extern "C" fn nafthurm_walk(
     x: u8,
@@ -25,12 +26,13 @@ pub extern "C" fn nafthurm_walk(
     first: u8,
     second: u8,
     dirs: &[u8],
-) -> usize {
+) -> u64 {
     let shape = Shape { x, y, z, wrap };
     let route = Route::Via(via, mode_of(first), mode_of(second));
     let packet = Packet::new(node, target, route);
     let walked = packet.walk(shape, dirs);
-    walked.hops
+    let ended = walked.packet;
+    (ended.node as u64) * 65536 + ((walked.hops % 65536) as u64)
 }
 
 // The node after a step of such a packet, and 65,536 for each unit of the refusal's number.

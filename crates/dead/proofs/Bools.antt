@@ -32,9 +32,3 @@ right-true a b e = rw e (or-on a)
 
 pub both-true : (a b : Bool) → a ≡ true → b ≡ true → (a && b) ≡ true
 both-true a b e f = rw (e, f)
-
--- Two tests that say the same.
-pub same-test : (a b : Bool) → (a ≡ true → b ≡ true) → (b ≡ true → a ≡ true) → a ≡ b
-same-test true b f g = sym (f refl)
-same-test false true f g = g refl
-same-test false false f g = refl

@@ -6,7 +6,7 @@ use mathlib.Core.Logic.{_⊎_, inl, inr, ⊎-elim}
 use mathlib.Core.Bool.{Bool, true, false, _&&_, _||_, false≢true}
 use lib.Dec.{eqb, leb, lit≤}
 use borrow.Author.Tests.{eq-eqb, eqb-true, leb-true, le-ltb}
-use Rattle.theory.proofs.Bools.{and-true}
+use Rattle.theory.proofs.Bools.{and-true, same-test}
 use Rattle.theory.proofs.Cases.{by-order}
 use Rattle.shape.specs.declared.shape.Shape.{Shape}
 use Rattle.shape.specs.declared.shape.Dim.{Dim}
@@ -20,7 +20,7 @@ use Rattle.plan.specs.declared.layout.Fault.{Fault}
 use Rattle.plan.specs.Kinds.{linkKind, nodeKind, kindDim, kindDir}
 use Rattle.plan.specs.Checks.{faultExists}
 use Rattle.dead.specs.Dead.{namesNode, namesLink, names}
-use Rattle.dead.proofs.Bools.{or-off, either-of, left-true, right-true, both-true, same-test}
+use Rattle.dead.proofs.Bools.{or-off, either-of, left-true, right-true, both-true}
 
 -- ---- directions
 pub opposite-low : (d : ℕ) → d ≤ 5 → opposite d ≤ 5

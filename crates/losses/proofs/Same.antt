@@ -4,8 +4,7 @@ use mathlib.Core.Path.{_≡_, sym, ap, _∙_}
 use mathlib.Core.Bool.{true}
 use lib.Dec.{eqb}
 use borrow.Author.Tests.{eqb-true, eq-eqb}
-use Rattle.theory.proofs.Bools.{and-true}
-use Rattle.theory.proofs.Clear.{same-test}
+use Rattle.theory.proofs.Bools.{and-true, same-test}
 use Rattle.shape.specs.declared.shape.Shape.{Shape}
 use Rattle.shape.specs.declared.shape.Coords.{Coords}
 use Rattle.shape.specs.Shape.{shapeError}

@@ -6,7 +6,7 @@ use mathlib.Core.Path.{_≡_, refl, sym, ap, _∙_}
 use mathlib.Core.Logic.{_⊎_, ⊎-elim}
 use mathlib.Core.Bool.{Bool, true, false, _||_, true≢false, false≢true}
 use Rattle.theory.proofs.Cases.{by-le}
-use Rattle.theory.proofs.Clear.{same-test}
+use Rattle.theory.proofs.Bools.{same-test}
 use Rattle.sheet.specs.Bytes.{listFrom}
 use Rattle.plan.specs.declared.layout.Fault.{Fault}
 use Rattle.dead.specs.Dead.{some}

@@ -1,6 +1,6 @@
 -- The hops left of a leg, direction by direction: which hops they allow, how a hop changes them, and where the packet stands.
 use Prim.Native.Nat.{ℕ, _+_, _-_, _≤_, _<_}
-use mathlib.Core.Bool.{Bool, true, false, cond, not, _&&_, _||_, false≢true, true≢false}
+use mathlib.Core.Bool.{Bool, true, false, cond, not, _&&_, true≢false}
 use mathlib.Core.List.{List}
 use mathlib.Core.Logic.{_⊎_, inl, inr, ⊎-elim}
 use mathlib.Core.Path.{_≡_, refl, sym, ap, _∙_}
@@ -9,8 +9,7 @@ use native.Mathlib.Omega.{arith}
 use lib.ListN.{getD, set}
 use lib.Dec.{leb, eqb}
 use borrow.Author.Tests.{eqb-true, eqb-false, eq-eqb, ne-eqb, le-leb, lt-leb, leb-true, not-true}
-use Rattle.theory.proofs.Bools.{and-true}
-use Rattle.theory.proofs.Clear.{same-test}
+use Rattle.theory.proofs.Bools.{and-true, same-test}
 use Rattle.theory.proofs.Cases.{test, by-le}
 use Rattle.shape.specs.declared.shape.Shape.{Shape}
 use Rattle.shape.specs.declared.shape.Coords.{Coords}
@@ -18,19 +17,19 @@ use Rattle.shape.specs.declared.shape.Dim.{Dim}
 use Rattle.shape.specs.declared.shape.Dim.the-variants.{X, Y, Z}
 use Rattle.machine.specs.declared.leg.Mode.{Mode}
 use Rattle.machine.specs.declared.leg.Mode.the-variants.{Adaptive, Deterministic}
-use Rattle.shape.specs.Shape.{shapeError, extentOf, wrappedIn, coordOf, put}
+use Rattle.shape.specs.Shape.{shapeError, extentOf, wrappedIn, coordOf}
 use Rattle.shape.specs.Axis.{axisHops, axisUseful, place}
 use Rattle.shape.specs.Steps.{goes}
 use Rattle.shape.proofs.Shapes.{sound}
 use Rattle.shape.proofs.AxisLaws.{axis-below, axis-zero, axis-self, axis-some, place-below, useful-less, plus-leads, minus-leads}
 use Rattle.shape.proofs.Runs.{goes-useful, back-useless, kept}
 use Rattle.machine.specs.Number.{Inside}
-use Rattle.machine.specs.Hop.{dirDim, dirPlus, dirOf, opposite}
+use Rattle.machine.specs.Hop.{dirOf, opposite}
 use Rattle.machine.specs.ByCoords.{goesAlong, movedAlong, movedAt, usefulAt, allowedAt}
 use Rattle.machine.specs.Ways.{opens, wayOf, wayAlong, waysAt, onceRound, placeBefore, standingAt, noneBefore, inTurn, allowedIn, hopTaken, taken}
 use Rattle.machine.proofs.Directions.{Direction, direction, by-direction, opposite-is}
 use Rattle.machine.proofs.ByCoords.{inside-at}
-use Rattle.machine.proofs.OneDirection.{FirstDim, dim-x, dim-y, dim-z, Leads, allowed-leads, leads-along, leads-allowed}
+use Rattle.machine.proofs.OneDirection.{FirstDim, dim-x, dim-y, dim-z, allowed-leads, leads-along, leads-allowed}
 
 -- ---- as the code judges a direction
 module _ (m : Mode) (ws : List ℕ) (dir : ℕ) where

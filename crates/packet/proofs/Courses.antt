@@ -7,7 +7,6 @@ use mathlib.Core.List.{List}
 use lib.Dec.{eqb}
 use borrow.Author.Tests.{eq-eqb, ne-eqb, eqb-false}
 use Rattle.theory.specs.Machine.{allows}
-use Rattle.theory.proofs.Cases.{by-le}
 use Rattle.shape.specs.declared.shape.Shape.{Shape}
 use Rattle.shape.specs.declared.shape.Coords.{Coords}
 use Rattle.shape.specs.Shape.{shapeError}
@@ -15,10 +14,10 @@ use Rattle.machine.specs.declared.leg.Leg.{Leg}
 use Rattle.machine.specs.declared.leg.Mode.{Mode}
 use Rattle.machine.specs.Number.{nodeCount, coordsOf, numberOf, Inside}
 use Rattle.machine.specs.Division.{coordsBy}
-use Rattle.machine.specs.Hop.{hops, neighbour, useful, rule}
+use Rattle.machine.specs.Hop.{hops, neighbour, rule}
 use Rattle.machine.specs.Torus.{allowedBy, torus}
 use Rattle.machine.specs.ByCoords.{hopsAt, movedAt, allowedAt}
-use Rattle.machine.specs.Ways.{waysAt, standingAt, allowedIn, taken}
+use Rattle.machine.specs.Ways.{waysAt, allowedIn, taken}
 use Rattle.machine.proofs.Numbers.{coords-by, number-coords, number-fits, inside}
 use Rattle.machine.proofs.ByCoords.{hops-at, neighbour-coords, neighbour-number, neighbour-below, allowed-at}
 use Rattle.machine.proofs.Laws.{useful-lowers, hops-self, hops-zero}
@@ -29,7 +28,7 @@ use Rattle.packet.specs.declared.course.Course.{Course}
 use Rattle.packet.specs.Packet.{noLeg, legsLeft}
 use Rattle.packet.specs.Steps.{frontOf, frontOr, settled, moved, Fine}
 use Rattle.packet.specs.Course.{packetOf, endOf, courseOf, waysOf, On}
-use Rattle.packet.proofs.Drops.{settled-same, fine-moved, fine-front, allows-front, allows-none}
+use Rattle.packet.proofs.Drops.{settled-same, fine-moved, fine-front, allows-front}
 
 -- ---- the front leg
 pub front-none : (q : Packet) → q .left ≡ 0 → noLeg ≡ frontOr q

@@ -7,7 +7,7 @@ use mathlib.Core.Bool.{Bool, true, false, cond, _||_, false≢true}
 use mathlib.Core.List.{List, _∷_}
 use lib.ListN.{length, getD}
 use lib.Dec.{leb, eqb}
-use borrow.Author.Tests.{eq-eqb, ne-eqb, eqb-false, lt-ltb, le-ltb}
+use borrow.Author.Tests.{ne-eqb, eqb-false, lt-ltb, le-ltb}
 use Rattle.numbers.specs.Numbers.{wrongPacket}
 use Rattle.theory.specs.Machine.{Inside, dropped, allows}
 use Rattle.theory.proofs.Cases.{by-le}

@@ -11,7 +11,7 @@ use Rattle.theory.specs.Plan.{New}
 use Rattle.theory.specs.Alike.{allowing, SameWalks, SameLegs, SameAnswer, SameAnswers, RunsAlike}
 use Rattle.theory.proofs.Cases.{test}
 use Rattle.theory.proofs.Drops.{dropped-keeps}
-use Rattle.theory.proofs.Clear.{same-test}
+use Rattle.theory.proofs.Bools.{same-test}
 
 module _ {Leg : Type 0} (M : Machine Leg) (other : Leg → ℕ → ℕ → Bool) where
   abbrev N : Machine Leg

@@ -14,6 +14,11 @@ or-false true b e = absurd (true≢false e)
 or-false false b e = (refl, e)
 
 -- Two tests that say the same.
+pub same-test : (a b : Bool) → (a ≡ true → b ≡ true) → (b ≡ true → a ≡ true) → a ≡ b
+same-test true b f g = sym (f refl)
+same-test false true f g = g refl
+same-test false false f g = refl
+
 pub eqb-same : (m n k l : ℕ) → (m ≡ n → k ≡ l) → (k ≡ l → m ≡ n) → eqb m n ≡ eqb k l
 eqb-same m n k l f g = go (eqb m n) refl
   where

@@ -3,12 +3,13 @@ use Prim.Native.Nat.{ℕ, zero, suc, _<_}
 use native.Mathlib.Omega.{arith}
 use mathlib.Core.Path.{_≡_, refl, sym, _∙_}
 use mathlib.Core.Logic.{_↔_}
-use mathlib.Core.Bool.{Bool, true, false, and-eq-true-iff}
+use mathlib.Core.Bool.{Bool, true, and-eq-true-iff}
 use mathlib.Core.List.{List, [], _∷_}
 use lib.Dec.{eqb}
 use borrow.Author.Tests.{eqb-true, eqb-false}
 use Rattle.theory.specs.Machine.{Machine, Laws, Inside}
 use Rattle.theory.specs.Clear.{Allows, Sound, Clear, ClearLegs, every, clearBy, clearIn, clear, clearLegs}
+use Rattle.theory.proofs.Bools.{same-test}
 use Rattle.theory.proofs.Cases.{test}
 
 pub every-true : (n : ℕ) (f : ℕ → Bool) → every n f ≡ true → (d : ℕ) → d < n → f d ≡ true
@@ -24,11 +25,6 @@ pub true-every : (n : ℕ) (f : ℕ → Bool) → ((d : ℕ) → d < n → f d �
 unfolding every
 true-every zero f h = refl
 true-every (suc n) f h = and-eq-true-iff (f n) (every n f) .1 (h n (omega arith), true-every n f (λ d lt. h d (omega arith)))
-
-pub same-test : (a b : Bool) → (a ≡ true → b ≡ true) → (b ≡ true → a ≡ true) → a ≡ b
-same-test true b f g = sym (f refl)
-same-test false true f g = g refl
-same-test false false f g = refl
 
 module _ {Leg : Type 0} (M : Machine Leg) (L : Laws M) (sound : ℕ → ℕ → Bool) where
   -- A clear leg one hop on.

@@ -1,6 +1,5 @@
 use Rattle.machine.proofs.Division.{part-most}
 use native.Mathlib.Omega.{arith}
-use native.Mathlib.Nat.{mul-le-mul}
 use borrow.Author.Tests.{le-leb, lt-leb}
 use borrow.Author.Needs.{needs}
 use Rattle.machine.proofs.number.less_by.Statement.{statement}
