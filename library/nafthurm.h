@@ -229,7 +229,10 @@ nafthurm_route nafthurm_lookup_route(const uint8_t *plan, size_t plan_size, cons
  */
 nafthurm_converted nafthurm_convert(const uint8_t *plan, size_t plan_size, const uint8_t *sheet, size_t sheet_size, uint8_t *out, size_t out_size);
 
-/* ---- Packets ---- */
+/* ---- Packets ----
+ * A step and a walk divide by nothing but powers of two: there is no divide instruction in either. A walk has a start of its own for each leg: for one hop or
+ * two the step is the quicker, from three hops on the walk.
+ */
 
 /*
  * The new packet of a route that nafthurm_pair or nafthurm_lookup_route gave: at the source with all the route's legs left. Of a refused route, or a kind above
