@@ -6,7 +6,7 @@ use mathlib.Core.Logic.{_⊎_, inl, inr, ⊎-elim}
 use mathlib.Core.Path.{_≡_, refl, sym, ap, _∙_}
 use native.Mathlib.Nat.{mod-eq-of-lt}
 use native.Mathlib.Omega.{arith}
-use lib.ListN.{getD, set}
+use lib.ListN.{getD}
 use lib.Dec.{leb, eqb}
 use borrow.Author.Tests.{eqb-true, eqb-false, eq-eqb, ne-eqb, le-leb, lt-leb, leb-true, not-true}
 use Rattle.theory.proofs.Bools.{and-true, same-test}
@@ -53,9 +53,8 @@ module _ (m : Mode) (ws : List ℕ) (dir : ℕ) where
       pub out-of-turn : inTurn m ws dir ≡ false → allowedIn m ws dir ≡ false
       out-of-turn e = in-turn-is ∙ e
 
-      pub takes : (o : ℕ) → inTurn m ws dir ≡ true → o ≡ opposite dir → (true ≡ allowedIn m ws dir) × (set (set ws o 0) dir (getD ws dir 0 - 1) ≡ taken m ws dir)
-      unfolding hopTaken
-      takes o e eo = let a = in-turn-is ∙ e in (sym a, rw (a, eo))
+      pub takes : inTurn m ws dir ≡ true → (true ≡ allowedIn m ws dir) × (hopTaken ws dir ≡ taken m ws dir)
+      takes e = let a = in-turn-is ∙ e in (sym a, rw a)
 
 pub back-below : (dir o : ℕ) → dir ≤ 5 → o ≡ opposite dir → o < 6
 back-below dir o low e = omega (arith, opposite-is dir low .low)

@@ -1,3 +1,4 @@
+use Rattle.machine.specs.Ways.{hopTaken}
 use native.Mathlib.Omega.{arith}
 use mathlib.Core.Path.{sym, _∙_}
 use borrow.Author.Tests.{not-true, not-false}
@@ -37,7 +38,8 @@ element-write-ways-2 : tie.Need-element-write-ways-2
 element-write-ways-2 c = search needs
 
 returns-4 : tie.Need-returns-4
-returns-4 c = takes _ _ _ (omega (arith, c .before .before .before .before .before .before .if1 .left)) (c .before .before .before .before .if2 .left) _ (sym (c .before .before .in-turn .ensures) ∙ not-false _ (c .before .if3 .left)) (c .opposite .ensures)
+unfolding hopTaken
+returns-4 c = let t = takes _ _ _ (omega (arith, c .before .before .before .before .before .before .if1 .left)) (c .before .before .before .before .if2 .left) (sym (c .before .before .in-turn .ensures) ∙ not-false _ (c .before .if3 .left)) in (t .0, rw (c .opposite .ensures) (t .1))
 
 pub take-spec : {M : Type 1} → statement M
 take-spec =
