@@ -59,14 +59,14 @@ pub fn ways(mode: Mode, shape: Shape, at: Coords, to: Coords) -> Ways
     [x.plus, x.minus, y.plus, y.minus, z.plus, z.minus]
 }
 
-// The hops of a ring that are left beside those.
-fn others(len: u8, hops: u8) -> u8
+// The hops the other way round a ring.
+fn hops_round(len: u8, hops: u8) -> u8
     ensures { λ r. ⌜ r ≡ len - hops ⌝ }
 {
     if hops < len { len - hops } else { 0 }
 }
 
-// A place counted past the end of a ring.
+// The place that was counted on past the end of a ring.
 fn once_round(len: u16, place: u16) -> u16
     ensures { λ r. ⌜ r ≡ onceRound len place ⌝ }
 {
@@ -77,7 +77,7 @@ fn once_round(len: u16, place: u16) -> u16
 fn place_before(len: u8, q: u8, plus: u8, minus: u8) -> u8
     ensures { λ r. ⌜ r ≡ placeBefore len q plus minus ⌝ }
 {
-    let back = pick(plus == 0, minus, others(len, plus)) as u16;
+    let back = pick(plus == 0, minus, hops_round(len, plus)) as u16;
     let place = once_round(len as u16, (q as u16) + back);
     (place % 256) as u8
 }

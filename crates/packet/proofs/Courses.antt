@@ -75,9 +75,6 @@ module _ (s : Shape) (q : Packet) (f : Fine s q) where
   packet-course legs e =
       rw (e, standing-is rule (frontOr q .mode) s (coordsOf s (q .node)) (coordsOf s (frontOr q .target)) (inside s (f .sound) (q .node) (f .node)) (inside s (f .sound) (frontOr q .target) (front-node s q f)) (f .sound), node-number s (q .node) (f .sound) (f .node))
 
-  pub on-course : On s q (courseOf s q) (waysOf s q)
-  on-course = record { fine = f; course = refl; ways = refl }
-
   -- As the code makes it.
   pub of-course :
       (front : Leg) (mode : Mode) (at to : Coords) (n : ℕ) (ws : List ℕ) →

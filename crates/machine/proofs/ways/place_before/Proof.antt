@@ -3,8 +3,8 @@ use borrow.Author.Needs.{needs}
 use Rattle.machine.proofs.ways.place_before.Statement.{statement}
 use Rattle.machine.proofs.ways.place_before.Tie as tie
 
-others-requires : tie.Need-others-requires
-others-requires c κs = search needs
+hops-round-requires : tie.Need-hops-round-requires
+hops-round-requires c κs = search needs
 
 pick-requires : tie.Need-pick-requires
 pick-requires c κs = search needs
@@ -23,13 +23,13 @@ cast-result c = search needs
 
 returns : tie.Need-returns
 unfolding placeBefore
-returns c = rw (c .once-round .ensures, c .before .pick .ensures, c .before .before .others .ensures)
+returns c = rw (c .once-round .ensures, c .before .pick .ensures, c .before .before .hops-round .ensures)
 
 pub place-before-spec : {M : Type 1} → statement M
 place-before-spec =
     tie.close
     (tie.spec
-    others-requires
+    hops-round-requires
     pick-requires
     cast-back
     add-once-round
