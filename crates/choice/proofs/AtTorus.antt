@@ -19,7 +19,7 @@ use Rattle.weights.proofs.Laws.{distance-self, distance-most, distance-triangle
 use Rattle.plan.specs.Layout.{shapeOf, weightsOf}
 use Rattle.plan.specs.Checks.{Limits, torusPlans, planError}
 use Rattle.plan.proofs.Plans.{accepted}
-use Rattle.choice.specs.Choice.{Choice, mostVias, targetsOf, Below, AdmitsIn, before}
+use Rattle.choice.specs.Choice.{Choice, mostVias, targetsOf, detsOf, lengthFrom, Below, AdmitsIn, before}
 use Rattle.choice.specs.Further.{firstBy, better, directly, furthered}
 use Rattle.choice.specs.Search.{Lengths}
 use Rattle.choice.specs.Pair.{farIn, routeBy}
@@ -65,10 +65,11 @@ module _ (far : ℕ → ℕ → ℕ) (s : Shape) (F : Lengths s far) (h : shapeE
   unfolding routeBy planned firstBy
   direct-first c = Shortest.direct-first far (nodeCount s) (F .still) (F .triangle) (clear (torus s) sound) mostVias S D hS hD c
 
-  -- The route: the first of the better direct leg and, over all nodes w, of the better leg to w with the better leg from w to D behind it.
-  pub route-first : routeBy far s sound S D ≡ best (before far S) (λ _. true) (furthered far (clear (torus s) sound) 0 (nodeCount s) S D)
+  -- Two legs are enough where the first choice with at most one via is as short as can be and adaptive throughout.
+  pub two-enough :
+      (c : Choice) → firstBy far (clear (torus s) sound) 1 (nodeCount s) S D ≡ some c → lengthFrom far S c ≡ far S D → detsOf c ≡ 0 → routeBy far s sound S D ≡ some c
   unfolding routeBy planned firstBy
-  route-first = further-first 0
+  two-enough c = Shortest.enough far (nodeCount s) (F .still) (F .triangle) (clear (torus s) sound) 1 S D hS hD c
 
   pub no-via-first : (t : ℕ) → firstBy far (clear (torus s) sound) 0 (nodeCount s) S t ≡ directly (better (clear (torus s) sound) S t)
   no-via-first t = Further.no-via-first far (clear (torus s) sound) (nodeCount s) S (F .still S) (empty-adaptive s h sound S hS) t

@@ -58,7 +58,7 @@ chosen-read a (some c) e = record {
   some = λ k g. ap some (given-inj c k (sym e ∙ g));
 }
 
--- An admitted choice has one leg to D, or two legs of which the second is to D.
+-- An admitted choice has one leg, two or three, of which the last is to D.
 module _ (w : Weights) (s : Shape) (S D : ℕ) (a : Answer) where
   -- With weights of 1 a length is the hops.
   length-hops : w ≡ ones → (p : ℕ) (c : Choice) → lengthFrom (distance w s) p c ≡ hopsOf (torus s) p c
@@ -75,7 +75,10 @@ module _ (w : Weights) (s : Shape) (S D : ℕ) (a : Answer) where
   admits-tells (l ∷ m ∷ []) h e =
       let last : leg D (m .mode) ≡ m = leg-inj D (m .target) (m .mode) (m .mode) (sym (h .ends)) refl in
       record { route = Route.Via (l .target) (l .mode) (m .mode); legs = ap (λ x. l ∷ x ∷ []) last; told = rw e; hops = λ o. length-hops o S _ }
-  admits-tells (l ∷ m ∷ n ∷ ls) h e = let few = h .few in absurd (omega arith)
+  admits-tells (l ∷ m ∷ n ∷ []) h e =
+      let last : leg D (n .mode) ≡ n = leg-inj D (n .target) (n .mode) (n .mode) (sym (h .ends)) refl in
+      record { route = Route.Vias (l .target) (m .target) (l .mode) (m .mode) (n .mode); legs = ap (λ x. l ∷ m ∷ x ∷ []) last; told = rw e; hops = λ o. length-hops o S _ }
+  admits-tells (l ∷ m ∷ n ∷ o ∷ ls) h e = let few = h .few in absurd (omega arith)
 
 pub admits-few : (s : Shape) (S D : ℕ) (c : Choice) → AdmitsIn s S D c → length c ≤ suc mostVias
 admits-few s S D [] h = omega arith

@@ -1,5 +1,5 @@
 -- The search's steps at the machine of document 01. A direct adaptive leg that is clear is the route (`direct-first` of AtTorus); else the lowest via
--- between the ends with both legs clear and adaptive; else a direct deterministic leg that is clear.
+-- between the ends with both legs clear and adaptive; else the lowest two such vias; else a direct deterministic leg that is clear.
 use Prim.Native.Nat.{ℕ, _+_, _<_}
 use native.Mathlib.Omega.{arith}
 use mathlib.Core.Path.{_≡_, sym, _∙_}
@@ -55,14 +55,30 @@ module _ (far : ℕ → ℕ → ℕ) (s : Shape) (F : Lengths s far) (h : shapeE
       Zero.via-first far (nodeCount s) (F .still) (F .triangle) (clear (torus s) sound) mostVias S D hS hD (blocked-apart blocked) blocked (omega arith) v hv one two between lowest
 
   -- There is no such node.
-  pub deterministic-first :
-      clear (torus s) sound (leg D Adaptive) S ≡ false → clear (torus s) sound (leg D Deterministic) S ≡ true →
-      ((v : ℕ) → v < nodeCount s → clear (torus s) sound (leg v Adaptive) S ≡ true → clear (torus s) sound (leg D Adaptive) v ≡ true → far S v + far v D ≡ far S D → ⊥) →
-      routeBy far s sound S D ≡ some (leg D Deterministic ∷ [])
-  unfolding routeBy planned firstBy
-  deterministic-first blocked one no-via =
-      Shortest.deterministic-first far (nodeCount s) (F .still) (F .triangle) (clear (torus s) sound) mostVias S D hS hD (blocked-apart blocked) one
-      (Zero.none-by-one far (nodeCount s) (F .still) (F .triangle) (clear (torus s) sound) mostVias S D hS hD (blocked-apart blocked) blocked no-via (omega arith))
+  module _
+      (blocked : clear (torus s) sound (leg D Adaptive) S ≡ false)
+      (no-via : (v : ℕ) → v < nodeCount s → clear (torus s) sound (leg v Adaptive) S ≡ true → clear (torus s) sound (leg D Adaptive) v ≡ true → far S v + far v D ≡ far S D → ⊥) where
+    -- v lies between S and D, w between v and D, all three legs are clear and adaptive, and this holds of no lower first via, nor of v with a lower second one.
+    pub two-vias-first :
+        (v w : ℕ) → v < nodeCount s → w < nodeCount s →
+        clear (torus s) sound (leg v Adaptive) S ≡ true → clear (torus s) sound (leg w Adaptive) v ≡ true → clear (torus s) sound (leg D Adaptive) w ≡ true →
+        far S v + far v D ≡ far S D → far v w + far w D ≡ far v D →
+        ((u x : ℕ) → u < v → clear (torus s) sound (leg u Adaptive) S ≡ true → clear (torus s) sound (leg x Adaptive) u ≡ true → clear (torus s) sound (leg D Adaptive) x ≡ true → x < nodeCount s → far S u + far u D ≡ far S D → far u x + far x D ≡ far u D → ⊥) →
+        ((x : ℕ) → x < w → clear (torus s) sound (leg x Adaptive) v ≡ true → clear (torus s) sound (leg D Adaptive) x ≡ true → far v x + far x D ≡ far v D → ⊥) →
+        routeBy far s sound S D ≡ some (leg v Adaptive ∷ leg w Adaptive ∷ leg D Adaptive ∷ [])
+    unfolding routeBy planned firstBy
+    two-vias-first v w hv hw one two three between further lowest second =
+        Zero.two-vias-first far (nodeCount s) (F .still) (F .triangle) (clear (torus s) sound) mostVias S D hS hD (blocked-apart blocked) blocked no-via (omega arith) v w hv hw one two three between further lowest second
+
+    -- There are no such two nodes.
+    pub deterministic-first :
+        ((u x : ℕ) → u < nodeCount s → x < nodeCount s → clear (torus s) sound (leg u Adaptive) S ≡ true → clear (torus s) sound (leg x Adaptive) u ≡ true → clear (torus s) sound (leg D Adaptive) x ≡ true → far S u + far u D ≡ far S D → far u x + far x D ≡ far u D → ⊥) →
+        clear (torus s) sound (leg D Deterministic) S ≡ true →
+        routeBy far s sound S D ≡ some (leg D Deterministic ∷ [])
+    unfolding routeBy planned firstBy
+    deterministic-first no-two one =
+        Shortest.deterministic-first far (nodeCount s) (F .still) (F .triangle) (clear (torus s) sound) mostVias S D hS hD (blocked-apart blocked) one
+        (Zero.none-by-two far (nodeCount s) (F .still) (F .triangle) (clear (torus s) sound) mostVias S D hS hD (blocked-apart blocked) blocked no-via no-two (omega arith))
 
   -- Each leg of the route is adaptive wherever that is clear.
   pub modes-forced : (c : Choice) → routeBy far s sound S D ≡ some c → Forced (clear (torus s) sound) S c

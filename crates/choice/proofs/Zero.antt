@@ -118,22 +118,42 @@ module _ (far : ℕ → ℕ → ℕ) (n : ℕ) (still : (p : ℕ) → far p p �
             let c2 = and-true (clear m (l .target)) true (c1 .1) in
             not-one (l .target) (m .target) (l .mode) (m .mode) (a .inside .0) (a .ends) (c1 .0) (c2 .0) (b .0) d
 
-        -- With at most one via no clear choice is as short as can be and adaptive throughout.
-        pub none-by-one : k ≤ 1 → (c : Choice) → Admits k n S D c → clearChoice clear S c ≡ true → lengthFrom far S c ≡ far S D → detsOf c ≡ 0 → ⊥
-        unfolding endBy clearBy detsOf viasOf
-        none-by-one most [] a c short d = apart (a .ends)
-        none-by-one most (l ∷ []) a c short d = not-direct (l .target) (l .mode) (a .ends) (and-true (clear l S) true c .0) d
-        none-by-one most (l ∷ m ∷ []) a c short d =
-            let all = below-targets n S (l ∷ m ∷ []) (rw (a .ends) hD) (a .inside) in
-            two-legs l m a c (shortest-iff far n still triangle D S (l ∷ m ∷ []) hD hS all (a .ends) .0 short) d
-        none-by-one most (l ∷ m ∷ x ∷ ls) a c short d = let few = a .few in omega arith
+        -- With at most two vias no clear choice is as short as can be and adaptive throughout, where no two vias make one.
+        module _ (no-two : (u x : ℕ) → u < n → x < n → clear (leg u Adaptive) S ≡ true → clear (leg x Adaptive) u ≡ true → clear (leg D Adaptive) x ≡ true → far S u + far u D ≡ far S D → far u x + far x D ≡ far u D → ⊥) where
+          not-two :
+              (u x t : ℕ) (m m′ m″ : Mode) → u < n → x < n → t ≡ D → clear (leg u m) S ≡ true → clear (leg x m′) u ≡ true → clear (leg t m″) x ≡ true →
+              far S u + far u D ≡ far S D → far u x + far x D ≡ far u D → det m + (det m′ + (det m″ + 0)) ≡ 0 → ⊥
+          not-two u x t Adaptive Adaptive Adaptive lu lx e c1 c2 c3 b1 b2 d = let c4 : clear (leg D Adaptive) x ≡ true = rw (← e) c3 in no-two u x lu lx c1 c2 c4 b1 b2
+          not-two u x t Deterministic m′ m″ lu lx e c1 c2 c3 b1 b2 d = omega arith
+          not-two u x t Adaptive Deterministic m″ lu lx e c1 c2 c3 b1 b2 d = omega arith
+          not-two u x t Adaptive Adaptive Deterministic lu lx e c1 c2 c3 b1 b2 d = omega arith
+
+          three-legs : (l m x : Leg) → Admits k n S D (l ∷ m ∷ x ∷ []) → clearChoice clear S (l ∷ m ∷ x ∷ []) ≡ true → Between far D S (l ∷ m ∷ x ∷ []) → detsOf (l ∷ m ∷ x ∷ []) ≡ 0 → ⊥
+          unfolding endBy clearBy detsOf viasOf
+          three-legs l m x a c b d =
+              let c1 = and-true (clear l S) (clear m (l .target) && (clear x (m .target) && true)) c in
+              let c2 = and-true (clear m (l .target)) (clear x (m .target) && true) (c1 .1) in
+              let c3 = and-true (clear x (m .target)) true (c2 .1) in
+              not-two (l .target) (m .target) (x .target) (l .mode) (m .mode) (x .mode) (a .inside .0) (a .inside .1 .0) (a .ends) (c1 .0) (c2 .0) (c3 .0) (b .0) (b .1 .0) d
+
+          pub none-by-two : k ≤ 2 → (c : Choice) → Admits k n S D c → clearChoice clear S c ≡ true → lengthFrom far S c ≡ far S D → detsOf c ≡ 0 → ⊥
+          unfolding endBy clearBy detsOf viasOf
+          none-by-two most [] a c short d = apart (a .ends)
+          none-by-two most (l ∷ []) a c short d = not-direct (l .target) (l .mode) (a .ends) (and-true (clear l S) true c .0) d
+          none-by-two most (l ∷ m ∷ []) a c short d =
+              let all = below-targets n S (l ∷ m ∷ []) (rw (a .ends) hD) (a .inside) in
+              two-legs l m a c (shortest-iff far n still triangle D S (l ∷ m ∷ []) hD hS all (a .ends) .0 short) d
+          none-by-two most (l ∷ m ∷ x ∷ []) a c short d =
+              let all = below-targets n S (l ∷ m ∷ x ∷ []) (rw (a .ends) hD) (a .inside) in
+              three-legs l m x a c (shortest-iff far n still triangle D S (l ∷ m ∷ x ∷ []) hD hS all (a .ends) .0 short) d
+          none-by-two most (l ∷ m ∷ x ∷ y ∷ ls) a c short d = let few = a .few in omega arith
 
         -- By two vias, all legs clear and adaptive: the lowest first via that leads on, then the lowest second one.
         module _
             (two-vias : 2 ≤ k) (v w : ℕ) (hv : v < n) (hw : w < n)
             (one : clear (leg v Adaptive) S ≡ true) (two : clear (leg w Adaptive) v ≡ true) (three : clear (leg D Adaptive) w ≡ true)
             (between : far S v + far v D ≡ far S D) (further : far v w + far w D ≡ far v D)
-            (lowest : (u x : ℕ) → u < v → clear (leg u Adaptive) S ≡ true → clear (leg x Adaptive) u ≡ true → clear (leg D Adaptive) x ≡ true → far S u + far u D ≡ far S D → far u x + far x D ≡ far u D → ⊥)
+            (lowest : (u x : ℕ) → u < v → clear (leg u Adaptive) S ≡ true → clear (leg x Adaptive) u ≡ true → clear (leg D Adaptive) x ≡ true → x < n → far S u + far u D ≡ far S D → far u x + far x D ≡ far u D → ⊥)
             (lowest-second : (x : ℕ) → x < w → clear (leg x Adaptive) v ≡ true → clear (leg D Adaptive) x ≡ true → far v x + far x D ≡ far v D → ⊥) where
           abbrev by-vw : Choice
           by-vw = leg v Adaptive ∷ leg w Adaptive ∷ leg D Adaptive ∷ []
@@ -167,11 +187,11 @@ module _ (far : ℕ → ℕ → ℕ) (n : ℕ) (still : (p : ℕ) → far p p �
           }
 
           by-ux :
-              (u x t : ℕ) (m m′ m″ : Mode) → t ≡ D → clear (leg u m) S ≡ true → clear (leg x m′) u ≡ true → clear (leg t m″) x ≡ true →
+              (u x t : ℕ) (m m′ m″ : Mode) → x < n → t ≡ D → clear (leg u m) S ≡ true → clear (leg x m′) u ≡ true → clear (leg t m″) x ≡ true →
               far S u + far u D ≡ far S D → far u x + far x D ≡ far u D → det m + (det m′ + (det m″ + 0)) ≡ 0 →
               (leg u m ∷ leg x m′ ∷ leg t m″ ∷ [] ≡ by-vw → ⊥) → before far S by-vw (leg u m ∷ leg x m′ ∷ leg t m″ ∷ []) ≡ true
           unfolding keyOf sumBy detsOf viasOf targetsOf modesOf
-          by-ux u x t Adaptive Adaptive Adaptive e c1 c2 c3 b1 b2 d ne =
+          by-ux u x t Adaptive Adaptive Adaptive lx e c1 c2 c3 b1 b2 d ne =
               let same : far x t ≡ far x D = ap (far x) e in
               let c4 : clear (leg D Adaptive) x ≡ true = rw (← e) c3 in
               lex-same (far S v + (far v w + (far w D + 0))) (far S u + (far u x + (far x t + 0))) _ _ (omega arith) ∙ (lex-same 0 0 _ _ refl ∙ (lex-same 2 2 _ _ refl ∙
@@ -182,10 +202,10 @@ module _ (far : ℕ → ℕ → ℕ) (n : ℕ) (still : (p : ℕ) → far p p �
               (λ g. lex-less w x _ _ g)
               (λ r. absurd (ne (rw (q, r, e) refl)))
               (λ g. absurd (lowest-second x g (rw q c2) c4 (rw q b2))))
-              (λ g. absurd (lowest u x g c1 c2 c4 b1 b2))))
-          by-ux u x t Deterministic m′ m″ e c1 c2 c3 b1 b2 d ne = absurd (omega arith)
-          by-ux u x t Adaptive Deterministic m″ e c1 c2 c3 b1 b2 d ne = absurd (omega arith)
-          by-ux u x t Adaptive Adaptive Deterministic e c1 c2 c3 b1 b2 d ne = absurd (omega arith)
+              (λ g. absurd (lowest u x g c1 c2 c4 lx b1 b2))))
+          by-ux u x t Deterministic m′ m″ lx e c1 c2 c3 b1 b2 d ne = absurd (omega arith)
+          by-ux u x t Adaptive Deterministic m″ lx e c1 c2 c3 b1 b2 d ne = absurd (omega arith)
+          by-ux u x t Adaptive Adaptive Deterministic lx e c1 c2 c3 b1 b2 d ne = absurd (omega arith)
 
           others-two : (e : Choice) → Admits k n S D e → clearChoice clear S e ≡ true → Between far D S e → detsOf e ≡ 0 → (e ≡ by-vw → ⊥) → lengthFrom far S by-vw ≤ lengthFrom far S e → before far S by-vw e ≡ true
           unfolding endBy clearBy detsOf viasOf sumBy
@@ -196,7 +216,7 @@ module _ (far : ℕ → ℕ → ℕ) (n : ℕ) (still : (p : ℕ) → far p p �
               let c1 = and-true (clear l S) (clear m (l .target) && (clear x (m .target) && true)) c in
               let c2 = and-true (clear m (l .target)) (clear x (m .target) && true) (c1 .1) in
               let c3 = and-true (clear x (m .target)) true (c2 .1) in
-              by-ux (l .target) (m .target) (x .target) (l .mode) (m .mode) (x .mode) (a .ends) (c1 .0) (c2 .0) (c3 .0) (b .0) (b .1 .0) d ne
+              by-ux (l .target) (m .target) (x .target) (l .mode) (m .mode) (x .mode) (a .inside .1 .0) (a .ends) (c1 .0) (c2 .0) (c3 .0) (b .0) (b .1 .0) d ne
           others-two (l ∷ m ∷ x ∷ y ∷ ls) a c b d ne le = fewer-before far S by-vw (l ∷ m ∷ x ∷ y ∷ ls) le (omega arith) (omega arith)
 
           pub two-vias-first : firstBy far clear k n S D ≡ some (leg v Adaptive ∷ leg w Adaptive ∷ leg D Adaptive ∷ [])

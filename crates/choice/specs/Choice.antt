@@ -17,9 +17,9 @@ use Rattle.machine.specs.Torus.{leg}
 abbrev pub Choice : Type 0
 Choice = List Leg
 
--- One leg, or two legs by one via node.
+-- One leg, two legs by one via node, or three by two.
 abbrev pub mostVias : ℕ
-mostVias = 1
+mostVias = 2
 
 -- The targets of the legs: the vias in order, then the destination.
 unfoldable pub targetsOf : Choice → List ℕ
@@ -52,9 +52,8 @@ endFrom p c = endBy (λ l. l .target) p c
 abbrev pub lengthFrom : (ℕ → ℕ → ℕ) → ℕ → Choice → ℕ
 lengthFrom far p c = sumBy (λ l. l .target) far p c
 
--- The order compares, smallest first: length; number of deterministic legs; number of vias; via's node number; then first leg adaptive before first
--- leg deterministic. For any number of vias: the vias in order, then the modes leg by leg, adaptive first. The destination stands behind the vias,
--- where it never decides among choices to one destination.
+-- The order goes, smallest first, by length, deterministic legs, vias, first via, second via, then modes leg by leg, adaptive first. For any number of
+-- vias: the vias in order. The destination stands behind them, where it never decides among choices to one destination.
 unfoldable pub keyOf : (ℕ → ℕ → ℕ) → ℕ → Choice → List ℕ
 keyOf far S c = lengthFrom far S c ∷ detsOf c ∷ length (viasOf c) ∷ (targetsOf c ++ modesOf c)
 

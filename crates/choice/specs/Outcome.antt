@@ -6,12 +6,13 @@ use Rattle.choice.specs.declared.outcome.Outcome.{Outcome}
 use Rattle.choice.specs.Choice.{lengthFrom}
 use Rattle.choice.specs.Answer.{Answer, Given, Refused}
 
--- With this length. Lists of no legs, or of over two, are never admitted and read as a refusal with the number 0.
+-- With this length. Lists of no legs, or of over three, are never admitted and read as a refusal with the number 0.
 unfoldable pub toldAs : ℕ → Answer → Outcome
 toldAs len (Given []) = Outcome.Refused 0
 toldAs len (Given (l ∷ [])) = Outcome.Given (Route.Direct (l .mode)) len
 toldAs len (Given (l ∷ m ∷ [])) = Outcome.Given (Route.Via (l .target) (l .mode) (m .mode)) len
-toldAs len (Given (l ∷ m ∷ n ∷ ls)) = Outcome.Refused 0
+toldAs len (Given (l ∷ m ∷ n ∷ [])) = Outcome.Given (Route.Vias (l .target) (m .target) (l .mode) (m .mode) (n .mode)) len
+toldAs len (Given (l ∷ m ∷ n ∷ o ∷ ls)) = Outcome.Refused 0
 toldAs len (Refused e) = Outcome.Refused e
 
 -- Its length is the sum of the legs' distances.

@@ -17,7 +17,7 @@ abbrev pub machine : ℕ → List ℕ
 machine weight = faulty weight 0
 
 pub record Weighed : Type 0 where
-  pub by-hops : tells (machine 1) 0 1 ≡ Outcome.Given (Route.Via 5 Adaptive Deterministic) 3
+  pub by-hops : tells (machine 1) 0 1 ≡ Outcome.Given (Route.Vias 5 6 Adaptive Adaptive Adaptive) 3
   pub by-weight : tells (machine 2) 0 1 ≡ Outcome.Given (Route.Via 3 Adaptive Adaptive) 4
   pub weight-8 : planError large (machine 8) ≡ 0
   pub weight-9 : planError large (machine 9) ≡ 16

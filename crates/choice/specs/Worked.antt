@@ -1,4 +1,4 @@
--- 'The worked machine and its edges': the lines marked (P), one table, with the documents' own numbers; w-0-1 and ring-of-4 are E2's.
+-- 'The worked machine and its edges': the lines marked (P), one table, with the documents' own numbers; w-0-1 and ring-of-4 are E5's.
 use Prim.Native.Nat.{ℕ}
 use mathlib.Core.Path.{_≡_}
 use mathlib.Core.List.{List, [], _∷_}
@@ -22,11 +22,11 @@ abbrev pub tells : List ℕ → ℕ → ℕ → Outcome
 tells p S D = told (farIn p) S (pair large p S D)
 
 pub record Worked : Type 0 where
-  pub w-0-1 : tells W 0 1 ≡ Outcome.Given (Route.Via 3 Adaptive Deterministic) 3
+  pub w-0-1 : tells W 0 1 ≡ Outcome.Given (Route.Vias 3 2 Adaptive Adaptive Adaptive) 3
   pub w-0-2 : tells W 0 2 ≡ Outcome.Given (Route.Via 3 Adaptive Adaptive) 2
   pub w-0-7 : tells W 0 7 ≡ Outcome.Given (Route.Direct Adaptive) 2
   pub w-0-0 : tells W 0 0 ≡ Outcome.Given (Route.Direct Adaptive) 0
-  pub ring-of-4 : tells (fault 4 1 1 0) 0 1 ≡ Outcome.Given (Route.Via 3 Adaptive Deterministic) 3
+  pub ring-of-4 : tells (fault 4 1 1 0) 0 1 ≡ Outcome.Given (Route.Vias 3 2 Adaptive Adaptive Adaptive) 3
   pub ring-of-5 : tells (fault 5 1 1 0) 0 1 ≡ Outcome.Given (Route.Via 3 Adaptive Adaptive) 4
   pub open-2 : tells (fault 2 1 0 0) 0 1 ≡ Outcome.Refused 11
   pub dead-node : tells (fault 1 1 0 3) 0 0 ≡ Outcome.Refused 10

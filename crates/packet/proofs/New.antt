@@ -30,10 +30,14 @@ new-is s S ls few = record { good = few; at = refl; with = last-append (replicat
 
 -- The same of a route, by its cases, as the code makes it.
 module _ (S D : ℕ) where
-  pub new-direct : (r : Route) (m : Mode) → r ≡ Route.Direct m → record { node = S; legs = leg D m ∷ leg D m ∷ []; left = 1 } ≡ newPacket S (legsTo D r)
+  pub new-direct : (r : Route) (m : Mode) → r ≡ Route.Direct m → record { node = S; legs = leg D m ∷ leg D m ∷ leg D m ∷ []; left = 1 } ≡ newPacket S (legsTo D r)
   unfolding newPacket legsTo
   new-direct r m e = rw e
 
-  pub new-via : (r : Route) (v : ℕ) (m n : Mode) → r ≡ Route.Via v m n → record { node = S; legs = leg v m ∷ leg D n ∷ []; left = 2 } ≡ newPacket S (legsTo D r)
+  pub new-via : (r : Route) (v : ℕ) (m n : Mode) → r ≡ Route.Via v m n → record { node = S; legs = leg v m ∷ leg v m ∷ leg D n ∷ []; left = 2 } ≡ newPacket S (legsTo D r)
   unfolding newPacket legsTo
   new-via r v m n e = rw e
+
+  pub new-vias : (r : Route) (v w : ℕ) (m n o : Mode) → r ≡ Route.Vias v w m n o → record { node = S; legs = leg v m ∷ leg w n ∷ leg D o ∷ []; left = 3 } ≡ newPacket S (legsTo D r)
+  unfolding newPacket legsTo
+  new-vias r v w m n o e = rw e

@@ -12,6 +12,7 @@ use Rattle.packet.specs.Packet.{mostLegs, noLeg}
 unfoldable pub legsTo : ℕ → Route → List Leg
 legsTo D (Route.Direct m) = leg D m ∷ []
 legsTo D (Route.Via v m n) = leg v m ∷ leg D n ∷ []
+legsTo D (Route.Vias v w m n o) = leg v m ∷ leg w n ∷ leg D o ∷ []
 
 -- An array that ends in these legs; before them it holds the first of them.
 abbrev pub firstOr : List Leg → Leg

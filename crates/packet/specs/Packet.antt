@@ -16,9 +16,9 @@ use Rattle.machine.specs.Number.{nodeCount}
 use Rattle.machine.specs.Hop.{neighbour}
 use Rattle.packet.specs.declared.packet.Packet.{Packet}
 
--- The legs left, at most two.
+-- The legs left, at most three.
 abbrev pub mostLegs : ℕ
-mostLegs = 2
+mostLegs = 3
 
 -- The last n of an array of that many, as the code reads them: past an array's end stands a leg of zeros.
 abbrev pub noLeg : Leg
@@ -36,7 +36,7 @@ legsLeft q = lastOf (q .legs) (q .left)
 unfoldable pub packetWith : ℕ → List Leg → ℕ → Packet
 packetWith n a k = record { node = n; legs = a; left = k }
 
--- Packet naming a node outside the shape, or with over two legs. `count`: how many nodes there are.
+-- Packet naming a node outside the shape, or with over three legs. `count`: how many nodes there are.
 unfoldable pub outside : ℕ → List Leg → Bool
 outside count [] = false
 outside count (l ∷ ls) = leb count (l .target) || outside count ls

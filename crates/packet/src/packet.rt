@@ -11,8 +11,8 @@ ghost use Prim.Native.Nat.{_-_, _≤_, _<_};
 ghost use Rattle.packet.specs.Packet.{mostLegs, legsLeft, outside, packetError, packetWith};
 ghost use Rattle.packet.specs.Steps.{legAt, frontOf, endsHere, settled};
 
-// The legs left, at most two.
-pub const MOST_LEGS: usize = 2;
+// The legs left, at most three.
+pub const MOST_LEGS: usize = 3;
 
 pub type Legs = [Leg; MOST_LEGS];
 

@@ -6,10 +6,11 @@ use machine::leg::Mode;
 ghost use mathlib.Core.Path.{_≡_};
 ghost use Rattle.packet.specs.New.{legsTo, newPacket};
 
-// A route to a destination: one leg, or two legs by a via.
+// A route to a destination: one leg, two legs by a via, or three by two vias.
 pub enum Route {
     Direct(Mode),
     Via(u16, Mode, Mode),
+    Vias(u16, u16, Mode, Mode, Mode),
 }
 
 impl Packet {
@@ -44,6 +45,28 @@ impl Packet {
                     node: source,
                     legs: legs,
                     left: 2,
+                }
+            }
+            Route::Vias(via, further, first, second, third) => {
+                let front = Leg {
+                    target: via,
+                    mode: first,
+                };
+                let middle = Leg {
+                    target: further,
+                    mode: second,
+                };
+                let last = Leg {
+                    target: dest,
+                    mode: third,
+                };
+                let mut legs = [front; MOST_LEGS];
+                legs[MOST_LEGS - 2] = middle;
+                legs[MOST_LEGS - 1] = last;
+                Packet {
+                    node: source,
+                    legs: legs,
+                    left: 3,
                 }
             }
         }
