@@ -1,4 +1,3 @@
-pub mod Order
-pub mod Decoded
-pub mod ViaNumbers
-pub mod General
+pub mod ThirdLeg
+pub mod TwoShort
+pub mod Answers

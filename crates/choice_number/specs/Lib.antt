@@ -1,3 +1,4 @@
+-- What a choice by two vias rests on.
+pub mod Note
 -- The code's own steps.
-pub mod KeyNumber
-pub mod ViaNumber
+pub mod Told

@@ -1,4 +1,2 @@
-// The order's key of a choice with at most one via as one number, read back.
-mod read;
-
-pub use read::decode;
+// A note, and what a second via can reach, read back as what planning a pair answers.
+pub mod read;

@@ -1,23 +1,20 @@
-// The order's key of a choice as one number, read back.
+// A note, and what a second via can reach, read back as what planning a pair answers.
 use choice::Outcome;
 use machine::leg::Mode;
 use numbers::NO_CLEAR_CHOICE;
 use packet::Route;
 use search::best::UNCLEAR;
 ghost use mathlib.Core.Path.{_≡_};
-ghost use Rattle.choice_number.specs.KeyNumber.{modeOf, decoded};
+ghost use Prim.Native.Nat.{_%_, _≤_};
+ghost use Rattle.search.specs.Number.{detOf};
+ghost use Rattle.choice_number.specs.Told.{modeOf, oneTold, twoTold};
+ghost use Rattle.choice_number.specs.Note.{boundOf};
 
-// Place values of a choice's number, after the order: of its length,
-const LENGTH: u32 = 65536;
+// Place values: of the deterministic legs, at most three,
+pub const DETS: u32 = 4096;
 
-// of its deterministic legs, at most two,
-const DETS: u32 = 16384;
-
-// of its vias, at most one,
-const VIAS: u32 = 8192;
-
-// of the via's node number. The first leg's mode has the last place.
-const NODE: u32 = 2;
+// of the length. The first via's node number has the last place.
+pub const LENGTH: u32 = 16384;
 
 fn mode(adaptive: bool) -> Mode
     ensures { λ r. ⌜ r ≡ modeOf adaptive ⌝ }
@@ -29,22 +26,58 @@ fn mode(adaptive: bool) -> Mode
     }
 }
 
-// The choice with this number.
-pub fn decode(n: u32) -> Outcome
-    ensures { λ r. ⌜ r ≡ decoded n ⌝ }
+fn det(adaptive: bool) -> u32
+    ensures { λ r. ⌜ (r ≡ detOf adaptive) × (r ≤ 1) ⌝ }
 {
-    if UNCLEAR <= n {
+    if adaptive { 0 } else { 1 }
+}
+
+// The first via.
+pub fn via_in(number: u32) -> u16
+    ensures { λ r. ⌜ r ≡ number % 4096 ⌝ }
+{
+    (number % DETS) as u16
+}
+
+// The choice by the via of a destination's note. `length`: the distance to the destination. `first`: the leg to the via is clear and adaptive.
+pub fn by_one(note: u32, length: u16, first: bool) -> Outcome
+    ensures { λ r. ⌜ r ≡ oneTold note length first ⌝ }
+{
+    if UNCLEAR <= note {
         return Outcome::Refused(NO_CLEAR_CHOICE);
     }
-    let length = (n / LENGTH) as u16;
-    let dets = n % LENGTH / DETS;
-    let first = n % NODE;
-    if n % DETS / VIAS == 0 {
-        return Outcome::Given(Route::Direct(mode(first == 0)), length);
-    }
-    let via = (n % VIAS / NODE) as u16;
+    let dets = note / DETS % 4;
+    let whole = ((length as u32) + note / LENGTH) % 65536;
     Outcome::Given(
-        Route::Via(via, mode(first == 0), mode(dets == first)),
-        length,
+        Route::Via(via_in(note), mode(first), mode(dets == det(first))),
+        whole as u16,
     )
+}
+
+// The choice by a second via, with what it can reach. `third`: the leg from it is clear and adaptive.
+pub fn by_two(reach: u32, second: u16, first: bool, third: bool) -> Outcome
+    ensures { λ r. ⌜ r ≡ twoTold reach second first third ⌝ }
+{
+    let dets = reach / DETS % 4;
+    let whole = reach / LENGTH % 65536;
+    Outcome::Given(
+        Route::Vias(
+            via_in(reach),
+            second,
+            mode(first),
+            mode(dets == det(first) + det(third)),
+            mode(third),
+        ),
+        whole as u16,
+    )
+}
+
+// What a second via has to be below, by the destination's note.
+pub fn bound(note: u32, length: u16) -> u32
+    ensures { λ r. ⌜ r ≡ boundOf note length ⌝ }
+{
+    if UNCLEAR <= note {
+        return UNCLEAR;
+    }
+    DETS * (note / DETS + 4 * (length as u32))
 }
