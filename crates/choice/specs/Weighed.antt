@@ -3,7 +3,7 @@
 use Prim.Native.Nat.{ℕ}
 use mathlib.Core.Path.{_≡_}
 use mathlib.Core.List.{List, [], _∷_}
-use Rattle.machine.specs.declared.leg.Mode.the-variants.{Adaptive, Deterministic}
+use Rattle.machine.specs.declared.leg.Mode.the-variants.{Adaptive}
 use Rattle.packet.specs.declared.route.Route.{Route}
 use Rattle.plan.specs.Checks.{large, planError}
 use Rattle.choice.specs.declared.outcome.Outcome.{Outcome}

@@ -1,11 +1,11 @@
 -- A third leg: the least of what each node as second via can reach, where that is better than every choice with fewer vias, is the first clear choice;
 -- else the best via by itself is, where there is one.
-use Prim.Native.Nat.{ℕ, suc, _+_, _*_, _/_, _<_, _≤_}
+use Prim.Native.Nat.{ℕ, _+_, _*_, _/_, _<_, _≤_}
 use native.Mathlib.Omega.{arith}
 use mathlib.Core.Path.{_≡_, refl, sym, ap, _∙_}
 use mathlib.Core.Logic.{_⊎_, inl, inr, ⊎-elim}
-use mathlib.Core.Bool.{Bool, true, false, cond, _&&_, true≢false}
-use mathlib.Core.List.{[], _∷_, List·Memᴰ}
+use mathlib.Core.Bool.{Bool, true, false, _&&_, true≢false}
+use mathlib.Core.List.{[], _∷_}
 use mathlib.Core.Option.{none, some}
 use lib.ListN.{length}
 use borrow.Author.Tests.{lt-ltb, le-ltb, lt-leb, le-leb}
@@ -14,7 +14,7 @@ use Rattle.theory.specs.Clear.{clearBy, clear}
 use Rattle.theory.specs.Plan.{planned}
 use Rattle.theory.proofs.Bools.{and-true}
 use Rattle.theory.proofs.Cases.{test, by-le, by-order}
-use Rattle.theory.proofs.Choice.{best-none, best-first, lex-less, lex-same, lex-least}
+use Rattle.theory.proofs.Choice.{best-none, best-first, lex-less, lex-same}
 use Rattle.shape.specs.declared.shape.Shape.{Shape}
 use Rattle.shape.specs.Shape.{shapeError}
 use Rattle.shape.proofs.Shapes.{count-most}
@@ -24,7 +24,7 @@ use Rattle.machine.specs.declared.leg.Mode.the-variants.{Adaptive, Deterministi
 use Rattle.machine.specs.Number.{nodeCount}
 use Rattle.machine.specs.Hop.{rule}
 use Rattle.machine.specs.Torus.{leg, torus}
-use Rattle.choice.specs.Choice.{Choice, mostVias, targetsOf, viasOf, det, modesOf, detsOf, endFrom, lengthFrom, keyOf, before, Admits, AdmitsIn, choices}
+use Rattle.choice.specs.Choice.{Choice, mostVias, targetsOf, viasOf, det, detsOf, lengthFrom, keyOf, before, AdmitsIn, choices}
 use Rattle.choice.specs.Further.{clearChoice}
 use Rattle.choice.specs.Search.{Lengths}
 use Rattle.choice.specs.Pair.{routeBy}
@@ -33,7 +33,7 @@ use Rattle.choice.proofs.Listed.{admits-lists, lists-admits}
 use Rattle.choice.proofs.AtTorus.{empty-adaptive}
 use Rattle.choice.proofs.Search.{adaptive-clear}
 use Rattle.search.specs.Number.{unclear, detOf}
-use Rattle.choice_number.specs.Note.{isClearBy, detBy, valueBy, NoteBy, Needless, Note, reachBy, boundOf, boundBy}
+use Rattle.choice_number.specs.Note.{isClearBy, detBy, valueBy, NoteBy, Note, reachBy, boundOf, boundBy}
 use Rattle.choice_number.specs.Told.{modeOf}
 
 pub det-low : (m : Mode) → det m ≤ 1

@@ -1,14 +1,14 @@
 -- Two vias on the shortest ways, all legs adaptive, by the notes of the nodes there: the first by the least note, or there are none.
 use Prim.Native.Nat.{ℕ, _+_, _*_, _<_, _≤_}
 use native.Mathlib.Omega.{arith}
-use mathlib.Core.Path.{_≡_, refl, sym, ap, _∙_}
+use mathlib.Core.Path.{_≡_, refl}
 use mathlib.Core.Logic.{⊎-elim}
-use mathlib.Core.Bool.{Bool, true, false, true≢false}
+use mathlib.Core.Bool.{Bool, true, false}
 use mathlib.Core.List.{[], _∷_}
 use mathlib.Core.Option.{some}
 use borrow.Author.Tests.{lt-leb}
 use Rattle.theory.specs.Clear.{clear}
-use Rattle.theory.proofs.Cases.{test, by-le}
+use Rattle.theory.proofs.Cases.{by-le}
 use Rattle.shape.specs.declared.shape.Shape.{Shape}
 use Rattle.shape.specs.Shape.{shapeError}
 use Rattle.machine.specs.declared.leg.Mode.the-variants.{Adaptive, Deterministic}
@@ -20,7 +20,7 @@ use Rattle.choice.specs.Search.{Lengths}
 use Rattle.choice.specs.Pair.{routeBy}
 use Rattle.choice.proofs.Search.{adaptive-clear, two-vias-first}
 use Rattle.search.specs.Number.{unclear, detOf}
-use Rattle.choice_number.specs.Note.{isClearBy, detBy, valueBy, Note, boundOf, boundBy}
+use Rattle.choice_number.specs.Note.{detBy, valueBy, Note, boundOf, boundBy}
 use Rattle.choice_number.proofs.ThirdLeg.{TwoVias, value, node-small, det-of-low}
 
 -- A number of deterministic legs that is 0: the leg is adaptive.

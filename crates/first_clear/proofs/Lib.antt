@@ -1,5 +1,0 @@
-pub mod Knowing
-pub mod FirstSteps
-pub mod ShortStep
-pub mod LastStep
-pub mod Destination

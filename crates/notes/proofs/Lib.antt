@@ -1,0 +1,5 @@
+pub mod Knowing
+pub mod OnWays
+pub mod Values
+pub mod ShortStep
+pub mod LastStep
