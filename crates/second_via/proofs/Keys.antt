@@ -2,7 +2,7 @@
 use Prim.Native.Nat.{ℕ, _+_, _-_, _*_, _%_, _≤_, _<_}
 use native.Mathlib.Omega.{arith}
 use mathlib.Core.Path.{_≡_, refl, sym, ap, _∙_}
-use mathlib.Core.Logic.{inl, inr, ⊎-elim}
+use mathlib.Core.Logic.{inr, ⊎-elim}
 use mathlib.Core.Bool.{Bool, true, false}
 use mathlib.Core.List.{List}
 use lib.ListN.{length, getD}
@@ -10,7 +10,7 @@ use borrow.Author.Tests.{eq-eqb, ne-eqb}
 use Rattle.theory.proofs.Bools.{and-true}
 use Rattle.shape.specs.declared.shape.Shape.{Shape}
 use Rattle.shape.specs.declared.shape.Coords.{Coords}
-use Rattle.shape.specs.declared.shape.Dim.the-variants.{X, Y, Z}
+use Rattle.shape.specs.declared.shape.Dim.the-variants.{X}
 use Rattle.shape.specs.Shape.{shapeError}
 use Rattle.shape.proofs.Shapes.{sound}
 use Rattle.machine.specs.Number.{nodeCount, numberOf, coordsOf, Inside}
@@ -129,7 +129,6 @@ module _ (s : Shape) (bx by bz : ℕ) (from to : List ℕ) (at : ℕ) (values : 
     here : (n : ℕ) → NodeKey (nodeCount s) (isVia s bx by bz from to at) values n → SpaceKeys s bx by bz from to at values n
     here n p =
         let i = inside s h (p .v) (p .below) in
-        let c = coordsOf s (p .v) in
         let w = parts bx by bz from to at (coordsOf s (p .v)) (sym (test-is bx by bz from to at s (p .v)) ∙ sym (via-is (p .v)) ∙ p .is) in
         record {
           i = coordsOf s (p .v) .z;

@@ -1,5 +1,5 @@
 -- The code's own steps: sets of nodes row by row, and what is made of them.
-use Prim.Native.Nat.{ℕ, _+_, _*_, _≤_, _<_}
+use Prim.Native.Nat.{ℕ, _+_, _*_, _<_}
 use mathlib.Core.Path.{_≡_}
 use mathlib.Core.Logic.{_⊎_}
 use mathlib.Core.Bool.{Bool, true, cond}
@@ -55,8 +55,8 @@ pub record Cell : Type 0 where
 -- The array `new` is `old`, but for the places that P has a cell of: there it has such a cell.
 pub record Stored (old new : List ℕ) (P : Cell → Type 0) : Type 0 where
   pub long : length new ≡ length old
-  pub each : (v n : ℕ) → P (record { node = v; value = n }) → P (record { node = v; value = getD new v 0 })
-  pub other : (v : ℕ) → (getD new v 0 ≡ getD old v 0) ⊎ P (record { node = v; value = getD new v 0 })
+  pub each : (v n : ℕ) → v < length old → P (record { node = v; value = n }) → P (record { node = v; value = getD new v 0 })
+  pub other : (v : ℕ) → v < length old → (getD new v 0 ≡ getD old v 0) ⊎ P (record { node = v; value = getD new v 0 })
 
 pub record SumAt (notes : List ℕ) (len node : ℕ) (adaptive : Bool) (c : Cell) : Type 0 where
   pub at : c .node ≡ node
@@ -66,10 +66,12 @@ pub record SumAt (notes : List ℕ) (len node : ℕ) (adaptive : Bool) (c : Cell
 abbrev pub RowSums : ℕ → ℕ → ℕ → ℕ → List ℕ → List ℕ → ℕ → Cell → Type 0
 RowSums len word adaptive first notes xs part c = All len (bit word) (λ x c. SumAt notes (part + getD xs x 0) (first + x) (bit adaptive x) c) c
 
+abbrev pub RowSumsAt : Shape → List ℕ → List ℕ → List ℕ → List ℕ → ℕ → ℕ → ℕ → ℕ → Cell → Type 0
+RowSumsAt s xs noted notes to at part y z c =
+    RowSums (s .x) (bitAnd (getD noted (16 * z + y) 0) (getD to (at + (16 * z + y) + 256) 0)) (getD to (at + (16 * z + y)) 0) (firstOf s y z) notes xs part c
+
 abbrev pub PlaneSums : Shape → List ℕ → List ℕ → List ℕ → List ℕ → List ℕ → ℕ → ℕ → ℕ → Cell → Type 0
-PlaneSums s xs ys noted notes to at part z c =
-    All (s .y) (λ y. true)
-    (λ y c. RowSums (s .x) (bitAnd (getD noted (16 * z + y) 0) (getD to (at + (16 * z + y) + 256) 0)) (getD to (at + (16 * z + y)) 0) (firstOf s y z) notes xs (part + getD ys y 0) c) c
+PlaneSums s xs ys noted notes to at part z c = All (s .y) (λ y. true) (λ y c. RowSumsAt s xs noted notes to at (part + getD ys y 0) y z c) c
 
 abbrev pub SpaceSums : Shape → List ℕ → List ℕ → List ℕ → List ℕ → List ℕ → List ℕ → ℕ → Cell → Type 0
 SpaceSums s xs ys zs noted notes to at c = All (s .z) (λ z. true) (λ z c. PlaneSums s xs ys noted notes to at (getD zs z 0) z c) c
