@@ -13,14 +13,14 @@ use Rattle.rows.specs.Rows.{inSet}
 use Rattle.search.specs.Number.{unclear, detOf}
 use Rattle.search.specs.BestVia.{askable}
 
--- Node w has a note, which is a number below `unclear`, and a clear leg from it to T. The nodes with a note: `noted`. The nodes with a clear leg to T: adaptive
--- the set whose rows begin at place `at` of the run `to`, deterministic the one behind it.
+-- Node w is in the set `noted`, has a note below `unclear`, and has a clear leg to T. The nodes with a clear leg to T: adaptive the set whose rows begin at place
+-- `at` of the run `to`, deterministic the one behind it.
 unfoldable pub reaches : Weights → Shape → Coords → Coords → List ℕ → List ℕ → List ℕ → ℕ → ℕ → Bool
 reaches k s A T noted notes to at w =
     askable k s A T (length to) at && (ltb w (nodeCount s) && (inSet s noted 0 w && (inSet s to (at + 256) w && ltb (getD notes w 0) unclear)))
 
--- Its note; above it the mode of its leg to T, deterministic where it is not clear in the adaptive mode; above that the length from A by way of it to T.
--- `unclear` where it does not reach T.
+-- Its note, 16,384 for each unit of the length from A by way of it to T, and 4,096 where its leg to T is deterministic, since it is not clear in the adaptive
+-- mode. `unclear` where it does not reach T.
 unfoldable pub reachIn : Weights → Shape → Coords → Coords → List ℕ → List ℕ → List ℕ → ℕ → ℕ → ℕ
 reachIn k s A T noted notes to at w =
     cond (reaches k s A T noted notes to at w)
