@@ -46,6 +46,15 @@ levels-small len ring p q xs h w k l =
     let most : 2 ^ len ≤ 65536 = pow-mono {i = len} {j = 16} h in
     rw (w .each k l) (omega (arith, row-below (λ c. eqb (partOf len ring p q c) k) len))
 
+-- The length by way of a node, dimension by dimension.
+pub length-parts :
+    (w : Weights) (s : Shape) (S D c : Coords) →
+    distanceAt w s S c + distanceAt w s c D
+    ≡ w .z * partOf (s .z) (wrappedIn s Z) (S .z) (D .z) (c .z) + w .y * partOf (s .y) (wrappedIn s Y) (S .y) (D .y) (c .y) + w .x * partOf (s .x) (wrappedIn s X) (S .x) (D .x) (c .x)
+unfolding distanceAt
+length-parts w s S D c =
+    omega (arith, mul-add (w .x) (hopsAlong s S c X) (hopsAlong s c D X), mul-add (w .y) (hopsAlong s S c Y) (hopsAlong s c D Y), mul-add (w .z) (hopsAlong s S c Z) (hopsAlong s c D Z))
+
 -- ---- what is not asked
 pub record Asks (w : Weights) (s : Shape) (S D : Coords) (len at : ℕ) : Type 0 where
   pub weights : weightError w ≡ 0
@@ -85,9 +94,7 @@ module _ (w : Weights) (s : Shape) (S D : Coords) (fa fd to : List ℕ) (at : �
         (bit (getD to (at + (16 * c .z + c .y)) 0) (c .x)) (bit (getD to (at + (16 * c .z + c .y) + 256) 0) (c .x))
 
     length-is : (c : Coords) → Inside s c → distanceAt w s S c + distanceAt w s c D ≡ getD zs (c .z) 0 + getD ys (c .y) 0 + w .x * partX (c .x)
-    unfolding distanceAt
-    length-is c i =
-        omega (arith, wy .each (c .y) (i .y), wz .each (c .z) (i .z), mul-add (w .x) (hopsAlong s S c X) (hopsAlong s c D X), mul-add (w .y) (hopsAlong s S c Y) (hopsAlong s c D Y), mul-add (w .z) (hopsAlong s S c Z) (hopsAlong s c D Z))
+    length-is c i = length-parts w s S D c ∙ rw (wy .each (c .y) (i .y), wz .each (c .z) (i .z))
 
     number-is : (c : Coords) → Inside s c → numberIn w s S D fa fd to at (numberOf s c) ≡ rowNumber c
     unfolding numberIn inSet numberOf

@@ -21,3 +21,7 @@ module _ {P R : ℕ → Type 0} where
   -- Some of them looked at before all.
   pub lower-first : (best m r : ℕ) → Lowers best m P → Lowers m r R → ((n : ℕ) → P n → R n) → Lowers best r R
   lower-first best m r a b left = lower-both best m r a b (λ n h. inr h) left (λ n h. h)
+
+  -- The same numbers.
+  pub lower-same : (best r : ℕ) → Lowers best r P → ((n : ℕ) → P n → R n) → ((n : ℕ) → R n → P n) → Lowers best r R
+  lower-same best r a there back = record { low = a .low; each = λ n h. a .each n (back n h); one = ⊎-elim inl (λ p. inr (there r p)) (a .one) }

@@ -106,23 +106,23 @@ module _ (bx by bz : ℕ) (from to : List ℕ) (at : ℕ) where
     before = λ k j e. by-order k z (λ g. p .before k g e) (λ g. rw g (λ i m. q .before i (omega arith))) (λ g. clash (bit bz k) e (n .skip k (omega arith) j));
   }
 
-  meet-bit : (r x : ℕ) → bit (meet bx from to at r) x ≡ ((bit bx x && bit (getD from r 0) x) && bit (getD to (at + r) 0) x)
+  pub meet-bit : (r x : ℕ) → bit (meet bx from to at r) x ≡ ((bit bx x && bit (getD from r 0) x) && bit (getD to (at + r) 0) x)
   meet-bit r x = bit-and (bitAnd bx (getD from r 0)) (getD to (at + r) 0) x ∙ rw (bit-and bx (getD from r 0) x)
 
   not-empty : (r x : ℕ) → bit (meet bx from to at r) x ≡ true → meet bx from to at r ≡ 0 → ⊥
   not-empty r x e f = clash (bit (meet bx from to at r) x) e (ap (λ (m : ℕ). bit m x) f ∙ none-set x)
 
   -- A node of all three sets, by its coordinates.
-  record Parts (c : Coords) : Type 0 where
-    x : bit bx (c .x) ≡ true
-    y : bit by (c .y) ≡ true
-    z : bit bz (c .z) ≡ true
-    met : bit (meet bx from to at (16 * c .z + c .y)) (c .x) ≡ true
+  pub record Parts (c : Coords) : Type 0 where
+    pub x : bit bx (c .x) ≡ true
+    pub y : bit by (c .y) ≡ true
+    pub z : bit bz (c .z) ≡ true
+    pub met : bit (meet bx from to at (16 * c .z + c .y)) (c .x) ≡ true
 
-  abbrev allOf : Coords → Bool
+  abbrev pub allOf : Coords → Bool
   allOf c = inProduct bx by bz c && (inRows from 0 c && inRows to at c)
 
-  parts : (c : Coords) → allOf c ≡ true → Parts c
+  pub parts : (c : Coords) → allOf c ≡ true → Parts c
   unfolding inProduct
   parts c e =
       let a = and-true (inProduct bx by bz c) _ e in
@@ -131,13 +131,21 @@ module _ (bx by bz : ℕ) (from to : List ℕ) (at : ℕ) where
       let g = and-true (inRows from 0 c) _ (a .1) in
       record { x = b .0; y = d .0; z = d .1; met = meet-bit (16 * c .z + c .y) (c .x) ∙ rw (b .0, ← in-set from c, ← in-run to at (at + (16 * c .z + c .y)) c refl, g .0, g .1) }
 
+  pub whole : (c : Coords) → Parts c → allOf c ≡ true
+  unfolding inProduct
+  whole c p =
+      let bits = sym (meet-bit (16 * c .z + c .y) (c .x)) ∙ p .met in
+      let a = and-true (bit bx (c .x) && bit (getD from (16 * c .z + c .y) 0) (c .x)) _ bits in
+      let b = and-true (bit bx (c .x)) _ (a .0) in
+      rw (in-set from c, in-run to at (at + (16 * c .z + c .y)) c refl, p .x, p .y, p .z, b .1, a .1)
+
+  pub test-is : (s : Shape) (v : ℕ) → inAll s bx by bz from to at v ≡ allOf (coordsOf s v)
+  unfolding inAll inSet
+  test-is s v = refl
+
   module _ (s : Shape) (h : shapeError s ≡ 0) (hx : bx < 2 ^ (s .x)) (hy : by < 2 ^ (s .y)) (hz : bz < 2 ^ (s .z)) where
     low : (y : ℕ) → y < s .y → y < 16
     low y l = omega (arith, sound s h Y .high)
-
-    test-is : (v : ℕ) → inAll s bx by bz from to at v ≡ allOf (coordsOf s v)
-    unfolding inAll inSet
-    test-is v = refl
 
     pub space-none : (z : ℕ) → Space bx by bz from to at z → 16 ≤ z → FirstOf (nodeCount s) (inAll s bx by bz from to at) 4096
     space-none z p l = record {
@@ -145,7 +153,7 @@ module _ (bx by bz : ℕ) (from to : List ℕ) (at : ℕ) where
       found = λ q. absurd (omega arith);
       before = λ v k q. test (inAll s bx by bz from to at v)
           (λ e.
-          let w = parts (coordsOf s v) (sym (test-is v) ∙ e) in
+          let w = parts (coordsOf s v) (sym (test-is s v) ∙ e) in
           let i = inside s h v k in
           absurd (not-empty _ _ (w .met) (p .before _ (omega (arith, i .z, sound s h Z .high)) (w .z) _ (low _ (i .y)) (w .y))))
           (λ e. e);
@@ -180,11 +188,7 @@ module _ (bx by bz : ℕ) (from to : List ℕ) (at : ℕ) where
       inside-here = record { x = below (s .x) bx x hx bit-x; y = below (s .y) by y hy (w .listed ly); z = below (s .z) bz z hz (p .listed lz) }
 
       all-here : allOf here ≡ true
-      unfolding inProduct
-      all-here =
-          let a = and-true (bit bx x && bit (getD from (16 * z + y) 0) x) _ bits in
-          let b = and-true (bit bx x) _ (a .0) in
-          rw (in-set from here, in-run to at (at + (16 * z + y)) here refl, bit-x, w .listed ly, p .listed lz, b .1, a .1)
+      all-here = whole here (record { x = bit-x; y = w .listed ly; z = p .listed lz; met = n .set x-set .1 })
 
       -- No via comes before it.
       earlier : (c : Coords) → Inside s c → numberOf s c < numberOf s here → allOf c ≡ true → ⊥
@@ -209,9 +213,9 @@ module _ (bx by bz : ℕ) (from to : List ℕ) (at : ℕ) where
           let l = number-below s h here inside-here in
           record {
             most = omega (arith, l, count-all s h);
-            found = λ q. (l, test-is (numberOf s here) ∙ ap allOf (coords-number s h here inside-here) ∙ all-here);
+            found = λ q. (l, test-is s (numberOf s here) ∙ ap allOf (coords-number s h here inside-here) ∙ all-here);
             before = λ v k q. test (inAll s bx by bz from to at v)
-                (λ e. absurd (earlier (coordsOf s v) (inside s h v k) (rw (number-coords s h v) q) (sym (test-is v) ∙ e)))
+                (λ e. absurd (earlier (coordsOf s v) (inside s h v k) (rw (number-coords s h v) q) (sym (test-is s v) ∙ e)))
                 (λ e. e);
           }
 

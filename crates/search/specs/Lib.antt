@@ -1,6 +1,6 @@
 pub mod FirstVia
 pub mod BestVia
--- The code's own steps. Other crates cite Number alone.
+-- The code's own steps.
 pub mod Number
 pub mod Planes
 pub mod PartOf

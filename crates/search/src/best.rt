@@ -276,7 +276,14 @@ fn is_within(shape: Shape, c: Coords) -> bool
 }
 
 // No check declines the weights or the shape, it has both nodes, and a run of this length has both sets.
-fn is_askable(weights: Weights, shape: Shape, s: Coords, d: Coords, len: usize, at: usize) -> bool
+pub fn is_askable(
+    weights: Weights,
+    shape: Shape,
+    s: Coords,
+    d: Coords,
+    len: usize,
+    at: usize,
+) -> bool
     ensures { λ r. ⌜ r ≡ askable weights shape s d len at ⌝ }
 {
     let ends = both(is_within(shape, s), is_within(shape, d));

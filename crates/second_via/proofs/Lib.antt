@@ -1,0 +1,4 @@
+pub mod Going
+pub mod Keys
+pub mod Storing
+pub mod Sums
