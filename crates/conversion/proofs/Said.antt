@@ -1,6 +1,6 @@
 -- What an entry says, by the code's enum, and where its legs end.
 use Prim.Native.Nat.{ℕ, zero, suc, _/_, _<_}
-use mathlib.Core.Path.{_≡_, refl, sym, ap, _∙_}
+use mathlib.Core.Path.{_≡_, refl, ap, _∙_}
 use mathlib.Core.Bool.{Bool, true, not}
 use lib.Dec.{eqb}
 use Rattle.numbers.specs.Numbers.{noClearChoice}
@@ -14,7 +14,7 @@ use Rattle.machine.proofs.Nodes.{node-of}
 use Rattle.packet.specs.declared.route.Route.{Route}
 use Rattle.packet.specs.New.{legsTo}
 use Rattle.choice.specs.declared.outcome.Outcome.{Outcome}
-use Rattle.choice.specs.Answer.{Answer, Given, Refused}
+use Rattle.choice.specs.Answer.{Given, Refused}
 use Rattle.choice.specs.Outcome.{toldAs}
 use Rattle.routes.specs.declared.layout.Entry.{Entry}
 use Rattle.routes.specs.Said.{saidWith, saidBy, heard}

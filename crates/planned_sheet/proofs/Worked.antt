@@ -1,6 +1,6 @@
 -- Planning from node 0 of machine W writes the sheet of the documents, byte by byte. Of each destination little is computed, and laws do the rest: the
 -- choices of up to two vias are many.
-use Prim.Native.Nat.{ℕ, zero, suc, _<_}
+use Prim.Native.Nat.{ℕ, suc, _<_}
 use native.Mathlib.Omega.{arith}
 use mathlib.Core.Path.{_≡_, refl, sym, ap, _∙_}
 use mathlib.Core.Bool.{true, false}
@@ -40,7 +40,7 @@ use Rattle.routes.specs.Kinds.{bitsOf, kindOf}
 use Rattle.routes.specs.Said.{entryFor, heard}
 use Rattle.route_value.specs.Writing.{headBytes, sheetBytes}
 use Rattle.route_value.specs.Worked.{sheetW}
-use Rattle.planned_sheet.specs.Sheet.{lists, entriesFrom, plannedSheet}
+use Rattle.planned_sheet.specs.Sheet.{entriesFrom, plannedSheet}
 use Rattle.planned_sheet.proofs.Planning.{Source, pair-alive}
 use Rattle.planned_sheet.proofs.Unlisted.{directClear, unclear-listed, clear-unlisted}
 use Rattle.planned_sheet.proofs.Listing.{entry-is}

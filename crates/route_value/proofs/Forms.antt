@@ -1,10 +1,10 @@
 -- An entry in its seven bytes.
-use Prim.Native.Nat.{ℕ, suc, _+_, _*_, _≤_, _<_}
+use Prim.Native.Nat.{ℕ, suc, _+_, _≤_, _<_}
 use native.Mathlib.Numerals.{add-one}
 use native.Mathlib.Omega.{arith}
-use mathlib.Core.Path.{_≡_, refl, sym, ap, _∙_}
+use mathlib.Core.Path.{_≡_, refl, ap, _∙_}
 use mathlib.Core.List.{List, [], _∷_, _++_}
-use lib.ListN.{length, take, drop, set, take-append-drop}
+use lib.ListN.{length, take, drop, set}
 use lib.Seq.{sets, sets-eq, length-sets, getD-append-add, drop-set-lt}
 use Rattle.sheet.specs.Bytes.{byte, AreBytes, upperByte, lowerByte, listFrom}
 use Rattle.sheet.specs.Records.{recordsBytes}

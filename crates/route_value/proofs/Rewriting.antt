@@ -2,21 +2,20 @@
 use Prim.Native.Nat.{ℕ, _+_, _<_}
 use native.Mathlib.Omega.{arith}
 use mathlib.Core.Path.{_≡_, refl, sym, ap, _∙_}
-use mathlib.Core.Bool.{true}
 use mathlib.Core.List.{List, _∷_, _++_}
-use lib.ListN.{length, take}
+use lib.ListN.{take}
 use lib.Dec.{eqb}
 use Rattle.theory.proofs.Cases.{test}
 use Rattle.sheet.specs.Bytes.{byte, AreBytes, upperByte, lowerByte, wordBytes, listFrom}
 use Rattle.sheet.specs.Head.{version}
-use Rattle.sheet.proofs.Records.{word-below, from-length, array-first, array-from, front}
+use Rattle.sheet.proofs.Records.{word-below, array-first, array-from, front}
 use Rattle.sheet.proofs.Heads.{word-same, front-same}
 use Rattle.sheet.proofs.Forms.{records-same}
 use Rattle.plan.specs.Layout.{shapeOf}
 use Rattle.plan.specs.Checks.{Limits}
 use Rattle.routes.specs.declared.layout.Format.{Format}
 use Rattle.routes.specs.Layout.{EntryFits, formatOf, formatBy, written, source, entryCount, entriesAt, entryPlace, entryForm, secondVia, entryRead, entryAt, entriesOf, sizeAfter, noEntry, mostEntries}
-use Rattle.routes.specs.Checks.{routesGood, sheetError}
+use Rattle.routes.specs.Checks.{sheetError}
 use Rattle.routes.specs.Lookup.{lookupError}
 use Rattle.routes.specs.Says.{says}
 use Rattle.routes.proofs.Sheets.{own-entries, Head, Accepted, accepted}

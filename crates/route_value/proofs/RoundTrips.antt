@@ -29,7 +29,7 @@ use Rattle.routes.proofs.Sheets.{accepted}
 use Rattle.routes.proofs.Rising.{AllFit, routed}
 use Rattle.route_value.specs.declared.reading.Routes.{Routes}
 use Rattle.route_value.specs.declared.reading.Reading.{Reading}
-use Rattle.route_value.specs.Reading.{routesOf, reading}
+use Rattle.route_value.specs.Reading.{reading}
 use Rattle.route_value.specs.Writing.{headBytes, sheetBytes, routeEntries, sheetOf, rewritten, backError}
 use Rattle.route_value.specs.Value.{Fits, routesWith, cleared}
 use Rattle.route_value.specs.Worked.{sheetW, secondW, secondAgain}

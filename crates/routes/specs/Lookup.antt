@@ -1,5 +1,5 @@
 -- Looking up a destination gives the entry as the very bytes of the lent sheet: seven of version 3, five of version 2.
-use Prim.Native.Nat.{ℕ, _+_, _*_}
+use Prim.Native.Nat.{ℕ, _+_}
 use mathlib.Core.Path.{_≡_}
 use mathlib.Core.Bool.{Bool, not, cond, _&&_}
 use mathlib.Core.List.{List, [], _∷_}

@@ -1,7 +1,7 @@
 -- What an entry says of its destination, and the entry that says it.
 use Prim.Native.Nat.{ℕ, zero, suc, _/_, _%_}
 use mathlib.Core.Bool.{cond}
-use mathlib.Core.List.{List, [], _∷_}
+use mathlib.Core.List.{[], _∷_}
 use lib.ListN.{getD}
 use lib.Dec.{eqb}
 use Rattle.machine.specs.declared.leg.Mode.{Mode}

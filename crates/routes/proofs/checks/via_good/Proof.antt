@@ -1,4 +1,3 @@
-use borrow.Author.Tests.{not-true, not-false}
 use mathlib.Core.Path.{sym, _∙_}
 use Rattle.routes.specs.Checks.{viaGood}
 use borrow.Author.Needs.{needs}
