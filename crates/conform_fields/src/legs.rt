@@ -1,4 +1,4 @@
-// Legs as text: `target:mode,target:mode`.
+// Legs as text: `target:mode,target:mode`, up to three.
 use machine::leg::Mode;
 use packet::Route;
 use text::decimal;
@@ -29,5 +29,10 @@ pub fn put_route(out: &mut [u8], at: usize, dest: u16, route: Route) -> usize {
     match route {
         Route::Direct(mode) => put_leg(out, at, dest, mode),
         Route::Via(via, first, second) => put_two(out, at, via, first, dest, second),
+        Route::Vias(via, further, first, second, third) => {
+            let legs = put_two(out, at, via, first, further, second);
+            let comma = put::byte(out, legs, b',');
+            put_leg(out, comma, dest, third)
+        }
     }
 }
