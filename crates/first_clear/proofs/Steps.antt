@@ -140,3 +140,6 @@ module _ (p : List ℕ) (s : Shape) (S D len bx by bz : ℕ) (fa : List ℕ) (st
 
 pub given-near : (p : List ℕ) (S D : ℕ) (r : Outcome) → isGiven r ≡ true → r ≡ routeTold p S D → Near p S D r
 given-near p S D r e is = record { given = λ _. is; none = λ f. absurd (true≢false (sym e ∙ f)) }
+
+pub given-by : (p : List ℕ) (S D : ℕ) (r : Outcome) (b : Bool) → b ≡ isGiven r → b ≡ true → r ≡ routeTold p S D → Near p S D r
+given-by p S D r b e y is = given-near p S D r (sym e ∙ y) is

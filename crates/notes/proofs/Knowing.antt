@@ -13,7 +13,7 @@ use Rattle.shape.specs.declared.shape.Shape.{Shape}
 use Rattle.shape.specs.declared.shape.Coords.{Coords}
 use Rattle.shape.specs.declared.shape.Dim.the-variants.{X, Y, Z}
 use Rattle.shape.specs.Shape.{shapeError}
-use Rattle.shape.proofs.Shapes.{sound}
+use Rattle.shape.proofs.Shapes.{sound, count-most}
 use Rattle.machine.specs.declared.leg.Mode.{Mode}
 use Rattle.machine.specs.declared.leg.Mode.the-variants.{Adaptive, Deterministic}
 use Rattle.machine.specs.Number.{nodeCount, coordsOf, Inside}
@@ -41,6 +41,10 @@ weights-ok p h = accepted torusPlans large p h .weights
 
 pub shape-ok : (p : List ℕ) → planError large p ≡ 0 → shapeError (shapeOf p) ≡ 0
 shape-ok p h = accepted torusPlans large p h .shape
+
+pub nodes-few : (s : Shape) → shapeError s ≡ 0 → nodeCount s ≤ 4096
+unfolding nodeCount
+nodes-few s h = count-most s h
 
 -- The largest number of 16 bits has every bit.
 pub all-bits : (x : ℕ) → x < 16 → bit 65535 x ≡ true
