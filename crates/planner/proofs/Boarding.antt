@@ -28,9 +28,8 @@ use Rattle.planned_sheet.specs.Sheet.{sourceError, plannedSheet}
 use Rattle.notes.specs.Known.{OfPlan, IsAt}
 use Rattle.planner.specs.Known.{Work, Prepared, Listed}
 use Rattle.planner.specs.Steps.{stepOf, Boarded}
-use Rattle.notes.proofs.Knowing.{shape-ok}
+use Rattle.notes.proofs.Knowing.{shape-ok, nodes-few}
 use Rattle.planner.proofs.Destination.{dead-byte}
-use Rattle.notes.proofs.OnWays.{nodes-few}
 use Rattle.notes.proofs.Destination.{gathered-at}
 use Rattle.planner.proofs.Filling.{at-coords}
 use Rattle.planned_sheet.proofs.Planning.{Source, source-of, no-error}
