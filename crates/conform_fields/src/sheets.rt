@@ -11,8 +11,8 @@ use text::hex::Count;
 // The longest plan sheet that a case gives: one of version 2 with 256 faults has 780 bytes.
 pub const PLAN_BYTES: usize = 1024;
 
-// The longest route sheet that a case gives: one of 4,095 entries has 20,482 bytes.
-pub const ROUTE_BYTES: usize = 20544;
+// The longest route sheet that a case gives: one of 4,095 entries has 28,672 bytes.
+pub const ROUTE_BYTES: usize = 28736;
 
 // Reads the field `plan=` into the front of `bytes`.
 pub fn read_plan(line: &[u8], bytes: &mut [u8]) -> Count {
