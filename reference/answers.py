@@ -11,8 +11,8 @@
 import reference as ref
 import vectors
 
-STAGE = ref.E4                 # the last change request that has landed
-SHEET_BYTES = 20482            # the largest route sheet
+STAGE = ref.E5                 # the last change request that has landed
+SHEET_BYTES = 28672            # the largest route sheet
 
 
 def raw(text):
