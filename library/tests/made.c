@@ -578,10 +578,10 @@ nafthurm_packet good_packet(nafthurm_shape s) {
 }
 
 nafthurm_packet hurt_packet(nafthurm_shape s, nafthurm_packet packet) {
-    int way = packet.left == 0 ? ONE_OF(0, 1) : ONE_OF(0, 1, 2, 3);
+    int way = packet.left == 0 ? ONE_OF(0, 1) : ONE_OF(0, 1, 2, 3), left = packet.left < MOST_LEGS ? packet.left : MOST_LEGS;
     if (way == 0) packet.node = outside(nodes_of(s));
     else if (way == 1) packet.left = (uint8_t)ONE_OF(4, 4, 5, 128, 255);
-    else packet.legs[MOST_LEGS - 1 - below(packet.left)].target = outside(nodes_of(s));
+    else packet.legs[MOST_LEGS - 1 - (int)below((uint32_t)left)].target = outside(nodes_of(s));
     return packet;
 }
 

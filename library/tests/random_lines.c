@@ -128,7 +128,7 @@ static void lookup_line(void) {
 }
 
 static void pair_line(void) {
-    nafthurm_shape s = small_plan(36, 10);
+    nafthurm_shape s = small_plan(64, 10);
     ends e = some_ends(s);
     say("pair");
     say_plan();
@@ -136,14 +136,14 @@ static void pair_line(void) {
 }
 
 static void sheet_line(void) {
-    nafthurm_shape s = small_plan(16, 10);
+    nafthurm_shape s = small_plan(24, 10);
     say("sheet");
     say_plan();
     say(" source=%d room=%d", any_node(nodes_of(s)), ONE_OF(0, 7, 14, 40, 80, 112, 400));
 }
 
 static void listing_line(void) {
-    nafthurm_shape s = small_plan(16, 20);
+    nafthurm_shape s = small_plan(24, 20);
     bytes source = {.size = 2};
     put_word(&source, 0, any_node(nodes_of(s)));
     say("listing input=");
@@ -178,8 +178,8 @@ static void make_line(void) {
     case 0: pair_line(); break;
     case 1: sheet_line(); break;
     case 2: listing_line(); break;
-    case 3: run_line("run", 36); break;
-    case 4: run_line("sheetrun", 16); break;
+    case 3: run_line("run", 64); break;
+    case 4: run_line("sheetrun", 32); break;
     case 5: lookup_line(); break;
     case 6: route_line("back", SHEET_VERSION), say_room(); break;
     case 7: route_line("convert", OLD_VERSION), say_room(); break;
