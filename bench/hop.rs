@@ -2,16 +2,16 @@
 //! not, and in plain Rust that counts the hops left as it does itself. In one run; it ends with a message where an answer differs.
 mod plain;
 mod random;
-use plain::{Divides, Ending, Leg, Mode, Packet, Shape, Subtracts};
+use plain::{Divides, Ending, Leg, Mode, Packet, Shape, Subtracts, MOST_LEGS};
 use random::Random;
 use std::hint::black_box;
 use std::time::Instant;
 
 extern "C" {
     #[allow(clippy::too_many_arguments)]
-    fn nafthurm_step(x: u8, y: u8, z: u8, wrap: u8, node: u16, via: u16, target: u16, first: u8, second: u8, dir: u8) -> u32;
+    fn nafthurm_step(x: u8, y: u8, z: u8, wrap: u8, node: u16, via: u16, further: u16, target: u16, modes: u8, dir: u8) -> u32;
     #[allow(clippy::too_many_arguments)]
-    fn nafthurm_walk(x: u8, y: u8, z: u8, wrap: u8, node: u16, via: u16, target: u16, first: u8, second: u8, dirs: *const u8, len: usize) -> u64;
+    fn nafthurm_walk(x: u8, y: u8, z: u8, wrap: u8, node: u16, via: u16, further: u16, target: u16, modes: u8, dirs: *const u8, len: usize) -> u64;
 }
 
 struct Case {
@@ -19,17 +19,17 @@ struct Case {
     dirs: Vec<u8>,
 }
 
-/// A walk by allowed hops, at random, from a node over a via to a target.
+/// A walk by allowed hops, at random, from a node over two vias to a target.
 fn case(random: &mut Random, shape: &Shape, mode: Mode) -> Case {
     let node = |random: &mut Random| random.below(4096) as u16;
     let leg = |random: &mut Random| Leg { target: node(random), mode };
-    let packet = Packet { node: node(random), legs: [leg(random), leg(random)], left: 2 };
+    let packet = Packet { node: node(random), legs: [leg(random), leg(random), leg(random)], left: 3 };
     let mut dirs = vec![];
     let mut at = packet.node;
     for leg in packet.legs {
         while at != leg.target {
             let dir = random.below(6) as u8;
-            let (after, number) = Packet { node: at, legs: [leg, leg], left: 1 }.step::<Divides>(shape, dir);
+            let (after, number) = Packet { node: at, legs: [leg; MOST_LEGS], left: 1 }.step::<Divides>(shape, dir);
             if number == 0 {
                 dirs.push(dir);
                 at = after.node;
@@ -39,14 +39,15 @@ fn case(random: &mut Random, shape: &Shape, mode: Mode) -> Case {
     Case { packet, dirs }
 }
 
-fn is_deterministic(leg: Leg) -> u8 {
-    (leg.mode == Mode::Deterministic) as u8
+/// A bit for each deterministic leg, leg one lowest.
+fn modes(legs: [Leg; MOST_LEGS]) -> u8 {
+    legs.iter().rev().fold(0, |bits, leg| 2 * bits + (leg.mode == Mode::Deterministic) as u8)
 }
 
 /// The node after a step, and 65,536 for each unit of the refusal's number.
 fn proved_step(shape: &Shape, p: &Packet, dir: u8) -> u32 {
-    let ([x, y, z], [first, second]) = (shape.extents, p.legs);
-    unsafe { nafthurm_step(x, y, z, shape.wrap, p.node, first.target, second.target, is_deterministic(first), is_deterministic(second), dir) }
+    let ([x, y, z], [first, second, third]) = (shape.extents, p.legs.map(|leg| leg.target));
+    unsafe { nafthurm_step(x, y, z, shape.wrap, p.node, first, second, third, modes(p.legs), dir) }
 }
 
 fn step_word((packet, number): (Packet, u8)) -> u32 {
@@ -55,10 +56,8 @@ fn step_word((packet, number): (Packet, u8)) -> u32 {
 
 /// The hops of a walk, and 65,536 for each unit of the node's number that it ends at.
 fn proved_walk(shape: &Shape, p: &Packet, dirs: &[u8]) -> u64 {
-    let ([x, y, z], [first, second]) = (shape.extents, p.legs);
-    unsafe {
-        nafthurm_walk(x, y, z, shape.wrap, p.node, first.target, second.target, is_deterministic(first), is_deterministic(second), dirs.as_ptr(), dirs.len())
-    }
+    let ([x, y, z], [first, second, third]) = (shape.extents, p.legs.map(|leg| leg.target));
+    unsafe { nafthurm_walk(x, y, z, shape.wrap, p.node, first, second, third, modes(p.legs), dirs.as_ptr(), dirs.len()) }
 }
 
 fn walk_word((packet, hops, _): (Packet, usize, Ending)) -> u64 {

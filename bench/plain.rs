@@ -13,10 +13,12 @@ pub struct Leg {
     pub mode: Mode,
 }
 
+pub const MOST_LEGS: usize = 3;
+
 #[derive(Clone, Copy)]
 pub struct Packet {
     pub node: u16,
-    pub legs: [Leg; 2],
+    pub legs: [Leg; MOST_LEGS],
     pub left: u8,
 }
 
@@ -189,7 +191,7 @@ impl Course {
         true
     }
 
-    fn packet(&self, shape: &Shape, legs: [Leg; 2]) -> Packet {
+    fn packet(&self, shape: &Shape, legs: [Leg; MOST_LEGS]) -> Packet {
         let at = [0, 1, 2].map(|d| shape.before(d, self.to[d], [self.ways[2 * d], self.ways[2 * d + 1]]));
         Packet { node: shape.number(at), legs, left: self.left }
     }
@@ -197,7 +199,7 @@ impl Course {
 
 impl Packet {
     fn front(&self) -> Leg {
-        self.legs[2 - self.left as usize]
+        self.legs[MOST_LEGS - self.left as usize]
     }
 
     fn drops(mut self) -> Packet {
@@ -212,11 +214,11 @@ impl Packet {
         if error != 0 {
             return error;
         }
-        if self.left > 2 {
+        if self.left as usize > MOST_LEGS {
             return 14;
         }
         let nodes = shape.nodes();
-        let legs = &self.legs[2 - self.left as usize..];
+        let legs = &self.legs[MOST_LEGS - self.left as usize..];
         if self.node >= nodes || legs.iter().any(|l| l.target >= nodes) {
             return 14;
         }

@@ -18,9 +18,9 @@
  *
  * The checks of a plan are 1 to 6, 16, and then 7 and 8 fault by fault, in this order.
  *
- * Directions are 0 X+, 1 X-, 2 Y+, 3 Y-, 4 Z+, 5 Z-. Kinds of routes, as in a route sheet and in the listing:
- *   0 direct adaptive, 1 direct deterministic, and by a via 2 both legs adaptive, 3 adaptive then deterministic, 4 deterministic then adaptive,
- *   5 both deterministic.
+ * Directions are 0 X+, 1 X-, 2 Y+, 3 Y-, 4 Z+, 5 Z-. The kind of a route, as in a route sheet of version 3 and in the listing, is 16 times its vias plus a
+ * bit for each deterministic leg, leg one lowest: 0 direct adaptive, 1 direct deterministic, 16 to 19 by a via, 32 to 39 by two. 160 is a dead destination,
+ * 176 no clear choice.
  *
  * An adaptive leg may take any hop that brings it nearer to its target. A deterministic leg takes the first of X, Y, Z where the coordinates differ, the
  * shorter way; at exactly half a ring it goes plus from an even coordinate of that dimension and minus from an odd one.
@@ -38,8 +38,8 @@ extern "C" {
 
 /* The largest plan sheet has 256 faults, the largest route sheet 4,095 entries. An output of as many bytes as the largest is never refused with 12. */
 #define NAFTHURM_PLAN_BYTES 780
-#define NAFTHURM_SHEET_BYTES 20482
-#define NAFTHURM_LISTING_BYTES 65550
+#define NAFTHURM_SHEET_BYTES 28672
+#define NAFTHURM_LISTING_BYTES 94222
 
 /* The workspace of nafthurm_all_sheets: so many words of 16 bits a board of the plan; the largest plan has 4,096 boards. */
 #define NAFTHURM_ALL_WORDS_A_BOARD 512
@@ -95,14 +95,17 @@ typedef struct {
     size_t size;
 } nafthurm_part;
 
-/* A route, if number is 0: its kind, 0 to 5, and its via, 0 for kinds 0 and 1. If not, kind is the number once more, and via is 0: read number first. */
+/*
+ * A route, if number is 0: its kind, and its vias in the order in which they are met, an absent one 0. If not, kind is 160 with 10, 176 with 11, else 255, and
+ * the vias are 0: read number first.
+ */
 typedef struct {
     uint8_t number;
     uint8_t kind;
-    uint16_t via;
+    uint16_t via[2];
 } nafthurm_route;
 
-/* A planned route and its length, the sum of the weights of its hops, at most 720; 0 where it is refused. */
+/* A planned route and its length, the sum of the weights of its hops, at most 1,080; 0 where it is refused. */
 typedef struct {
     nafthurm_route route;
     uint16_t length;
@@ -115,12 +118,12 @@ typedef struct {
 } nafthurm_leg;
 
 /*
- * A packet: its present node and the legs left, which are the last `left` of the array, in the order in which they are gone: with left 1 that is legs[1].
+ * A packet: its present node and the legs left, which are the last `left` of the array, in the order in which they are gone: with left 1 that is legs[2].
  * With left 0 it has arrived. A board may store and send it as it likes; no other byte of it counts. Steps and walks change node and left only.
  */
 typedef struct {
     uint16_t node;
-    nafthurm_leg legs[2];
+    nafthurm_leg legs[3];
     uint8_t left;
 } nafthurm_packet;
 
@@ -169,7 +172,7 @@ nafthurm_written nafthurm_plan_write_back(const uint8_t *plan, size_t plan_size,
 /* The route from the source to the destination: the checks of a plan, then 9, 10, 11. */
 nafthurm_planned nafthurm_pair(const uint8_t *plan, size_t plan_size, uint16_t source, uint16_t destination);
 
-/* The route sheet of every destination from the source, in version 2, into out: the checks of a plan, then 9, 10, 12. Bytes of out past the sheet are untouched. */
+/* The route sheet of every destination from the source, in version 3, into out: the checks of a plan, then 9, 10, 12. Bytes of out past the sheet are untouched. */
 nafthurm_written nafthurm_write_sheet(const uint8_t *plan, size_t plan_size, uint16_t source, uint8_t *out, size_t out_size);
 
 /*
@@ -194,8 +197,8 @@ nafthurm_written nafthurm_write_sheet(const uint8_t *plan, size_t plan_size, uin
 nafthurm_run nafthurm_all_sheets(const uint8_t *plan, size_t plan_size, uint16_t from, uint16_t *work, size_t work_words, uint8_t *out, size_t out_size);
 
 /*
- * The listing of a two-byte source and a plan sheet, as text in lines: source, node count, fault count; then of each node destination, kind, via or `-`,
- * length or `-`. Where the checks of a plan, 9 or 10 decline the input, the text is the line `refused` and the number. So the number that this call gives is
+ * The listing of a two-byte source and a plan sheet, as text in lines: source, node count, fault count; then of each node destination, kind, two vias, each `-` if
+ * absent, length or `-`. Where the checks of a plan, 9 or 10 decline the input, the text is the line `refused` and the number. So the number that this call gives is
  * 12 or 0. No zero byte ends the text. Bytes of out past it are untouched.
  */
 nafthurm_written nafthurm_listing(const uint8_t *input, size_t input_size, uint8_t *out, size_t out_size);
@@ -203,20 +206,24 @@ nafthurm_written nafthurm_listing(const uint8_t *input, size_t input_size, uint8
 /* ---- Route sheets; they answer from the sheet alone and never judge its routes against the plan's faults ---- */
 
 /*
- * Version 2 alone is read; any other is 13. A version 1 sheet has the same layout, but its deterministic legs went plus at every half ring: nafthurm_convert,
- * which reads version 1 alone, makes version 2 of it where that keeps its walks.
+ * Versions 3 and 2 are read; any other is 13. Version 2 has entries of five bytes, with one via, and other kinds: 2, 3, 4, 5 for 16, 18, 17, 19, 10 for 160 and
+ * 11 for 176. A version 1 sheet has version 2's layout, but its deterministic legs went plus at every half ring: nafthurm_convert, which reads version 1 alone,
+ * makes version 2 of it where that keeps its walks.
  */
 
 /* The checks of the plan, then 13 of the sheet: the number of the first that declines, or 0. */
 uint8_t nafthurm_sheet_check(const uint8_t *plan, size_t plan_size, const uint8_t *sheet, size_t sheet_size);
 
-/* The sheet as it is, into out: the same checks, then 12. Bytes of out past the sheet are untouched. */
+/*
+ * The sheet in version 3, into out: the same checks, then 12. A version 3 sheet comes back as the same bytes, one of version 2 with the same routes, two bytes
+ * longer an entry. Bytes of out past the sheet are untouched.
+ */
 nafthurm_written nafthurm_sheet_write_back(const uint8_t *plan, size_t plan_size, const uint8_t *sheet, size_t sheet_size, uint8_t *out, size_t out_size);
 
-/* The five bytes of the destination's entry. Empty, at the sheet's start, if the destination is not listed or the lookup is declined. */
+/* The bytes of the destination's entry, seven of version 3, five of version 2. Empty, at the sheet's start, if the destination is not listed or the lookup is declined. */
 nafthurm_part nafthurm_lookup(const uint8_t *plan, size_t plan_size, const uint8_t *sheet, size_t sheet_size, uint16_t destination);
 
-/* The destination's route: the checks of a plan, 13, then 9; 10 or 11 for an entry of that kind. A destination that is not listed is direct and adaptive. */
+/* The destination's route: the checks of a plan, 13, then 9; 10 or 11 for an entry without a route. A destination that is not listed is direct and adaptive. */
 nafthurm_route nafthurm_lookup_route(const uint8_t *plan, size_t plan_size, const uint8_t *sheet, size_t sheet_size, uint16_t destination);
 
 /*
@@ -235,8 +242,8 @@ nafthurm_converted nafthurm_convert(const uint8_t *plan, size_t plan_size, const
  */
 
 /*
- * The new packet of a route that nafthurm_pair or nafthurm_lookup_route gave: at the source with all the route's legs left. Of a refused route, or a kind above
- * 5, a packet with left 255, which every check, step and walk refuses with 14.
+ * The new packet of a route that nafthurm_pair or nafthurm_lookup_route gave: at the source with all the route's legs left. Of a refused route, or a kind of
+ * 48 or more, a packet with left 255, which every check, step and walk refuses with 14. Of any other kind as many vias count as it has sixteens.
  */
 nafthurm_packet nafthurm_new_packet(uint16_t source, uint16_t destination, nafthurm_route route);
 

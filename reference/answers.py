@@ -8,11 +8,25 @@
   lost      plan= sheet= => number= entry=           the converter's number with room enough; with 17 the first entry that cannot be kept,
                                                      counted from 0, else 0
 """
+import functools
+
 import reference as ref
 import vectors
 
-STAGE = ref.E4                 # the last change request that has landed
-SHEET_BYTES = 20482            # the largest route sheet
+STAGE = ref.E5                 # the last change request that has landed
+SHEET_BYTES = 28672            # the largest route sheet
+
+ref.LITERAL_NODES = 12         # larger plans are searched by length, with the same answer, since that is quicker
+
+plan_pair = functools.lru_cache(maxsize=None)(ref.plan_pair)
+
+
+def planned_once(stage, sheet, source, destination, limits=ref.LARGE):
+    """A pair of a plan, which several lines ask for, is planned once."""
+    return plan_pair(stage, bytes(sheet), source, destination, limits)
+
+
+ref.plan_pair = planned_once
 
 
 def raw(text):

@@ -17,25 +17,26 @@ import conversions
 import reference as ref
 import ties
 import vectors
+import vias
 import weighed
 from answers import STAGE
-from lines import W, declined_plans, line, of_version, plan_of, plan_write, routes_of
+from lines import W, declined_plans, line, of_version, plan_of, plan_write, routes_of, sheet_from
 
 SEED = '1'
 VECTORS = {'step': 400, 'walk': 400, 'plan': 500, 'planback': 300, 'pair': 500, 'sheet': 200, 'lookup': 350, 'back': 200, 'convert': 150, 'run': 300,
            'sheetrun': 250, 'listing': 150}
 PLANS = 80                     # plan sheets for dead, masks, weights and planwrite
-RARE = 30                      # pairs whose route is of a kind that the vectors seldom have
 LARGE = 36                     # machines of more nodes than the vectors plan on
 LINE_BYTES = 131072            # conform's line buffer
 
 
 # ---- What the documents say: (line, answer)
 
-W_ROUTES = bytes.fromhex('02002c00000008 0001030003 0002020003 0005020004 0006020003 0009020004 000a020003 000d02000c 000e020003')
+W_ROUTES = bytes.fromhex('03003c00000008 00012000030002 00021000030000 00051000040000 00061000030000 00091000040000 000a1000030000 000d10000c0000 000e1000030000')
+W_SECOND = bytes.fromhex('02002c00000008 0001030003 0002020003 0005020004 0006020003 0009020004 000a020003 000d02000c 000e020003')
 W_OLD = bytes.fromhex('01002c00000008 0001030004 0002020003 0005020004 0006020003 0009020004 000a020003 000d02000c 000e020003')
-W_LISTING = ('0 0 - 0 / 1 3 3 3 / 2 2 3 2 / 3 0 - 1 / 4 0 - 1 / 5 2 4 2 / 6 2 3 3 / 7 0 - 2 / 8 0 - 2 / 9 2 4 3 / 10 2 3 4 / 11 0 - 3 / '
-             '12 0 - 1 / 13 2 12 2 / 14 2 3 3 / 15 0 - 2')
+W_LISTING = ('0 0 - - 0 / 1 32 3 2 3 / 2 16 3 - 2 / 3 0 - - 1 / 4 0 - - 1 / 5 16 4 - 2 / 6 16 3 - 3 / 7 0 - - 2 / 8 0 - - 2 / 9 16 4 - 3 / 10 16 3 - 4 / '
+             '11 0 - - 3 / 12 0 - - 1 / 13 16 12 - 2 / 14 16 3 - 3 / 15 0 - - 2')
 
 
 def worked():
@@ -44,13 +45,24 @@ def worked():
     yield from worked_rows()
     yield from worked_conversions()
     yield line('listing', input=ref.two(0) + W), 'text=' + vectors.listing_text('0 16 1\n' + W_LISTING.replace(' / ', '\n') + '\n')
-    for room, answer in ((47, 'number=0 size=47 out=' + W_ROUTES.hex()), (46, 'number=12 size=0 out=' + 46 * 'ee'),
-                         (50, 'number=0 size=47 out=' + W_ROUTES.hex() + 'eeeeee'), (0, 'number=12 size=0 out=-')):
+    for room, answer in ((63, 'number=0 size=63 out=' + W_ROUTES.hex()), (62, 'number=12 size=0 out=' + 62 * 'ee'),
+                         (66, 'number=0 size=63 out=' + W_ROUTES.hex() + 'eeeeee'), (0, 'number=12 size=0 out=-')):
         yield line('sheet', plan=W, source=0, room=room), answer
         yield line('back', plan=W, sheet=W_ROUTES, room=room), answer
-    for destination, answer in ((1, 'part=7:12 number=0 source=0 legs=3:A,1:D'), (14, 'part=42:47 number=0 source=0 legs=3:A,14:A'),
+    for destination, answer in ((1, 'part=7:14 number=0 source=0 legs=3:A,2:A,1:A'), (14, 'part=56:63 number=0 source=0 legs=3:A,14:A'),
                                 (3, 'part=0:0 number=0 source=0 legs=3:A'), (0, 'part=0:0 number=0 source=0 legs=0:A'), (16, 'part=0:0 number=9')):
         yield line('lookup', plan=W, sheet=W_ROUTES, destination=destination), answer
+    yield from worked_second()
+
+
+def worked_second():
+    """W's sheet of version 2, of routes of up to two legs: read, and written again as version 3 with the same routes."""
+    again = W_ROUTES.hex().replace('00012000030002', '00011200030000')
+    for room, answer in ((63, 'number=0 size=63 out=' + again), (62, 'number=12 size=0 out=' + 62 * 'ee'), (47, 'number=12 size=0 out=' + 47 * 'ee'),
+                         (64, 'number=0 size=63 out=' + again + 'ee')):
+        yield line('back', plan=W, sheet=W_SECOND, room=room), answer
+    for destination, answer in ((1, 'part=7:12 number=0 source=0 legs=3:A,1:D'), (14, 'part=42:47 number=0 source=0 legs=3:A,14:A'), (3, 'part=0:0 number=0 source=0 legs=3:A')):
+        yield line('lookup', plan=W, sheet=W_SECOND, destination=destination), answer
 
 
 def worked_pairs():
@@ -59,7 +71,7 @@ def worked_pairs():
 
     def direct(node, length):
         return 'number=0 legs=%d:A length=%d' % (node, length)
-    yield of(plan_of([4, 1, 1], 1, (0, 0)), 0, 1, 'number=0 legs=3:A,1:D length=3')
+    yield of(plan_of([4, 1, 1], 1, (0, 0)), 0, 1, 'number=0 legs=3:A,2:A,1:A length=3')
     yield of(plan_of([5, 1, 1], 1, (0, 0)), 0, 1, 'number=0 legs=3:A,1:A length=4')
     yield of(plan_of([2, 1, 1], 0, (0, 0)), 0, 1, 'number=11')
     yield of(plan_of([1, 1, 1], 0, (0, 3)), 0, 0, 'number=10')
@@ -80,10 +92,10 @@ def worked_pairs():
 def worked_rows():
     """The routes from W's node 0, one by one."""
     for row in W_LISTING.split(' / '):
-        node, kind, via, length = row.split()
-        modes = {'0': 'A', '2': 'AA', '3': 'AD'}[kind]
-        legs = ([] if via == '-' else [(via, modes[0])]) + [(node, modes[-1])]
-        yield line('pair', plan=W, source=0, destination=node), 'number=0 legs=%s length=%s' % (','.join('%s:%s' % leg for leg in legs), length)
+        node, kind, *vias, length = row.split()
+        assert kind in ('0', '16', '32')                       # all legs adaptive
+        targets = [via for via in vias if via != '-'] + [node]
+        yield line('pair', plan=W, source=0, destination=node), 'number=0 legs=%s length=%s' % (','.join(target + ':A' for target in targets), length)
 
 
 def worked_conversions():
@@ -91,7 +103,8 @@ def worked_conversions():
     new = '02' + W_OLD.hex()[2:]
     for room, answer in (47, 'number=0 size=47 out=' + new), (46, 'number=12 size=0 out=' + 46 * 'ee'), (48, 'number=0 size=47 out=' + new + 'ee'):
         yield line('convert', plan=W, sheet=W_OLD, room=room), answer
-    yield line('convert', plan=W, sheet=W_ROUTES, room=47), 'number=13 size=0 out=' + 47 * 'ee'
+    for sheet in W_ROUTES, W_SECOND:
+        yield line('convert', plan=W, sheet=sheet, room=63), 'number=13 size=0 out=' + 63 * 'ee'
     yield line('lost', plan=W, sheet=W_OLD), 'number=0 entry=0'
     yield line('lookup', plan=W, sheet=W_OLD, destination=1), 'part=0:0 number=13'
     yield line('lookup', plan=W, sheet=bytes.fromhex(new), destination=1), 'part=7:12 number=0 source=0 legs=4:A,1:D'
@@ -104,7 +117,7 @@ def worked_conversions():
 
 def many_legs():
     """More legs than a packet can hold, where the shape is refused too and where it is not."""
-    for legs in '2:A,3:D,4:A', '1:A,3:D,1:A,65535:D':
+    for legs in '2:A,3:D,4:A,5:A', '1:A,3:D,1:A,65535:D', '1:A,1:A,1:A,1:A':
         for extents, wrap in ('3,3,3', 0), ('3,3,3', 8), ('0,3,3', 0):
             yield line('step', extents=extents, wrap=wrap, packet='1;' + legs, direction=0)
             yield line('walk', extents=extents, wrap=wrap, packet='1;' + legs, run='00')
@@ -179,30 +192,11 @@ def just_outside():
     """Route sheets whose source, destination or via is the first number that is no node, and sheets and listings from there."""
     for routes in routes_of(16, (5, 1, 0)), routes_of(0, (16, 1, 0)), routes_of(0, (5, 2, 16)):
         yield line('lookup', plan=W, sheet=routes, destination=5)
-        yield line('back', plan=W, sheet=routes, room=12)
+        yield line('back', plan=W, sheet=routes, room=14)
     for plan in W, plan_of([4, 4, 1], 3, (15, 3)):
         yield line('sheet', plan=plan, source=16, room=7)
         yield line('sheetrun', plan=plan, source=16, destination=0, calls='-')
         yield line('listing', input=ref.two(16) + plan)
-
-
-def rare():
-    """Pairs with a direct deterministic route, or with two deterministic legs."""
-    rng = random.Random('rare/%s' % SEED)
-    found = {'D': 0, 'DD': 0}
-    while sum(found.values()) < RARE:
-        sheet = vectors.random_plan(rng, STAGE, 20)
-        plan = ref.read_plan(STAGE, sheet)[1]
-        if len(plan.faults) < 3:
-            continue
-        source, destination = vectors.two_nodes(rng, STAGE, sheet)
-        if max(source, destination) >= plan.nodes:
-            continue
-        route = ref.pair_in(STAGE, plan, source, destination)[1]
-        modes = ''.join(mode for _, mode in route.legs) if route else ''
-        if modes in found and found[modes] < RARE // 2:
-            found[modes] += 1
-            yield line('pair', plan=sheet, source=source, destination=destination)
 
 
 def large_machine(rng, weights):
@@ -258,15 +252,15 @@ def large_pairs():
 
 def large_sheets():
     """Sheets and a listing of more than 48 destinations."""
-    for plan, source, room in ((plan_of([16, 8, 1], 3, (5, 0), (40, 3), (100, 1)), 8, 397), (plan_of([16, 1, 8], 0, (20, 2), (66, 0), (100, 3)), 0, 389),
-                               (plan_of([5, 5, 5], 7, (0, 0), (1, 3), (62, 2)), 62, 267), (plan_of([2, 16, 4], 6, (31, 1), (64, 0), (70, 3)), 33, 286),
-                               (plan_of([8, 8, 8], 7, (0, 0), (9, 1), (100, 3)), 0, 1287), (plan_of([16, 16, 2], 3, (0, 0), (17, 1), (300, 3)), 1, 1847),
-                               (plan_of([7, 9, 8], 2, (0, 0), (17, 1), (300, 3)), 1, 727), (plan_of([16, 16, 1], 3, *[(n, 0) for n in range(0, 256, 5)]), 1, 1137)):
-        yield line('sheet', plan=plan, source=source, room=room)
+    for plan, source in ((plan_of([16, 8, 1], 3, (5, 0), (40, 3), (100, 1)), 8), (plan_of([16, 1, 8], 0, (20, 2), (66, 0), (100, 3)), 0),
+                         (plan_of([5, 5, 5], 7, (0, 0), (1, 3), (62, 2)), 62), (plan_of([2, 16, 4], 6, (31, 1), (64, 0), (70, 3)), 33),
+                         (plan_of([8, 8, 8], 7, (0, 0), (9, 1), (100, 3)), 0), (plan_of([16, 16, 2], 3, (0, 0), (17, 1), (300, 3)), 1),
+                         (plan_of([7, 9, 8], 2, (0, 0), (17, 1), (300, 3)), 1), (plan_of([16, 16, 1], 3, *[(n, 0) for n in range(0, 256, 5)]), 1)):
+        yield line('sheet', plan=plan, source=source, room=len(sheet_from(plan, source)))
     yield line('listing', input=ref.two(1000) + plan_of([16, 9, 8], 0, (999, 0)))
 
 
-LACKING = (many_legs, links, plan_cases, refusals, alike, just_outside, rare, large_pairs, large_sheets) + weighed.LACKING + ties.LACKING + conversions.LACKING
+LACKING = (many_legs, links, plan_cases, refusals, alike, just_outside, large_pairs, large_sheets) + weighed.LACKING + ties.LACKING + conversions.LACKING + vias.LACKING
 
 
 # ---- Lines that no call can be made of
@@ -334,13 +328,13 @@ def unreadable_planning():
     for bad in 'source=0', 'destination=1', 'source=65536 destination=0', 'source=0 destination=', 'source=-1 destination=0':
         for operation in 'pair', 'run', 'sheetrun':
             yield '%s %s %s calls=-' % (operation, plan, bad)
-    for bad in 'source=0', 'source=0 room=', 'source=0 room=20545', 'source=x room=50', 'room=50':
+    for bad in 'source=0', 'source=0 room=', 'source=0 room=28737', 'source=x room=50', 'room=50':
         yield 'sheet %s %s' % (plan, bad)
     for bad in '', 'destination=x', 'destination=65536':
         yield 'lookup %s %s %s' % (plan, routes, bad)
     yield 'lookup %s sheet=0 destination=1' % plan
     for operation in 'back', 'convert':
-        for bad in '', 'room=', 'room=20545', 'room=4x':
+        for bad in '', 'room=', 'room=28737', 'room=4x':
             yield '%s %s %s %s' % (operation, plan, routes, bad)
     for operation in 'back', 'convert', 'lost':
         yield '%s %s sheet= room=50' % (operation, plan)
@@ -365,16 +359,17 @@ def long():
         yield answered('step extents=3,3,3 wrap=7 packet=0;13:A direction=4')
     yield padded(2 * LINE_BYTES), 'unreadable'
     cube = plan_of([16, 16, 16], 7)
-    full = vectors.random_route_sheet(random.Random(SEED), STAGE, ref.Shape([16, 16, 16], 7), 2, 4096)
-    for room in 20481, 20482, 20544:
-        yield answered(line('back', plan=cube, sheet=full, room=room))
-    for destination in 0, ref.word(full, 3), 2048, 4095, 4096:
-        yield answered(line('lookup', plan=cube, sheet=full, destination=destination))
-    for at, room in (4095, 20481), (4095, 20544), (4094, 0), (4094, 20482), (0, 20482):
+    for version in 2, 3:
+        full = vectors.random_route_sheet(random.Random(SEED), STAGE, ref.Shape([16, 16, 16], 7), version, 4096)
+        for room in 28671, 28672, 28736:
+            yield answered(line('back', plan=cube, sheet=full, room=room))
+        for destination in 0, ref.word(full, 3), 2048, 4095, 4096:
+            yield answered(line('lookup', plan=cube, sheet=full, destination=destination))
+    for at, room in (4095, 20481), (4095, 28736), (4094, 0), (4094, 20482), (0, 20482):
         yield answered(line('convert', plan=cube, sheet=conversions.full_sheet(at), room=room))
     for operation in 'convert', 'lost':
-        yield answered(line(operation, plan=cube, sheet=bytes(20544), **{'room': 0} if operation == 'convert' else {}))
-        yield line(operation, plan=cube, sheet=bytes(20545), room=0), 'unreadable'
+        yield answered(line(operation, plan=cube, sheet=bytes(28736), **{'room': 0} if operation == 'convert' else {}))
+        yield line(operation, plan=cube, sheet=bytes(28737), room=0), 'unreadable'
 
 
 # ---- The files

@@ -10,7 +10,7 @@ import ties
 import vectors
 import weighed
 from answers import STAGE
-from lines import W, declined_plans, first_way, line, of_version, plan_of, routes_of, runs_on, sheet_from
+from lines import W, declined_plans, first_way, line, of_version, plan_of, room_for, routes_of, runs_on, sheet_from
 
 SEED = '1'
 OLD = ref.E1                   # the last stage with the old rule and with version 1 route sheets
@@ -441,7 +441,7 @@ def said(plan, source, routes):
     for destination in range(read.nodes + 1):
         assert vectors.lookup_answer(OLD, plan, routes, destination, ref.LARGE) == vectors.lookup_answer(STAGE, plan, new, destination, ref.LARGE)
     for sheet in new, routes:
-        yield line('back', plan=plan, sheet=sheet, room=len(sheet))
+        yield line('back', plan=plan, sheet=sheet, room=room_for(sheet))
     for destination in sorted({source, read.nodes, *rng.sample(range(read.nodes), 3)}):
         yield line('lookup', plan=plan, sheet=new, destination=destination)
     yield line('lookup', plan=plan, sheet=routes, destination=rng.randrange(read.nodes))

@@ -18,6 +18,7 @@ from answers import STAGE
 from lines import plan_of
 
 SOURCES = 4
+VERSION = ref.written_version(STAGE)
 
 
 def large_plan(rng):
@@ -54,19 +55,20 @@ def all_sheets(shadows, plan):
 def listing(plan, sheet):
     """The listing's text, from the sheet."""
     source, lines = ref.word(sheet, 3), ['%d %d %d' % (ref.word(sheet, 3), plan.nodes, len(plan.faults))]
-    entries = {entry.destination: entry for entry in ref.read_route_sheet(plan.shape, sheet, [2]).entries}
+    entries = {entry.destination: entry for entry in ref.read_route_sheet(plan.shape, sheet, [VERSION]).entries}
     for destination in range(plan.nodes):
         entry = entries.get(destination)
-        number, legs = ref.entry_answer(2, entry) if entry else (0, ((destination, 'A'),))
-        via = legs[0][0] if legs and len(legs) > 1 else '-'
-        lines.append('%d %d %s %s' % (destination, entry.kind if entry else 0, via, '-' if number else ref.length_of(plan, source, legs)))
+        number, legs = ref.entry_answer(VERSION, entry) if entry else (0, ((destination, 'A'),))
+        vias = [] if number else [target for target, _ in legs[:-1]]
+        fields = vias + ['-'] * (ref.most_vias(STAGE) - len(vias))
+        lines.append(' '.join(map(str, [destination, entry.kind if entry else 0, *fields, '-' if number else ref.length_of(plan, source, legs)])))
     return ''.join(line + '\n' for line in lines)
 
 
 def of_sheet(rng, given, plan, sheet):
     """The vectors of one sheet: (operation, given, wanted)."""
     source = ref.word(sheet, 3)
-    listed = [ref.word(sheet, at) for at in range(7, len(sheet), 5)]
+    listed = [ref.word(sheet, at) for at in range(7, len(sheet), 7)]
     destination = rng.choice(listed) if listed and rng.random() < 0.8 else rng.randrange(plan.nodes)
     yield 'sheet', {'plan': given.hex(), 'source': source, 'room': len(sheet)}, {'number': 0, 'size': len(sheet), 'out': sheet.hex()}
     number, _, legs = ref.lookup_route(STAGE, given, sheet, destination)

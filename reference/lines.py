@@ -18,8 +18,18 @@ def plan_of(extents, wrap, *faults, weights=None):
 
 
 def routes_of(source, *entries):
-    """A route sheet; an entry is (destination, kind, via)."""
+    """A route sheet of version 2; an entry is (destination, kind, via)."""
     return ref.sheet_bytes(2, source, [ref.entry_bytes(2, destination, kind, [via]) for destination, kind, via in entries])
+
+
+def new_routes(source, *entries):
+    """A route sheet of version 3; an entry is (destination, kind, first via, second via), vias that are not told 0."""
+    return ref.sheet_bytes(3, source, [ref.entry_bytes(3, destination, kind, vias) for destination, kind, *vias in entries])
+
+
+def room_for(routes):
+    """The bytes that a good sheet of either version takes in version 3."""
+    return 7 + 7 * ref.word(routes, 5)
 
 
 def of_version(version, routes):

@@ -1,5 +1,5 @@
 """What the vectors lack of ties at half a ring, as lines: deterministic legs from every place of a ring, plans where the rule of ties decides the route, and
-route sheets of other versions than 2."""
+route sheets of every version."""
 import itertools
 import random
 
@@ -8,7 +8,7 @@ import reference as ref
 import vectors
 import weighed
 from answers import STAGE
-from lines import W, declined_plans, first_way, line, of_version, plan_of, routes_of, runs_on, sheet_from
+from lines import W, declined_plans, first_way, line, of_version, plan_of, room_for, routes_of, runs_on, sheet_from
 
 SEED = '1'
 RINGS = 4, 6, 16
@@ -16,6 +16,7 @@ SORTS = 'found', 'lost', 'length', 'kind', 'via'
 DECIDED = {4: 3, 6: 2, 8: 2}   # pairs of each sort on machines with such a ring
 BESIDE = [2, 1], [2, 2], [3, 1], [4, 1]                # the other extents of such a machine
 VERSIONS = 0, 1, 2, 3, 255     # of a route sheet
+RULE = ref.E4                  # the rule of ties, with routes of up to two legs
 
 
 # ---- Packets on rings
@@ -226,16 +227,16 @@ def sort_of(plus, now):
 
 
 def decided():
-    """Pairs that have a route where with plus at every half ring they would have none, and the reverse; and pairs with a route of another length, kind or
-    via."""
+    """Pairs that have a route of up to two legs where with plus at every half ring they would have none, and the reverse; and pairs with such a route of
+    another length, kind or via."""
     rng = random.Random('decided/%s' % SEED)
     for ring, count in DECIDED.items():
         left = {**dict.fromkeys(SORTS, count), None: 0}
         while any(left.values()):
             plan = any_plan(rng, ring)
-            before, now = (ref.read_plan(stage, plan)[1] for stage in (ref.E1, STAGE))
+            before, now = (ref.read_plan(stage, plan)[1] for stage in (ref.E1, RULE))
             for source, destination in some_pairs(rng, now):
-                sort = sort_of(ref.pair_in(ref.E1, before, source, destination)[1], ref.pair_in(STAGE, now, source, destination)[1])
+                sort = sort_of(ref.pair_in(ref.E1, before, source, destination)[1], ref.pair_in(RULE, now, source, destination)[1])
                 if left[sort]:
                     left[sort] -= 1
                     yield from calls_on(plan, source, destination)
@@ -281,10 +282,10 @@ def round_rings():
 def versions():
     """Sheets that are right but for their version: a planned one, one with an entry of each kind, and one without entries. One has entries of seven bytes."""
     every_kind = routes_of(5, (0, 1, 0), (1, 2, 0), (2, 3, 1), (3, 4, 15), (4, 5, 0), (14, 10, 0), (15, 11, 0))
-    for routes, version in itertools.product((sheet_from(W, 0), every_kind, routes_of(15)), VERSIONS):
+    for routes, version in itertools.product((sheet_from(W, 0, RULE), every_kind, routes_of(15)), VERSIONS):
         for destination in 0, 1, 15:
             yield line('lookup', plan=W, sheet=of_version(version, routes), destination=destination)
-        yield line('back', plan=W, sheet=of_version(version, routes), room=len(routes))
+        yield line('back', plan=W, sheet=of_version(version, routes), room=room_for(routes))
     longer = ref.sheet_bytes(3, 0, [ref.entry_bytes(3, 1, 34, [3, 2])])
     for version in VERSIONS:
         yield line('lookup', plan=W, sheet=of_version(version, longer), destination=1)
@@ -293,14 +294,14 @@ def versions():
 
 def old_version():
     """A version 1 sheet that is right in all else: each check of the plan comes before 13, and 13 before 9 and 12."""
-    routes = sheet_from(W, 0)
+    routes = sheet_from(W, 0, RULE)
     old = of_version(1, routes)
     for plan in *declined_plans(), *weighed.declined_plans():
         yield line('lookup', plan=plan, sheet=old, destination=1)
-        yield line('back', plan=plan, sheet=old, room=len(old))
+        yield line('back', plan=plan, sheet=old, room=room_for(old))
     for sheet, destination in itertools.product((old, routes), (15, 16, 65535)):
         yield line('lookup', plan=W, sheet=sheet, destination=destination)
-    for sheet, room in itertools.product((old, routes), (0, 1, len(old) - 1, len(old) + 1)):
+    for sheet, room in itertools.product((old, routes), (0, 1, len(old), room_for(old) - 1, room_for(old) + 1)):
         yield line('back', plan=W, sheet=sheet, room=room)
 
 

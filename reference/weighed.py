@@ -10,7 +10,7 @@ from lines import first_way, line, plan_of, plan_write, runs_on, sheet_from
 SEED = '1'
 EDGES = 0, 1, 8, 9, 255        # of a weight
 OTHER, TIED = 40, 20           # pairs whose route is another than by hops, or as heavy as one of other hops
-FAR = ([14, 6, 16], [8, 7, 8]), ([5, 15, 16], [7, 8, 8]), ([15, 5, 16], [8, 7, 8]), ([16, 16, 16], [8, 8, 8])     # lengths of 511, 512, 513 and 712
+FAR = ([15, 4, 15], [8, 7, 8]), ([10, 11, 9], [8, 8, 8]), ([9, 14, 8], [8, 7, 8]), ([16, 16, 16], [8, 8, 8])      # lengths of 511, 512, 513 and 840
 
 
 # ---- Reading and writing
@@ -172,22 +172,39 @@ def longer_choices():
         yield line('pair', plan=plan, source=step, destination=0)
 
 
-def far_via(extents):
-    """Faults of a mesh under which the one route from (0, 0, 0) to (0, 1, 0) is by the far corner, with both legs deterministic.
-
-    The source is left by X+ alone, its row at its end alone, and the column there at its end alone. The destination is entered from above alone, and of the
-    rows above the row where the column ends, the highest alone goes back."""
-    a, b, c = extents
-    at = ref.Shape(extents, 0).number
-    faults = {(at(x, 0, 0), kind) for x in range(a - 1) for kind in (1, 2)} | {(at(a - 1, y, 0), 2) for y in range(b - 1)}
-    faults |= {(at(a - 2, b - 1, z), 0) for z in range(1, c - 1)} | {(at(0, 1, 0), 0), (at(0, 1, 0), 1)}
+def far_vias(extents):
+    """Two corridors along edges of a mesh, each left and entered at its ends alone: from node 0 in X, Y and Z to the last node, and from the corner beside that,
+    in Y, in X, Y and Z to the end of the first plane's last row. So the one route from the first to that is by these two corners."""
+    shape, last = ref.Shape(extents, 0), [extent - 1 for extent in extents]
+    corners = [[(0, 0, 0), (last[0], 0, 0), (last[0], last[1], 0), tuple(last)], [(last[0], 0, last[2]), (0, 0, last[2]), (0, last[1], last[2]), (0, last[1], 0)]]
+    faults = set()
+    for number, places in enumerate(corners):
+        nodes = [node for start, end in zip(places, places[1:]) for node in between(shape, start, end)] + [shape.number(*places[-1])]
+        inner = nodes[:-1] if number == 0 else nodes[1:]       # the other end is open
+        for node in inner:
+            for direction in range(6):
+                there = shape.neighbour(node, direction)
+                if there is not None and not is_next(nodes, node, there):
+                    faults.add((node if direction % 2 == 0 else there, direction // 2))
     return sorted(faults)
 
 
+def between(shape, start, end):
+    """The nodes from one corner up to the next, without that."""
+    node, to = shape.number(*start), shape.number(*end)
+    while node != to:
+        yield node
+        node = shape.neighbour(node, shape.useful(node, to)[0])
+
+
+def is_next(nodes, one, other):
+    return other in nodes and abs(nodes.index(one) - nodes.index(other)) == 1
+
+
 def long_ways():
-    """Routes by the far corner, and their walks; 712 is the largest length that there is. The other way there is no route."""
+    """Routes by two far corners, and their walks. The other way there is no route."""
     for extents, weights in FAR:
-        plan, end = plan_of(extents, 0, *far_via(extents), weights=weights), extents[0]
+        plan, end = plan_of(extents, 0, *far_vias(extents), weights=weights), extents[0] * (extents[1] - 1)
         yield line('pair', plan=plan, source=0, destination=end)
         yield line('pair', plan=plan, source=end, destination=0)
         route = ref.plan_pair(STAGE, plan, 0, end)[1]
@@ -219,9 +236,9 @@ def snakes():
 
 def large():
     """Sheets and listings of more than 64 destinations."""
-    for plan, source, room in ((plan_of([16, 8, 1], 3, (5, 0), (40, 3), (100, 1), weights=[1, 8, 1]), 8, 397), (plan_of([5, 5, 5], 7, (0, 0), (1, 3), (62, 2), weights=[1, 1, 3]), 62, 267),
-                               (plan_of([6, 4, 8], 7, (0, 0), (9, 1), (100, 3), (180, 2), weights=[2, 3, 5]), 0, 562), (plan_of([16, 1, 8], 0, (20, 2), (66, 0), (100, 3), weights=[8, 1, 8]), 0, 387)):
-        yield line('sheet', plan=plan, source=source, room=room)
+    for plan, source in ((plan_of([16, 8, 1], 3, (5, 0), (40, 3), (100, 1), weights=[1, 8, 1]), 8), (plan_of([5, 5, 5], 7, (0, 0), (1, 3), (62, 2), weights=[1, 1, 3]), 62),
+                               (plan_of([6, 4, 8], 7, (0, 0), (9, 1), (100, 3), (180, 2), weights=[2, 3, 5]), 0), (plan_of([16, 1, 8], 0, (20, 2), (66, 0), (100, 3), weights=[8, 1, 8]), 0)):
+        yield line('sheet', plan=plan, source=source, room=len(sheet_from(plan, source)))
     yield line('listing', input=ref.two(0) + plan_of([16, 5, 4], 0, (0, 0), (200, 3), weights=[8, 8, 8]))
     yield line('listing', input=ref.two(99) + plan_of([8, 6, 5], 7, (99, 2), (100, 0), (120, 3), weights=[1, 4, 8]))
 

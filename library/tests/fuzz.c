@@ -2,8 +2,8 @@
  * fuzz [--seed N] [--count N] [--lines]
  *
  * Hands every call of the library made, damaged and random input, and holds it to what is claimed of every input: no byte outside the lent parts is
- * touched, a refusal changes nothing and has the number that the model says, an accepted sheet is written back as the same bytes, an old one is converted where
- * its walks are the same now, each hop and walk is the model's, a planned route is the model's on small plans, its length is the weight of its hops, and its
+ * touched, a refusal changes nothing and has the number that the model says, an accepted sheet is written back as the same bytes, a route sheet of version 2 as
+ * version 3, an old one is converted where its walks are the same now, each hop and walk is the model's, a planned route is the model's on small plans, its length is the weight of its hops, and its
  * packet, by whatever hops are allowed, arrives after the route's hops without crossing a dead link.
  * --lines prints cases with the library's answers instead, for against-reference.
  */
@@ -17,11 +17,8 @@
 #include <stdlib.h>
 #include <string.h>
 
-/* Plans of at most so many nodes are planned by the model too. */
-enum { MODEL_NODES = 64 };
-
 static lent plan, sheet, out, work, directions;
-static uint64_t inputs, calls, refused, converted, not_kept, hops_taken, arrivals, longest, heaviest;
+static uint64_t inputs, calls, refused, converted, not_kept, hops_taken, arrivals, longest, heaviest, by_two;
 
 /* What the model says of the lent plan: the number, and the plan where that is 0. */
 static uint8_t plan_refused;
@@ -110,7 +107,7 @@ static void one_packet(void) {
 /* The sum of the legs' distances: in hops under weights of 1. */
 static int length_of(nafthurm_shape s, nafthurm_weights w, nafthurm_packet packet) {
     int sum = 0, at = packet.node;
-    for (int leg = 2 - packet.left; leg < 2; leg++) sum += distance(s, w, at, packet.legs[leg].target), at = packet.legs[leg].target;
+    for (int leg = MOST_LEGS - packet.left; leg < MOST_LEGS; leg++) sum += distance(s, w, at, packet.legs[leg].target), at = packet.legs[leg].target;
     return sum;
 }
 
@@ -148,7 +145,7 @@ static void walk_again(nafthurm_shape s, nafthurm_packet first, nafthurm_packet 
 
 /* By allowed hops at random to the end. */
 static void travel(nafthurm_shape s, nafthurm_packet first, uint16_t destination, int sound) {
-    uint8_t taken[128];
+    uint8_t taken[3 * 45 + 1];
     int count = 0, wanted = length_of(s, (nafthurm_weights){1, 1, 1}, first);
     nafthurm_packet packet = first;
     HOLD(nafthurm_packet_check(s, packet) == 0);
@@ -183,7 +180,7 @@ static void try_plan(void) {
 
 /* ---- Planning ---- */
 
-static int same_route(nafthurm_route a, nafthurm_route b) { return a.number == b.number && a.kind == b.kind && a.via == b.via; }
+static int same_route(nafthurm_route a, nafthurm_route b) { return a.number == b.number && a.kind == b.kind && a.via[0] == b.via[0] && a.via[1] == b.via[1]; }
 
 /* The number with which the pair is refused before any choice is looked for, or 0. */
 static uint8_t pair_number(uint16_t source, uint16_t destination) {
@@ -194,9 +191,18 @@ static uint8_t pair_number(uint16_t source, uint16_t destination) {
 
 static void try_refused_pair(nafthurm_planned p, uint8_t number, uint16_t source, uint16_t destination) {
     refused++;
-    HOLD(p.route.number == (number ? number : 11));
-    HOLD(p.route.kind == p.route.number && p.route.via == 0 && p.length == 0);
+    HOLD(same_route(p.route, refused_route(number ? number : 11)) && p.length == 0);
     HOLD(nafthurm_packet_check(model.shape, nafthurm_new_packet(source, destination, p.route)) == (plan_refused ? 5 : 14));
+}
+
+/* Of a route: nodes of the plan, none of them an end, and different; absent ones are 0. */
+static void check_vias(nafthurm_route r, uint16_t source, uint16_t destination) {
+    int vias = r.kind == 0 ? 0 : vias_of(r.kind);
+    HOLD(r.kind < DEAD_KIND && vias >= 0);
+    for (int i = 0; i < 2; i++)
+        HOLD(i < vias ? r.via[i] < plan_nodes() && r.via[i] != source && r.via[i] != destination : r.via[i] == 0);
+    HOLD(vias < 2 || r.via[0] != r.via[1]);
+    if (vias == 2) by_two++;
 }
 
 static nafthurm_planned try_pair(uint16_t source, uint16_t destination) {
@@ -212,8 +218,7 @@ static nafthurm_planned try_pair(uint16_t source, uint16_t destination) {
         try_refused_pair(p, number, source, destination);
         return p;
     }
-    HOLD(p.route.kind <= 5);
-    HOLD(p.route.kind >= 2 ? p.route.via != source && p.route.via != destination && p.route.via < plan_nodes() : p.route.via == 0);
+    check_vias(p.route, source, destination);
     nafthurm_packet first = nafthurm_new_packet(source, destination, p.route);
     HOLD(p.length == length_of(model.shape, model.weights, first));
     if (heaviest < p.length) heaviest = p.length;
@@ -229,15 +234,11 @@ static uint8_t source_number(uint16_t source) {
     return source >= plan_nodes() ? 9 : model.dead[source] ? 10 : 0;
 }
 
-/* Where the destination's entry stands; the size where there is none. */
-static size_t entry_at(uint16_t destination) {
-    for (size_t at = 7; at < sheet.size; at += 5)
-        if (word(sheet.bytes + at) == destination) return at;
-    return sheet.size;
-}
-
 /* Of the lent sheet, which is a good one and not empty. */
-static const uint8_t *some_entry(void) { return sheet.bytes + 7 + 5 * below((uint32_t)(sheet.size - 7) / 5); }
+static const uint8_t *some_entry(void) {
+    size_t each = entry_size(sheet.bytes[0]);
+    return sheet.bytes + 7 + each * below((uint32_t)((sheet.size - 7) / each));
+}
 
 /* The lookup in a sheet that is refused with `number`. */
 static nafthurm_route try_lookup(uint8_t number, uint16_t destination) {
@@ -245,15 +246,14 @@ static nafthurm_route try_lookup(uint8_t number, uint16_t destination) {
     nafthurm_route r = nafthurm_lookup_route(plan.bytes, plan.size, sheet.bytes, sheet.size, destination);
     calls += 2;
     if (number == 0 && destination >= plan_nodes()) number = 9;
-    size_t at = number ? sheet.size : entry_at(destination);
+    size_t at = number ? sheet.size : entry_at(sheet.bytes, sheet.size, destination);
     if (at == sheet.size) {
         HOLD(part.start == 0 && part.size == 0);
-        HOLD(r.number == number && r.kind == number && r.via == 0);
+        HOLD(same_route(r, number ? refused_route(number) : (nafthurm_route){0, 0, {0, 0}}));
         return r;
     }
-    HOLD(part.start == at && part.size == 5);
-    HOLD(r.kind == sheet.bytes[at + 2] && r.via == word(sheet.bytes + at + 3));
-    HOLD(r.number == (r.kind < 10 ? 0 : r.kind));
+    HOLD(part.start == at && part.size == entry_size(sheet.bytes[0]));
+    HOLD(same_route(r, model_entry(sheet.bytes[0], sheet.bytes + at)));
     return r;
 }
 
@@ -265,19 +265,27 @@ static uint8_t try_convert(size_t room) {
     nafthurm_converted c = nafthurm_convert(plan.bytes, plan.size, sheet.bytes, sheet.size, out.bytes, out.size);
     check_kept(&sheet);
     memcpy(wanted_bytes, sheet.copy, sheet.size);
-    wanted_bytes[0] = SHEET_VERSION;
+    wanted_bytes[0] = SECOND_VERSION;
     check_written((nafthurm_written){c.number, c.size}, wanted.number, wanted_bytes, sheet.size);
     HOLD(c.entry == wanted.entry);
     converted += c.number == 0, not_kept += c.number == 17;
     return c.number;
 }
 
+/* Version 3 comes back as the same bytes. */
+static void try_write_back(uint8_t number) {
+    static uint8_t again[NAFTHURM_SHEET_BYTES];
+    size_t size = number ? sheet.size : model_back(sheet.bytes, sheet.size, again);
+    HOLD(number != 0 || sheet.bytes[0] != SHEET_VERSION || (size == sheet.size && memcmp(again, sheet.bytes, size) == 0));
+    lend_out(some_room(chance(90) ? size : sheet.size));
+    check_written(nafthurm_sheet_write_back(plan.bytes, plan.size, sheet.bytes, sheet.size, out.bytes, out.size), number, again, size);
+}
+
 static void try_sheet(void) {
-    uint8_t number = plan_refused ? plan_refused : sheet_number(model.shape, SHEET_VERSION, sheet.bytes, sheet.size);
+    uint8_t number = plan_refused ? plan_refused : read_number(model.shape, sheet.bytes, sheet.size);
     calls++;
     HOLD(nafthurm_sheet_check(plan.bytes, plan.size, sheet.bytes, sheet.size) == number);
-    lend_out(some_room(sheet.size));
-    check_written(nafthurm_sheet_write_back(plan.bytes, plan.size, sheet.bytes, sheet.size, out.bytes, out.size), number, sheet.copy, sheet.size);
+    try_write_back(number);
     try_convert(some_room(sheet.size));
     for (int i = 0; i < 4; i++) {
         int listed = number == 0 && sheet.size > 7 && chance(50);
@@ -296,7 +304,7 @@ static void try_kept(const uint8_t *entry) {
     if (entry[2] >= 10) return;
     uint8_t run[RUN_MOST];
     uint16_t source = (uint16_t)word(sheet.bytes + 3);
-    nafthurm_packet first = nafthurm_new_packet(source, (uint16_t)word(entry), (nafthurm_route){0, entry[2], (uint16_t)word(entry + 3)});
+    nafthurm_packet first = nafthurm_new_packet(source, (uint16_t)word(entry), model_entry(OLD_VERSION, entry));
     half_rule *now = half_plus;
     half_plus = always_plus;
     size_t size = whole_run(model.shape, first, run);
@@ -452,7 +460,7 @@ static void try_listing(uint16_t source) {
     for (int d = 0; number == 0 && d < plan_nodes(); d++) {
         nafthurm_planned p = nafthurm_pair(plan.bytes, plan.size, source, (uint16_t)d);
         size += sprintf(text + size, "%d %d ", d, p.route.kind);
-        size += p.route.number == 0 && p.route.kind >= 2 ? sprintf(text + size, "%d ", p.route.via) : sprintf(text + size, "- ");
+        for (int i = 0; i < 2; i++) size += p.route.number == 0 && p.route.kind / 16 > i ? sprintf(text + size, "%d ", p.route.via[i]) : sprintf(text + size, "- ");
         size += p.route.number == 0 ? sprintf(text + size, "%d\n", p.length) : sprintf(text + size, "-\n");
     }
     input[0] = (uint8_t)(source >> 8), input[1] = (uint8_t)source;
@@ -518,10 +526,11 @@ static void one_long_pair(void) {
         try_pair(source, destination);
         return;
     }
-    nafthurm_shape s = make_far_via();
+    nafthurm_shape s = make_far_vias();
     lend_both();
-    nafthurm_planned p = try_pair(0, s.x);
-    HOLD(p.route.kind == 5 && p.route.via == nodes_of(s) - 1);
+    int last = nodes_of(s) - 1, row = (s.y - 1) * stride(s, 1);
+    nafthurm_planned p = try_pair(0, (uint16_t)row);
+    HOLD(p.route.kind == 37 && p.route.via[0] == last && p.route.via[1] == last - row);
 }
 
 static void one_written_sheet(void) {
@@ -588,7 +597,7 @@ int main(int words, char **word_at) {
     lend_both(), inputs = 0;
     for (uint64_t i = 0; i < count; i++) one_input(i);
     printf("seed %" PRIu64 ": %" PRIu64 " inputs, %" PRIu64 " calls, %" PRIu64 " refusals, %" PRIu64 " sheets converted, %" PRIu64 " not for an entry, %" PRIu64
-           " packets brought to their destination in %" PRIu64 " hops, at most %" PRIu64 ", by routes of at most length %" PRIu64 "\n",
-           seed, inputs, calls, refused, converted, not_kept, arrivals, hops_taken, longest, heaviest);
+           " packets brought to their destination in %" PRIu64 " hops, at most %" PRIu64 ", by routes of at most length %" PRIu64 ", %" PRIu64 " of them planned by two vias\n",
+           seed, inputs, calls, refused, converted, not_kept, arrivals, hops_taken, longest, heaviest, by_two);
     return 0;
 }

@@ -69,31 +69,33 @@ static nafthurm_shape shape_in(const char *line) {
     return (nafthurm_shape){(uint8_t)x, (uint8_t)y, (uint8_t)z, (uint8_t)number(line, "wrap")};
 }
 
-/* Of more than two legs the count is kept, and the last two. */
+enum { MOST_LEGS = 3 };
+
+/* Of more legs than a packet holds the count is kept, and the last of them. */
 static nafthurm_packet packet_in(const char *line) {
     char *at;
     nafthurm_packet packet = {0};
     packet.node = (uint16_t)strtoul(text(line, "packet"), &at, 10);
     while (*++at >= '0' && *at <= '9') {
-        packet.legs[0] = packet.legs[1];
-        packet.legs[1].target = (uint16_t)strtoul(at, &at, 10);
-        packet.legs[1].mode = at[1] == 'D';
-        packet.left++;
+        memmove(packet.legs, packet.legs + 1, sizeof packet.legs - sizeof *packet.legs);
+        packet.legs[MOST_LEGS - 1].target = (uint16_t)strtoul(at, &at, 10);
+        packet.legs[MOST_LEGS - 1].mode = at[1] == 'D';
+        if (packet.left < 255) packet.left++;
         at += 2;
     }
     return packet;
 }
 
 static int same_packet(nafthurm_packet a, nafthurm_packet b) {
-    for (int i = 0; i < 2; i++)
+    for (int i = 0; i < MOST_LEGS; i++)
         if (a.legs[i].target != b.legs[i].target || a.legs[i].mode != b.legs[i].mode) return 0;
     return a.node == b.node && a.left == b.left;
 }
 
 static void put_legs(nafthurm_packet packet) {
-    HOLD(packet.left <= 2);
-    for (int i = 2 - packet.left; i < 2; i++)
-        put("%s%d:%c", i > 2 - packet.left ? "," : "", packet.legs[i].target, packet.legs[i].mode ? 'D' : 'A');
+    HOLD(packet.left <= MOST_LEGS);
+    for (int i = MOST_LEGS - packet.left; i < MOST_LEGS; i++)
+        put("%s%d:%c", i > MOST_LEGS - packet.left ? "," : "", packet.legs[i].target, packet.legs[i].mode ? 'D' : 'A');
 }
 
 static void put_packet(nafthurm_packet packet) {
@@ -101,7 +103,7 @@ static void put_packet(nafthurm_packet packet) {
     put_legs(packet);
 }
 
-/* A packet that is as it was lent is shown as the line has it, legs past the second too. */
+/* A packet that is as it was lent is shown as the line has it, legs past the third too. */
 static void put_after(const char *line, nafthurm_packet lent_packet, nafthurm_packet after) {
     const char *at = text(line, "packet");
     if (same_packet(lent_packet, after)) put("%.*s", (int)text_size(at), at);

@@ -104,7 +104,7 @@ void put_word(bytes *b, size_t at, size_t value) { b->at[at] = (uint8_t)(value >
 
 void random_bytes(bytes *b, size_t size) {
     for (size_t i = 0; i < size; i++) b->at[i] = chance(40) ? (uint8_t)below(6) : any_byte();
-    if (size > 0 && chance(70)) b->at[0] = (uint8_t)ONE_OF(1, 2);
+    if (size > 0 && chance(70)) b->at[0] = (uint8_t)ONE_OF(1, 2, 3);
     if (size > 2 && chance(70)) put_word(b, 1, size - 3);
     b->size = size;
 }
@@ -236,17 +236,36 @@ nafthurm_shape make_limit_plan(void) {
     return s;
 }
 
-/*
- * Node 0 is left by X+ alone, its row at its end alone, and the column there at its end alone. The destination is entered from above alone; of the rows above the
- * row where the column ends, the highest alone goes back.
- */
-nafthurm_shape make_far_via(void) {
+/* The nodes of a corridor along three edges of a mesh, in X, Y and Z, from a corner on. */
+static int corridor(nafthurm_shape s, int corner, int nodes[48]) {
+    int count = 0, node = corner;
+    nodes[count++] = node;
+    for (int dim = 0; dim < 3; dim++) {
+        int direction = place(s, corner, dim) == 0 ? 2 * dim : 2 * dim + 1;
+        for (int i = 1; i < extent(s, dim); i++) node = over(s, node, direction), nodes[count++] = node;
+    }
+    return count;
+}
+
+/* Shuts the nodes of a corridor from number `first` on, so many, but for the links along it. */
+static void shut(nafthurm_shape s, const int *nodes, int count, int first, int shut_nodes) {
+    for (int i = first; i < first + shut_nodes; i++)
+        for (int d = 0; d < 6; d++) {
+            int to = over(s, nodes[i], d);
+            if (to < 0 || (i > 0 && to == nodes[i - 1]) || (i + 1 < count && to == nodes[i + 1])) continue;
+            add_fault(d % 2 ? to : nodes[i], d / 2);
+        }
+}
+
+/* One corridor from node 0 to the last node, which alone is open, the other from the corner beside that in Y, which alone is open. */
+nafthurm_shape make_far_vias(void) {
     nafthurm_shape s = {(uint8_t)ONE_OF(4, 16, 16, 16), (uint8_t)ONE_OF(4, 16, 16, 16), (uint8_t)ONE_OF(4, 16, 16, 16), 0};
+    int nodes[48], count;
     begin_plan();
-    for (int x = 0; x < s.x - 1; x++) add_fault(x, 1), add_fault(x, 2);
-    for (int y = 0; y < s.y - 1; y++) add_fault(s.x - 1 + y * stride(s, 1), 2);
-    for (int z = 1; z < s.z - 1; z++) add_fault(s.x - 2 + (s.y - 1) * stride(s, 1) + z * stride(s, 2), 0);
-    add_fault(s.x, 0), add_fault(s.x, 1);
+    count = corridor(s, 0, nodes);
+    shut(s, nodes, count, 0, count - 1);
+    count = corridor(s, nodes_of(s) - 1 - (s.y - 1) * stride(s, 1), nodes);
+    shut(s, nodes, count, 1, count - 1);
     sort_faults();
     write_plan(s);
     return s;
@@ -344,8 +363,8 @@ static void damage(bytes *b, size_t from, size_t record) {
     case 3: put_word(b, from - 2, (size_t)ONE_OF(0, 1, 255, 256, 257, 300, 4095, 4096, 65535)); break;
     case 4: b->at[1 + below(2)] ^= (uint8_t)(1 << below(8)); break;
     case 5: b->at[3 + below((uint32_t)from - 5)] = (uint8_t)ONE_OF(0, 1, 2, 3, 7, 8, 9, 16, 17, 255); break;
-    case 6: if (records) b->at[at + 2] = (uint8_t)ONE_OF(0, 1, 2, 3, 4, 5, 6, 9, 10, 11, 12, 255); break;
-    case 7: if (records) put_word(b, at + (record == 5 && chance(50) ? 3 : 0), (size_t)ONE_OF(0, 1, 5, 60, 4095, 4096, 65535)); break;
+    case 6: if (records) b->at[at + 2] = (uint8_t)ONE_OF(0, 1, 2, 3, 4, 5, 6, 9, 10, 11, 12, 16, 19, 32, 39, 160, 176, 255); break;
+    case 7: if (records) put_word(b, at + (record == 3 || chance(50) ? 0 : record == 7 && chance(50) ? 5 : 3), (size_t)ONE_OF(0, 1, 5, 60, 4095, 4096, 65535)); break;
     case 8: if (records) memcpy(b->at + at, b->at + from + record * below((uint32_t)records), record); break;
     case 9:
         if (records) {
@@ -424,38 +443,53 @@ static uint16_t other_node(nafthurm_shape s, int one, int two) {
     }
 }
 
-/* Puts a route to the destination, or none. */
-static void make_entry(nafthurm_shape s, size_t at, int source, int destination) {
-    int kind = nodes_of(s) < 3 ? ONE_OF(1, 10, 11) : ONE_OF(1, 2, 3, 4, 5, 10, 11);
-    put_word(&a_sheet, at, (size_t)destination);
-    a_sheet.at[at + 2] = (uint8_t)kind;
-    put_word(&a_sheet, at + 3, kind >= 2 && kind <= 5 ? other_node(s, source, destination) : 0);
+static void put_head(int version, int source, size_t size) {
+    a_sheet.at[0] = (uint8_t)version;
+    put_word(&a_sheet, 1, size - 3);
+    put_word(&a_sheet, 3, (size_t)source);
+    put_word(&a_sheet, 5, (size - 7) / entry_size(version));
+    a_sheet.size = size;
 }
 
-void make_sheet(nafthurm_shape s, uint32_t listed) {
+/* Puts a route to the destination, or none, in a sheet of the version. */
+static void make_entry(nafthurm_shape s, int version, size_t at, int source, int destination) {
+    static const uint8_t old[] = {1, 10, 11, 2, 3, 4, 5}, new[] = {1, DEAD_KIND, NONE_KIND, 16, 17, 18, 19, 32, 33, 34, 35, 36, 37, 38, 39};
+    const uint8_t *kinds = version == SHEET_VERSION ? new : old;
+    uint32_t count = nodes_of(s) < 3 ? 3 : version != SHEET_VERSION || nodes_of(s) < 4 ? 7 : 15;
+    uint8_t kind = kinds[below(count)];
+    int vias = vias_of(kind_in(version, kind));
+    uint16_t via = vias > 0 ? other_node(s, source, destination) : 0, second = 0;
+    if (vias > 1) {
+        do second = other_node(s, via, chance(50) ? source : destination);
+        while (second == source || second == destination);
+    }
+    put_word(&a_sheet, at, (size_t)destination);
+    a_sheet.at[at + 2] = kind;
+    put_word(&a_sheet, at + 3, via);
+    if (version == SHEET_VERSION) put_word(&a_sheet, at + 5, second);
+}
+
+static void make_sheet_of(nafthurm_shape s, int version, uint32_t listed) {
     int nodes = nodes_of(s), source = (int)below((uint32_t)nodes);
     size_t size = 7;
     for (int d = 0; d < nodes; d++) {
         if (d == source || !chance(listed)) continue;
-        make_entry(s, size, source, d);
-        size += 5;
+        make_entry(s, version, size, source, d);
+        size += entry_size(version);
     }
-    a_sheet.at[0] = SHEET_VERSION;
-    put_word(&a_sheet, 1, size - 3);
-    put_word(&a_sheet, 3, (size_t)source);
-    put_word(&a_sheet, 5, (size - 7) / 5);
-    a_sheet.size = size;
+    put_head(version, source, size);
 }
+
+void make_sheet(nafthurm_shape s, uint32_t listed) { make_sheet_of(s, ONE_OF(SHEET_VERSION, SHEET_VERSION, SECOND_VERSION), listed); }
 
 /* Makes the entry anew until it can be kept, or cannot be: by its legs, if some tries find such. */
 static void remake_entry(nafthurm_shape s, size_t at, int kept) {
     int source = (int)word(a_sheet.at + 3), tries = 40;
-    while (entry_kept(s, source, a_sheet.at + at) != kept || (a_sheet.at[at + 2] == 11 && tries-- > 0)) make_entry(s, at, source, (int)word(a_sheet.at + at));
+    while (entry_kept(s, source, a_sheet.at + at) != kept || (a_sheet.at[at + 2] == 11 && tries-- > 0)) make_entry(s, OLD_VERSION, at, source, (int)word(a_sheet.at + at));
 }
 
 void make_old_sheet(nafthurm_shape s, uint32_t listed) {
-    make_sheet(s, listed);
-    a_sheet.at[0] = OLD_VERSION;
+    make_sheet_of(s, OLD_VERSION, listed);
     uint32_t count = (uint32_t)(a_sheet.size - 7) / 5, way = below(100);
     if (count == 0 || way < 10) return;
     for (size_t at = 7; at < a_sheet.size; at += 5)
@@ -465,23 +499,25 @@ void make_old_sheet(nafthurm_shape s, uint32_t listed) {
 
 /* One thing that the layout does not allow, in an entry that is otherwise good. */
 static void hurt_entry(nafthurm_shape s) {
-    size_t count = (a_sheet.size - 7) / 5;
+    int version = a_sheet.at[0];
+    size_t each = entry_size(version), count = (a_sheet.size - 7) / each;
     if (count == 0) return;
-    size_t at = 7 + 5 * below((uint32_t)count);
-    int by_via = a_sheet.at[at + 2] >= 2 && a_sheet.at[at + 2] <= 5;
-    switch (below(8)) {
-    case 0: a_sheet.at[at + 2] = (uint8_t)ONE_OF(0, 6, 9, 12, 255); break;
+    size_t at = 7 + each * below((uint32_t)count), via = at + 3 + (version == SHEET_VERSION && chance(50) ? 2 : 0);
+    int by_via = vias_of(kind_in(version, a_sheet.at[at + 2])) > (via > at + 3);
+    switch (below(9)) {
+    case 0: a_sheet.at[at + 2] = (uint8_t)ONE_OF(0, 2, 6, 9, 12, 15, 20, 31, 40, 48, 159, 161, 177, 255); break;
     case 1: put_word(&a_sheet, 3, word(a_sheet.at + at)); break;
     case 2: put_word(&a_sheet, 3, outside(nodes_of(s))); break;
-    case 3: put_word(&a_sheet, a_sheet.size - 5, outside(nodes_of(s))); break;
-    case 4: put_word(&a_sheet, at, count > 1 && at > 7 ? word(a_sheet.at + at - 5) : 0); break;
-    case 5: put_word(&a_sheet, at + 3, by_via ? outside(nodes_of(s)) : (size_t)ONE_OF(1, 255, 256, 4096, 65535)); break;
-    case 6: put_word(&a_sheet, at + 3, word(a_sheet.at + at)); break;
-    default: put_word(&a_sheet, at + 3, word(a_sheet.at + 3)); break;
+    case 3: put_word(&a_sheet, a_sheet.size - each, outside(nodes_of(s))); break;
+    case 4: put_word(&a_sheet, at, count > 1 && at > 7 ? word(a_sheet.at + at - each) : 0); break;
+    case 5: put_word(&a_sheet, via, by_via ? outside(nodes_of(s)) : (size_t)ONE_OF(1, 255, 256, 4096, 65535)); break;
+    case 6: put_word(&a_sheet, via, word(a_sheet.at + at)); break;
+    case 7: put_word(&a_sheet, via, word(a_sheet.at + at + (via > at + 3 ? 3 : version == SHEET_VERSION ? 5 : 0))); break; /* equal vias */
+    default: put_word(&a_sheet, via, word(a_sheet.at + 3)); break;
     }
 }
 
-void damage_sheet(void) { damage(&a_sheet, 7, 5); }
+void damage_sheet(void) { damage(&a_sheet, 7, a_sheet.size > 0 ? entry_size(a_sheet.at[0]) : 5); }
 
 void any_sheet(nafthurm_shape s, int version, uint32_t damaged) {
     uint32_t listed = (uint32_t)(nodes_of(s) > 64 ? ONE_OF(0, 1, 5) : ONE_OF(0, 10, 50, 100));
@@ -489,7 +525,7 @@ void any_sheet(nafthurm_shape s, int version, uint32_t damaged) {
     else make_sheet(s, listed);
     if (!chance(damaged)) return;
     uint32_t way = below(100);
-    if (way < 10) a_sheet.at[0] = (uint8_t)ONE_OF(0, 3 - version, 3 - version, 3, 3, 255); /* a good sheet but for its version */
+    if (way < 10) a_sheet.at[0] = (uint8_t)ONE_OF(0, 1, 1, 2, 2, 3, 3, 4, 255); /* mostly a good sheet but for its version */
     else if (way < 55) hurt_entry(s);
     else
         for (uint32_t n = 1 + below(3); n > 0; n--) damage_sheet();
@@ -514,12 +550,14 @@ static uint16_t beyond(nafthurm_shape s, uint16_t here, uint16_t from) {
     return (uint16_t)node;
 }
 
-/* A new packet: from corner to corner and back, or any targets, few of them at hand, and some beyond the source, so that the second leg passes it again. */
+/* A new packet: from corner to corner and back, or any targets, few of them at hand, and some beyond the source, so that a later leg passes it again. */
 static nafthurm_packet new_packet(nafthurm_shape s) {
-    if (chance(8)) return (nafthurm_packet){0, {leg_to((uint16_t)(nodes_of(s) - 1)), leg_to(0)}, 2};
+    uint16_t far = (uint16_t)(nodes_of(s) - 1);
+    if (chance(8)) return (nafthurm_packet){0, {leg_to(far), leg_to(0), leg_to(far)}, 3};
     uint16_t source = (uint16_t)below((uint32_t)nodes_of(s)), via = chance(15) ? source : some_node(s, source);
-    uint16_t last = chance(20) ? beyond(s, source, via) : chance(10) ? via : chance(10) ? source : some_node(s, via);
-    return (nafthurm_packet){source, {leg_to(via), leg_to(last)}, (uint8_t)ONE_OF(0, 1, 1, 2, 2, 2, 2)};
+    uint16_t second = chance(20) ? beyond(s, source, via) : chance(10) ? via : chance(10) ? source : some_node(s, via);
+    uint16_t last = chance(10) ? second : chance(10) ? via : chance(10) ? source : some_node(s, second);
+    return (nafthurm_packet){source, {leg_to(via), leg_to(second), leg_to(last)}, (uint8_t)ONE_OF(0, 1, 2, 2, 3, 3, 3, 3)};
 }
 
 /* After some allowed hops. */
@@ -532,24 +570,24 @@ static nafthurm_packet travelled(nafthurm_shape s, nafthurm_packet packet) {
 nafthurm_packet good_packet(nafthurm_shape s) {
     nafthurm_packet packet = new_packet(s);
     if (chance(50)) packet = travelled(s, packet);
-    if (packet.left < 2 && chance(20)) { /* a leg that the next hop only will drop */
+    if (packet.left < MOST_LEGS && chance(20)) { /* a leg that the next hop only will drop */
         packet.left++;
-        packet.legs[2 - packet.left] = leg_to(packet.node);
+        packet.legs[MOST_LEGS - packet.left] = leg_to(packet.node);
     }
     return packet;
 }
 
 nafthurm_packet hurt_packet(nafthurm_shape s, nafthurm_packet packet) {
-    int way = packet.left == 0 ? ONE_OF(0, 3) : packet.left == 1 ? ONE_OF(0, 2, 3) : ONE_OF(0, 1, 2, 3);
+    int way = packet.left == 0 ? ONE_OF(0, 1) : ONE_OF(0, 1, 2, 3), left = packet.left < MOST_LEGS ? packet.left : MOST_LEGS;
     if (way == 0) packet.node = outside(nodes_of(s));
-    else if (way < 3) packet.legs[way - 1].target = outside(nodes_of(s));
-    else packet.left = (uint8_t)ONE_OF(3, 3, 4, 128, 255);
+    else if (way == 1) packet.left = (uint8_t)ONE_OF(4, 4, 5, 128, 255);
+    else packet.legs[MOST_LEGS - 1 - (int)below((uint32_t)left)].target = outside(nodes_of(s));
     return packet;
 }
 
 nafthurm_packet any_packet(nafthurm_shape s) {
     nafthurm_packet packet = good_packet(s);
-    if (packet.left < 2 && chance(30)) packet.legs[0].target = outside(nodes_of(s)); /* no leg that is left */
+    if (packet.left < MOST_LEGS && chance(30)) packet.legs[below((uint32_t)(MOST_LEGS - packet.left))].target = outside(nodes_of(s)); /* no leg that is left */
     return chance(15) ? hurt_packet(s, packet) : packet;
 }
 

@@ -34,7 +34,7 @@ uint16_t some_node(nafthurm_shape s, uint16_t here);
 
 /* ---- Sheets ---- */
 
-enum { BYTES_MOST = 30000 };
+enum { BYTES_MOST = 40000 };
 
 typedef struct {
     uint8_t at[BYTES_MOST];
@@ -49,13 +49,13 @@ void random_bytes(bytes *b, size_t size);
 /*
  * An accepted plan sheet in a_plan, of either version: of the shape, with about this many faults; a snake, two or three long rows joined at one end; a ring of
  * even length with one or two dead links, so that routes go the other way round by legs of half the ring; on the edge of a limit; a mesh of which the one route
- * from node 0 to the next one in Y is by the last node, with both legs deterministic.
+ * from node 0 to the last of the first plane's first column is by two far corners, along edges of the mesh.
  */
 void make_plan(nafthurm_shape s, int faults);
 nafthurm_shape make_snake(int most);
 nafthurm_shape make_ring(int most);
 nafthurm_shape make_limit_plan(void);
-nafthurm_shape make_far_via(void);
+nafthurm_shape make_far_vias(void);
 
 /* Some accepted plan of at most so many nodes, then damaged with `damaged` %; the shape is that before the damage. */
 nafthurm_shape any_plan(int most, uint32_t damaged);
@@ -74,8 +74,8 @@ ends some_ends(nafthurm_shape s);
 uint16_t corner(nafthurm_shape s);
 
 /*
- * A route sheet in a_sheet with routes that nobody planned, `listed` % of the destinations. Of an old sheet, which is of version 1, mostly all entries can be kept,
- * or all but one. any_sheet makes one of either version, then damaged.
+ * A route sheet in a_sheet with routes that nobody planned, `listed` % of the destinations, of version 3 or 2. Of an old sheet, which is of version 1, mostly all
+ * entries can be kept, or all but one. any_sheet makes one of the version, mostly, where that is not the old one, then damaged.
  */
 void make_sheet(nafthurm_shape s, uint32_t listed);
 void make_old_sheet(nafthurm_shape s, uint32_t listed);
@@ -86,7 +86,7 @@ size_t some_room(size_t size);
 
 /* ---- Packets and runs ---- */
 
-/* With at most two legs, and no check declines it. */
+/* With at most three legs, and no check declines it. */
 nafthurm_packet good_packet(nafthurm_shape s);
 
 /* Of the same shape, made 14 by one thing: its node, a target, or the count of its legs. */
@@ -94,7 +94,7 @@ nafthurm_packet hurt_packet(nafthurm_shape s, nafthurm_packet packet);
 
 nafthurm_packet any_packet(nafthurm_shape s);
 
-enum { RUN_MOST = 320 };
+enum { RUN_MOST = 400 };
 
 /* Directions, mostly allowed ones, to the arrival, past it, short of it, or with a wrong one: how many. */
 size_t made_run(nafthurm_shape s, nafthurm_packet packet, uint8_t run[RUN_MOST]);

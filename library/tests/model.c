@@ -78,8 +78,8 @@ static uint8_t weights_number(nafthurm_weights w) { return w.x < 1 || w.x > 8 ||
 uint8_t packet_number(nafthurm_shape s, nafthurm_packet packet) {
     uint8_t number = shape_number(s);
     if (number != 0) return number;
-    if (packet.left > 2 || packet.node >= nodes_of(s)) return 14;
-    for (int leg = 2 - packet.left; leg < 2; leg++)
+    if (packet.left > MOST_LEGS || packet.node >= nodes_of(s)) return 14;
+    for (int leg = MOST_LEGS - packet.left; leg < MOST_LEGS; leg++)
         if (packet.legs[leg].target >= nodes_of(s)) return 14;
     return 0;
 }
@@ -118,23 +118,80 @@ uint8_t plan_number(const uint8_t *plan, size_t size) {
     return number != 0 ? number : faults_number(shape_in(plan), plan + head, plan + size);
 }
 
-static int entry_good(nafthurm_shape s, size_t source, const uint8_t *entry) {
-    size_t nodes = (size_t)nodes_of(s), destination = word(entry), via = word(entry + 3);
-    int kind = entry[2];
-    if (destination >= nodes || destination == source) return 0;
-    if (kind == 1 || kind == 10 || kind == 11) return via == 0;
-    return kind >= 2 && kind <= 5 && via < nodes && via != source && via != destination;
+/* ---- Route sheets ---- */
+
+size_t entry_size(int version) { return version == SHEET_VERSION ? 7 : 5; }
+
+/* Leg one has the lowest bit: of 3, adaptive then deterministic, that is 18. */
+int kind_in(int version, int byte) {
+    static const int old[] = {NO_KIND, 1, 16, 18, 17, 19};
+    if (version == SHEET_VERSION) return vias_of(byte) >= 0 ? byte : NO_KIND;
+    return byte < 6 ? old[byte] : byte == 10 ? DEAD_KIND : byte == 11 ? NONE_KIND : NO_KIND;
+}
+
+int vias_of(int kind) {
+    if (kind == 1 || kind == DEAD_KIND || kind == NONE_KIND) return 0;
+    if (kind >= 16 && kind < 20) return 1;
+    return kind >= 32 && kind < 40 ? 2 : -1;
+}
+
+/* The via in that place of an entry, 0 or 1. */
+static size_t via_in(int version, const uint8_t *entry, int i) { return i == 0 || version == SHEET_VERSION ? word(entry + 3 + 2 * i) : 0; }
+
+static int entry_good(nafthurm_shape s, int version, size_t source, const uint8_t *entry) {
+    size_t nodes = (size_t)nodes_of(s), destination = word(entry);
+    int vias = vias_of(kind_in(version, entry[2]));
+    if (destination >= nodes || destination == source || vias < 0) return 0;
+    for (int i = 0; i < 2; i++) {
+        size_t via = via_in(version, entry, i);
+        if (i < vias ? via >= nodes || via == source || via == destination : via != 0) return 0;
+    }
+    return vias < 2 || via_in(version, entry, 0) != via_in(version, entry, 1);
 }
 
 uint8_t sheet_number(nafthurm_shape s, int version, const uint8_t *sheet, size_t size) {
+    size_t each = entry_size(version);
     if (size < 7 || sheet[0] != version) return 13;
-    if (word(sheet + 1) != size - 3 || word(sheet + 1) != 4 + 5 * word(sheet + 5)) return 13;
+    if (word(sheet + 1) != size - 3 || word(sheet + 1) != 4 + each * word(sheet + 5)) return 13;
     if (word(sheet + 3) >= (size_t)nodes_of(s)) return 13;
-    for (const uint8_t *entry = sheet + 7; entry < sheet + size; entry += 5) {
-        if (!entry_good(s, word(sheet + 3), entry)) return 13;
-        if (entry > sheet + 7 && word(entry) <= word(entry - 5)) return 13;
+    for (const uint8_t *entry = sheet + 7; entry < sheet + size; entry += each) {
+        if (!entry_good(s, version, word(sheet + 3), entry)) return 13;
+        if (entry > sheet + 7 && word(entry) <= word(entry - each)) return 13;
     }
     return 0;
+}
+
+uint8_t read_number(nafthurm_shape s, const uint8_t *sheet, size_t size) {
+    return sheet_number(s, size > 0 && sheet[0] == SECOND_VERSION ? SECOND_VERSION : SHEET_VERSION, sheet, size);
+}
+
+nafthurm_route refused_route(uint8_t number) { return (nafthurm_route){number, number == 10 ? DEAD_KIND : number == 11 ? NONE_KIND : NO_KIND, {0, 0}}; }
+
+nafthurm_route model_entry(int version, const uint8_t *entry) {
+    int kind = kind_in(version, entry[2]);
+    if (kind == DEAD_KIND) return refused_route(10);
+    if (kind == NONE_KIND) return refused_route(11);
+    return (nafthurm_route){0, (uint8_t)kind, {(uint16_t)via_in(version, entry, 0), (uint16_t)via_in(version, entry, 1)}};
+}
+
+size_t entry_at(const uint8_t *sheet, size_t size, size_t destination) {
+    for (size_t at = 7; at < size; at += entry_size(sheet[0]))
+        if (word(sheet + at) == destination) return at;
+    return size;
+}
+
+size_t model_back(const uint8_t *sheet, size_t size, uint8_t *out) {
+    size_t each = entry_size(sheet[0]), follows = 4 + 7 * word(sheet + 5);
+    const uint8_t head[] = {SHEET_VERSION, (uint8_t)(follows >> 8), (uint8_t)follows, sheet[3], sheet[4], sheet[5], sheet[6]};
+    memcpy(out, head, sizeof head);
+    out += 7;
+    for (const uint8_t *entry = sheet + 7; entry < sheet + size; entry += each, out += 7) {
+        memcpy(out, entry, 5);
+        out[2] = (uint8_t)kind_in(sheet[0], entry[2]);
+        size_t second = via_in(sheet[0], entry, 1);
+        out[5] = (uint8_t)(second >> 8), out[6] = (uint8_t)second;
+    }
+    return 3 + follows;
 }
 
 /* ---- Old route sheets ---- */
@@ -170,19 +227,19 @@ nafthurm_converted model_convert(nafthurm_shape s, const uint8_t *sheet, size_t 
 /* ---- Packets ---- */
 
 int same_packet(nafthurm_packet a, nafthurm_packet b) {
-    for (int i = 0; i < 2; i++)
+    for (int i = 0; i < MOST_LEGS; i++)
         if (a.legs[i].target != b.legs[i].target || a.legs[i].mode != b.legs[i].mode) return 0;
     return a.node == b.node && a.left == b.left;
 }
 
 nafthurm_packet dropped(nafthurm_packet packet) {
-    while (packet.left > 0 && packet.legs[2 - packet.left].target == packet.node) packet.left--;
+    while (packet.left > 0 && packet.legs[MOST_LEGS - packet.left].target == packet.node) packet.left--;
     return packet;
 }
 
 int allowed(nafthurm_shape s, nafthurm_packet packet, int direction) {
     int left = dropped(packet).left;
-    return left > 0 && leg_allows(s, packet.node, packet.legs[2 - left].target, packet.legs[2 - left].mode, direction);
+    return left > 0 && leg_allows(s, packet.node, packet.legs[MOST_LEGS - left].target, packet.legs[MOST_LEGS - left].mode, direction);
 }
 
 nafthurm_stepped model_step(nafthurm_shape s, nafthurm_packet packet, uint8_t direction) {
@@ -256,64 +313,65 @@ int leg_clear(const model_plan *plan, int from, int target, int mode) {
     return 1;
 }
 
-/* A choice of the same length is earlier by its deterministic legs, its vias, its via and its first leg's mode; -1 is no choice. */
+static int is_clear(model_plan *plan, int from, int target, int mode) {
+    if (nodes_of(plan->shape) > MODEL_NODES) return leg_clear(plan, from, target, mode);
+    uint8_t *noted = &plan->noted[mode][from][target];
+    if (*noted == 0) *noted = leg_clear(plan, from, target, mode) ? 1 : 2;
+    return *noted == 1;
+}
+
+/* A choice is earlier by its length, its deterministic legs, its vias, its first via, its second, and its modes leg by leg; one of length -1 is none. */
 typedef struct {
-    int rank, kind, via;
+    int length;
+    int64_t rank;
+    nafthurm_route route;
 } choice;
 
-static void take_earlier(choice *best, int deterministic, int vias, int via, int first, int kind) {
-    int rank = ((deterministic * 2 + vias) * 4096 + via) * 2 + first;
-    if (best->kind < 0 || rank < best->rank) *best = (choice){rank, kind, via};
+/* Whether the legs to these stops are clear. `modes` has a bit for each deterministic one, leg one lowest. */
+static int all_clear(model_plan *plan, int source, const int *stops, int legs, int modes) {
+    for (int leg = 0; leg < legs; leg++)
+        if (!is_clear(plan, leg == 0 ? source : stops[leg - 1], stops[leg], modes >> leg & 1)) return 0;
+    return 1;
 }
 
-static void try_direct(const model_plan *plan, int source, int destination, choice *best) {
-    for (int mode = 0; mode < 2; mode++)
-        if (leg_clear(plan, source, destination, mode)) take_earlier(best, mode, 0, 0, mode, mode);
+static int64_t rank_of(const int *stops, int legs, int modes) {
+    int deterministic = 0, in_order = 0, vias = legs - 1;
+    for (int leg = 0; leg < legs; leg++) deterministic += modes >> leg & 1, in_order = 2 * in_order + (modes >> leg & 1);
+    return ((((int64_t)deterministic * 3 + vias) * 4096 + (vias > 0 ? stops[0] : 0)) * 4096 + (vias > 1 ? stops[1] : 0)) * 8 + in_order;
 }
 
-/* Kinds 2 to 5: the first leg's mode doubled and the second's, from 2 on. */
-static void try_via(const model_plan *plan, int source, int via, int destination, choice *best) {
-    for (int modes = 0; modes < 4; modes++) {
-        int first = modes / 2, second = modes % 2;
-        if (leg_clear(plan, source, via, first) && leg_clear(plan, via, destination, second)) take_earlier(best, first + second, 1, via, first, 2 + modes);
+/* Takes the earliest clear choice by these stops, the last of which is the destination, where it is earlier than the best. */
+static void try_stops(model_plan *plan, int source, const int *stops, int legs, choice *best) {
+    int length = apart(plan, source, stops[0]), vias = legs - 1;
+    for (int leg = 1; leg < legs; leg++) length += apart(plan, stops[leg - 1], stops[leg]);
+    if (best->length >= 0 && best->length < length) return;
+    for (int modes = 0; modes < 1 << legs; modes++) {
+        int64_t rank = rank_of(stops, legs, modes);
+        if (best->length == length && best->rank < rank) continue;
+        if (!all_clear(plan, source, stops, legs, modes)) continue;
+        *best = (choice){length, rank, {0, (uint8_t)(16 * vias + modes), {(uint16_t)(vias > 0 ? stops[0] : 0), (uint16_t)(vias > 1 ? stops[1] : 0)}}};
     }
 }
 
-static int by_via(const model_plan *plan, int source, int via, int destination) { return apart(plan, source, via) + apart(plan, via, destination); }
-
-static choice first_of_length(const model_plan *plan, int source, int destination, int length) {
-    choice best = {0, -1, 0};
-    if (apart(plan, source, destination) == length) try_direct(plan, source, destination, &best);
-    if (best.kind == 0) return best; /* no choice of this length is earlier */
-    for (int via = 0; via < nodes_of(plan->shape); via++)
-        if (via != source && via != destination && by_via(plan, source, via, destination) == length) try_via(plan, source, via, destination, &best);
-    return best;
-}
-
-enum { LENGTH_MOST = 720 };
-
-/* The next length that a choice has, above this one. */
-static int next_length(const model_plan *plan, int source, int destination, int length) {
-    int next = LENGTH_MOST + 1;
-    for (int via = 0; via < nodes_of(plan->shape); via++) {
-        int longer = by_via(plan, source, via, destination);
-        if (longer > length && longer < next) next = longer;
+nafthurm_planned first_choice(model_plan *plan, int source, int destination) {
+    if (source == destination) return (nafthurm_planned){{0, 0, {0, 0}}, 0};
+    choice best = {.length = -1};
+    int nodes = nodes_of(plan->shape);
+    try_stops(plan, source, (int[]){destination}, 1, &best);
+    if (best.length >= 0 && best.route.kind == 0) return (nafthurm_planned){best.route, (uint16_t)best.length}; /* none is earlier */
+    for (int via = 0; via < nodes; via++) {
+        if (via == source || via == destination) continue;
+        if (best.length >= 0 && best.length < apart(plan, source, via) + apart(plan, via, destination)) continue; /* nor by a second via is it as short */
+        try_stops(plan, source, (int[]){via, destination}, 2, &best);
+        for (int second = 0; second < nodes; second++)
+            if (second != source && second != destination && second != via) try_stops(plan, source, (int[]){via, second, destination}, 3, &best);
     }
-    return next;
+    return best.length < 0 ? (nafthurm_planned){refused_route(11), 0} : (nafthurm_planned){best.route, (uint16_t)best.length};
 }
 
-nafthurm_planned first_choice(const model_plan *plan, int source, int destination) {
-    if (source == destination) return (nafthurm_planned){{0, 0, 0}, 0};
-    for (int length = apart(plan, source, destination); length <= LENGTH_MOST; length = next_length(plan, source, destination, length)) {
-        choice found = first_of_length(plan, source, destination, length);
-        if (found.kind >= 0) return (nafthurm_planned){{0, (uint8_t)found.kind, (uint16_t)found.via}, (uint16_t)length};
-    }
-    return (nafthurm_planned){{11, 11, 0}, 0};
-}
-
-nafthurm_planned model_pair(const model_plan *plan, size_t source, size_t destination) {
+nafthurm_planned model_pair(model_plan *plan, size_t source, size_t destination) {
     size_t nodes = (size_t)nodes_of(plan->shape);
-    if (source >= nodes || destination >= nodes) return (nafthurm_planned){{9, 9, 0}, 0};
-    if (plan->dead[source] || plan->dead[destination]) return (nafthurm_planned){{10, 10, 0}, 0};
+    if (source >= nodes || destination >= nodes) return (nafthurm_planned){refused_route(9), 0};
+    if (plan->dead[source] || plan->dead[destination]) return (nafthurm_planned){refused_route(10), 0};
     return first_choice(plan, (int)source, (int)destination);
 }

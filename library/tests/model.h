@@ -1,4 +1,4 @@
-/* What document 01 with E1 to E4 says, told plainly and from the bytes alone: the tests hold the library to it. Slow, and meant to be read. */
+/* What document 01 with E1 to E5 says, told plainly and from the bytes alone: the tests hold the library to it. Slow, and meant to be read. */
 #ifndef MODEL_H
 #define MODEL_H
 
@@ -42,11 +42,33 @@ size_t head_size(int version);
 int fault_exists(nafthurm_shape s, size_t node, int kind);
 uint8_t plan_number(const uint8_t *plan, size_t size);
 
-/* The version of route sheets, and the one before it, which the converter alone reads. */
-enum { OLD_VERSION = 1, SHEET_VERSION = 2 };
+/* ---- Route sheets ---- */
 
-/* 13 or 0, of a sheet that is to have the version, under a plan of this shape. */
+/* The version that is written, the one before it, which is read too, and the first, which the converter alone reads. */
+enum { OLD_VERSION = 1, SECOND_VERSION = 2, SHEET_VERSION = 3 };
+
+/* Of a version 3 sheet 7, of any other 5. */
+size_t entry_size(int version);
+
+/* The kind of version 3 with the same legs, or the same refusal, as the byte in a sheet of this version; NO_KIND where the byte is none that is listed. */
+enum { DEAD_KIND = 160, NONE_KIND = 176, NO_KIND = 255 };
+int kind_in(int version, int byte);
+
+/* How many vias a listed kind of version 3 has. */
+int vias_of(int kind);
+
+/* 13 or 0, of a sheet that is to have the version, under a plan of this shape; and of one that ordinary reading takes, in its own version. */
 uint8_t sheet_number(nafthurm_shape s, int version, const uint8_t *sheet, size_t size);
+uint8_t read_number(nafthurm_shape s, const uint8_t *sheet, size_t size);
+
+/* What an entry of a good sheet of this version says. */
+nafthurm_route model_entry(int version, const uint8_t *entry);
+
+/* Where the destination's entry stands in a good sheet; the size where there is none. */
+size_t entry_at(const uint8_t *sheet, size_t size, size_t destination);
+
+/* A good sheet of either version that is read, as version 3: how many bytes. */
+size_t model_back(const uint8_t *sheet, size_t size, uint8_t *out);
 
 /* ---- Old route sheets ---- */
 
@@ -61,6 +83,9 @@ nafthurm_converted model_convert(nafthurm_shape s, const uint8_t *sheet, size_t 
 
 /* ---- Packets ---- */
 
+/* The legs of a packet's array; those left are the last. */
+enum { MOST_LEGS = 3 };
+
 int same_packet(nafthurm_packet a, nafthurm_packet b);
 
 /* The front leg dropped while its target is the present node. */
@@ -74,12 +99,16 @@ nafthurm_walked model_walk(nafthurm_shape s, nafthurm_packet packet, const uint8
 
 /* ---- Plans ---- */
 
-/* An accepted plan: bit d of lost[n] for a dead link that leaves node n in direction d. */
+/* Choices are looked for on plans of at most so many nodes. */
+enum { MODEL_NODES = 64 };
+
+/* An accepted plan: bit d of lost[n] for a dead link that leaves node n in direction d. Which legs are clear is noted as it is found, 1 for clear and 2 for not. */
 typedef struct {
     nafthurm_shape shape;
     nafthurm_weights weights;
     uint8_t dead[4096];
     uint8_t lost[4096];
+    uint8_t noted[2][MODEL_NODES][MODEL_NODES];
 } model_plan;
 
 void read_plan(model_plan *plan, const uint8_t *bytes);
@@ -91,9 +120,12 @@ int apart(const model_plan *plan, int from, int to);
 int leg_clear(const model_plan *plan, int from, int target, int mode);
 
 /* The first clear choice, or 11: the two nodes are of the plan and not dead. */
-nafthurm_planned first_choice(const model_plan *plan, int source, int destination);
+nafthurm_planned first_choice(model_plan *plan, int source, int destination);
+
+/* The route that is refused with the number. */
+nafthurm_route refused_route(uint8_t number);
 
 /* 9, 10, 11, or the first clear choice. */
-nafthurm_planned model_pair(const model_plan *plan, size_t source, size_t destination);
+nafthurm_planned model_pair(model_plan *plan, size_t source, size_t destination);
 
 #endif

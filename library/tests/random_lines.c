@@ -33,12 +33,12 @@ static void say_plan(void) { say_bytes("plan", &a_plan); }
 
 /* ---- Packets ---- */
 
-/* Of the legs in use; more than two, as many as the packet says up to four. */
+/* Of the legs in use; more than three, as many as the packet says up to five. */
 static void say_packet(nafthurm_shape s, nafthurm_packet p) {
     say(" extents=%d,%d,%d wrap=%d packet=%d;", s.x, s.y, s.z, s.wrap, p.node);
-    int legs = p.left < 4 ? p.left : 4;
+    int legs = p.left < 5 ? p.left : 5;
     for (int i = 0; i < legs; i++) {
-        nafthurm_leg leg = p.legs[legs > 1 ? i % 2 : 1];
+        nafthurm_leg leg = p.legs[legs > MOST_LEGS ? i % MOST_LEGS : MOST_LEGS - legs + i];
         say("%s%d:%c", i ? "," : "", leg.target, leg.mode ? 'D' : 'A');
     }
 }
@@ -79,15 +79,23 @@ static void say_calls(nafthurm_shape s, nafthurm_packet packet) {
     }
 }
 
-/* Along the planned route between two nodes, of few so that the reference is quick. */
+/* A plan of few nodes, on which the reference is quick. */
+static nafthurm_shape small_plan(int most, uint32_t damaged) {
+    for (;;) {
+        nafthurm_shape s = any_plan(most, damaged);
+        if (plan_number(a_plan.at, a_plan.size) != 0 || a_plan.at[3] * a_plan.at[4] * a_plan.at[5] <= most) return s;
+    }
+}
+
+/* Along the planned route between two nodes. */
 static void run_line(const char *operation, int most) {
     static model_plan model;
-    nafthurm_shape s = any_plan(most, 5);
+    nafthurm_shape s = small_plan(most, 5);
     ends e = some_ends(s);
     say("%s", operation);
     say_plan();
     say(" source=%d destination=%d", e.source, e.destination);
-    nafthurm_planned p = {{1, 1, 0}, 0};
+    nafthurm_planned p = {refused_route(1), 0};
     if (plan_number(a_plan.at, a_plan.size) == 0) {
         read_plan(&model, a_plan.at);
         p = model_pair(&model, e.source, e.destination);
@@ -110,19 +118,13 @@ static nafthurm_shape route_line(const char *operation, int version) {
     return s;
 }
 
-static void say_room(void) { say(" room=%zu", some_room(a_sheet.size)); }
+/* For the sheet as it is, or as a sheet of version 2 is written again. */
+static void say_room(void) { say(" room=%zu", some_room(chance(50) ? a_sheet.size : a_sheet.size + (a_sheet.size < 7 ? 0 : 2 * word(a_sheet.at + 5)) % 30000)); }
 
 static void lookup_line(void) {
     nafthurm_shape s = route_line("lookup", SHEET_VERSION);
-    say(" destination=%d", a_sheet.size > 12 && chance(50) ? (int)word(a_sheet.at + 7 + 5 * below((uint32_t)(a_sheet.size - 7) / 5)) : any_node(nodes_of(s)));
-}
-
-/* A plan on which the reference is quick. */
-static nafthurm_shape small_plan(int most, uint32_t damaged) {
-    for (;;) {
-        nafthurm_shape s = any_plan(most, damaged);
-        if (plan_number(a_plan.at, a_plan.size) != 0 || a_plan.at[3] * a_plan.at[4] * a_plan.at[5] <= 64) return s;
-    }
+    size_t each = a_sheet.size > 0 ? entry_size(a_sheet.at[0]) : 5;
+    say(" destination=%d", a_sheet.size >= 7 + each && chance(50) ? (int)word(a_sheet.at + 7 + each * below((uint32_t)((a_sheet.size - 7) / each))) : any_node(nodes_of(s)));
 }
 
 static void pair_line(void) {
@@ -137,7 +139,7 @@ static void sheet_line(void) {
     nafthurm_shape s = small_plan(24, 10);
     say("sheet");
     say_plan();
-    say(" source=%d room=%d", any_node(nodes_of(s)), ONE_OF(0, 7, 12, 40, 80, 327, 400));
+    say(" source=%d room=%d", any_node(nodes_of(s)), ONE_OF(0, 7, 14, 40, 80, 112, 400));
 }
 
 static void listing_line(void) {

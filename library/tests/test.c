@@ -11,11 +11,23 @@
 
 static const uint8_t W[] = {0x01, 0x00, 0x09, 0x04, 0x04, 0x01, 0x03, 0x00, 0x01, 0x00, 0x00, 0x00};
 static const uint8_t W_SHEET[] = {
+    0x03, 0x00, 0x3C, 0x00, 0x00, 0x00, 0x08,
+    0x00, 0x01, 0x20, 0x00, 0x03, 0x00, 0x02, 0x00, 0x02, 0x10, 0x00, 0x03, 0x00, 0x00, 0x00, 0x05, 0x10, 0x00, 0x04, 0x00, 0x00,
+    0x00, 0x06, 0x10, 0x00, 0x03, 0x00, 0x00, 0x00, 0x09, 0x10, 0x00, 0x04, 0x00, 0x00, 0x00, 0x0A, 0x10, 0x00, 0x03, 0x00, 0x00,
+    0x00, 0x0D, 0x10, 0x00, 0x0C, 0x00, 0x00, 0x00, 0x0E, 0x10, 0x00, 0x03, 0x00, 0x00};
+
+/* Of version 2, with routes of up to two legs; and as it is written again. */
+static const uint8_t W_SECOND_SHEET[] = {
     0x02, 0x00, 0x2C, 0x00, 0x00, 0x00, 0x08,
     0x00, 0x01, 0x03, 0x00, 0x03, 0x00, 0x02, 0x02, 0x00, 0x03, 0x00, 0x05, 0x02, 0x00, 0x04, 0x00, 0x06, 0x02, 0x00, 0x03,
     0x00, 0x09, 0x02, 0x00, 0x04, 0x00, 0x0A, 0x02, 0x00, 0x03, 0x00, 0x0D, 0x02, 0x00, 0x0C, 0x00, 0x0E, 0x02, 0x00, 0x03};
+static const uint8_t W_WRITTEN_AGAIN[] = {
+    0x03, 0x00, 0x3C, 0x00, 0x00, 0x00, 0x08,
+    0x00, 0x01, 0x12, 0x00, 0x03, 0x00, 0x00, 0x00, 0x02, 0x10, 0x00, 0x03, 0x00, 0x00, 0x00, 0x05, 0x10, 0x00, 0x04, 0x00, 0x00,
+    0x00, 0x06, 0x10, 0x00, 0x03, 0x00, 0x00, 0x00, 0x09, 0x10, 0x00, 0x04, 0x00, 0x00, 0x00, 0x0A, 0x10, 0x00, 0x03, 0x00, 0x00,
+    0x00, 0x0D, 0x10, 0x00, 0x0C, 0x00, 0x00, 0x00, 0x0E, 0x10, 0x00, 0x03, 0x00, 0x00};
 
-/* The same of version 1, as document 01 has it. */
+/* Of version 1, as document 01 has it. */
 static const uint8_t W_OLD_SHEET[] = {
     0x01, 0x00, 0x2C, 0x00, 0x00, 0x00, 0x08,
     0x00, 0x01, 0x03, 0x00, 0x04, 0x00, 0x02, 0x02, 0x00, 0x03, 0x00, 0x05, 0x02, 0x00, 0x04, 0x00, 0x06, 0x02, 0x00, 0x03,
@@ -33,17 +45,17 @@ static nafthurm_planned pair(const uint8_t *bytes, size_t size, uint16_t source,
     return p;
 }
 
-static void is_route(nafthurm_planned p, uint8_t kind, uint16_t via, uint16_t length) {
+static void is_route(nafthurm_planned p, uint8_t kind, uint16_t via, uint16_t second, uint16_t length) {
     HOLD(p.route.number == 0);
     HOLD(p.route.kind == kind);
-    HOLD(p.route.via == via);
+    HOLD(p.route.via[0] == via && p.route.via[1] == second);
     HOLD(p.length == length);
 }
 
 static void is_refused(nafthurm_planned p, uint8_t number) {
     HOLD(p.route.number == number);
-    HOLD(p.route.kind == number);
-    HOLD(p.route.via == 0);
+    HOLD(p.route.kind == (number == 10 ? 160 : number == 11 ? 176 : 255));
+    HOLD(p.route.via[0] == 0 && p.route.via[1] == 0);
     HOLD(p.length == 0);
 }
 
@@ -58,46 +70,46 @@ static void forms(void) {
     HOLD(sizeof(nafthurm_shape) == 4);
     HOLD(sizeof(nafthurm_weights) == 3);
     HOLD(sizeof(nafthurm_leg) == 4);
-    HOLD(sizeof(nafthurm_packet) == 12);
-    HOLD(sizeof(nafthurm_route) == 4);
-    HOLD(sizeof(nafthurm_planned) == 6);
+    HOLD(sizeof(nafthurm_packet) == 16);
+    HOLD(sizeof(nafthurm_route) == 6);
+    HOLD(sizeof(nafthurm_planned) == 8);
     HOLD(sizeof(nafthurm_run) == 16);
     HOLD(sizeof(nafthurm_converted) == 16);
     HOLD(NAFTHURM_ALL_WORDS == 4096 * NAFTHURM_ALL_WORDS_A_BOARD);
 }
 
 static void worked_pairs(void) {
-    is_route(pair(W, sizeof W, 0, 1), 3, 3, 3);
-    is_route(pair(W, sizeof W, 0, 2), 2, 3, 2);
-    is_route(pair(W, sizeof W, 0, 7), 0, 0, 2);
-    is_route(pair(W, sizeof W, 0, 0), 0, 0, 0);
-    is_route(pair(W, sizeof W, 0, 15), 0, 0, 2);
+    is_route(pair(W, sizeof W, 0, 1), 32, 3, 2, 3);
+    is_route(pair(W, sizeof W, 0, 2), 16, 3, 0, 2);
+    is_route(pair(W, sizeof W, 0, 7), 0, 0, 0, 2);
+    is_route(pair(W, sizeof W, 0, 0), 0, 0, 0, 0);
+    is_route(pair(W, sizeof W, 0, 15), 0, 0, 0, 2);
     is_refused(pair(W, sizeof W, 0, 16), 9);
     is_refused(pair(W, sizeof W, 16, 0), 9);
     is_refused(pair(W, 8, 0, 1), 1);
 
     uint8_t ring[] = {1, 0, 9, 4, 1, 1, 1, 0, 1, 0, 0, 0};
-    is_route(pair(ring, sizeof ring, 0, 1), 3, 3, 3);
+    is_route(pair(ring, sizeof ring, 0, 1), 32, 3, 2, 3);
     ring[3] = 5;
-    is_route(pair(ring, sizeof ring, 0, 1), 2, 3, 4);
+    is_route(pair(ring, sizeof ring, 0, 1), 16, 3, 0, 4);
     const uint8_t open[] = {1, 0, 9, 2, 1, 1, 0, 0, 1, 0, 0, 0};
     is_refused(pair(open, sizeof open, 0, 1), 11);
     const uint8_t one[] = {1, 0, 9, 1, 1, 1, 0, 0, 1, 0, 0, 3};
     is_refused(pair(one, sizeof one, 0, 0), 10);
 }
 
-/* By hops the route from 0 to 3 is by 2; with weights it is by 4. */
+/* By hops the route from 0 to 3 is by 1 and 2; with weights it is by 4 and 7. */
 static void weighed_pairs(void) {
     const uint8_t by_hops[] = {1, 0, 9, 4, 4, 1, 3, 0, 1, 0, 3, 0};
-    is_route(pair(by_hops, sizeof by_hops, 0, 3), 4, 2, 3);
-    is_route(pair(WEIGHED, sizeof WEIGHED, 0, 3), 3, 4, 5);
-    is_route(pair(WEIGHED, sizeof WEIGHED, 0, 1), 0, 0, 3);
-    is_route(pair(WEIGHED, sizeof WEIGHED, 0, 0), 0, 0, 0);
+    is_route(pair(by_hops, sizeof by_hops, 0, 3), 32, 1, 2, 3);
+    is_route(pair(WEIGHED, sizeof WEIGHED, 0, 3), 32, 4, 7, 5);
+    is_route(pair(WEIGHED, sizeof WEIGHED, 0, 1), 0, 0, 0, 3);
+    is_route(pair(WEIGHED, sizeof WEIGHED, 0, 0), 0, 0, 0, 0);
     is_refused(pair(WEIGHED, sizeof WEIGHED, 0, 16), 9);
     is_refused(pair(WEIGHED, 11, 0, 1), 1);
 
     uint8_t far[] = {2, 0, 9, 16, 16, 16, 0, 8, 8, 8, 0, 0};
-    is_route(pair(far, sizeof far, 0, 4095), 0, 0, 360);
+    is_route(pair(far, sizeof far, 0, 4095), 0, 0, 0, 360);
     far[9] = 9;
     is_refused(pair(far, sizeof far, 0, 4095), 16);
 }
@@ -199,19 +211,19 @@ static void worked_plans(void) {
 
 static void worked_sheet(void) {
     lend(&plan, W, sizeof W);
-    for (size_t room = 0; room < 60; room++) {
+    for (size_t room = 0; room < 80; room++) {
         lend_filled(&out, 0xEE, room);
         nafthurm_written w = nafthurm_write_sheet(plan.bytes, plan.size, 0, out.bytes, out.size);
-        if (room < 47) {
+        if (room < sizeof W_SHEET) {
             HOLD(w.number == 12 && w.size == 0);
             check_kept(&out);
             continue;
         }
-        HOLD(w.number == 0 && w.size == 47 && memcmp(out.bytes, W_SHEET, 47) == 0);
-        for (size_t i = 47; i < room; i++) HOLD(out.bytes[i] == 0xEE);
+        HOLD(w.number == 0 && w.size == sizeof W_SHEET && memcmp(out.bytes, W_SHEET, sizeof W_SHEET) == 0);
+        for (size_t i = sizeof W_SHEET; i < room; i++) HOLD(out.bytes[i] == 0xEE);
         check_around(&out);
     }
-    lend_filled(&out, 0xEE, 60);
+    lend_filled(&out, 0xEE, 80);
     HOLD(nafthurm_write_sheet(plan.bytes, plan.size, 16, out.bytes, out.size).number == 9);
     check_kept(&out);
     check_kept(&plan);
@@ -349,11 +361,15 @@ static void worked_listing(void) {
     uint8_t input[2 + sizeof W] = {0, 0};
     memcpy(input + 2, W, sizeof W);
     is_listing(input, sizeof input,
-               "0 16 1\n0 0 - 0\n1 3 3 3\n2 2 3 2\n3 0 - 1\n4 0 - 1\n5 2 4 2\n6 2 3 3\n7 0 - 2\n8 0 - 2\n9 2 4 3\n10 2 3 4\n11 0 - 3\n12 0 - 1\n13 2 12 2\n14 2 3 3\n15 0 - 2\n");
+               "0 16 1\n0 0 - - 0\n1 32 3 2 3\n2 16 3 - 2\n3 0 - - 1\n4 0 - - 1\n5 16 4 - 2\n6 16 3 - 3\n7 0 - - 2\n8 0 - - 2\n9 16 4 - 3\n10 16 3 - 4\n11 0 - - 3\n12 0 - - 1\n"
+               "13 16 12 - 2\n14 16 3 - 3\n15 0 - - 2\n");
     uint8_t weighed[2 + sizeof WEIGHED] = {0, 0};
     memcpy(weighed + 2, WEIGHED, sizeof WEIGHED);
     is_listing(weighed, sizeof weighed,
-               "0 16 1\n0 0 - 0\n1 0 - 3\n2 2 1 6\n3 3 4 5\n4 0 - 1\n5 0 - 4\n6 2 1 7\n7 2 4 4\n8 0 - 2\n9 0 - 5\n10 2 1 8\n11 2 4 5\n12 0 - 1\n13 0 - 4\n14 2 1 7\n15 2 12 4\n");
+               "0 16 1\n0 0 - - 0\n1 0 - - 3\n2 16 1 - 6\n3 32 4 7 5\n4 0 - - 1\n5 0 - - 4\n6 16 1 - 7\n7 16 4 - 4\n8 0 - - 2\n9 0 - - 5\n10 16 1 - 8\n11 16 4 - 5\n12 0 - - 1\n"
+               "13 0 - - 4\n14 16 1 - 7\n15 16 12 - 4\n");
+    const uint8_t none[] = {0, 0, 1, 0, 12, 3, 1, 1, 0, 0, 2, 0, 0, 0, 0, 2, 3};
+    is_listing(none, sizeof none, "0 3 2\n0 0 - - 0\n1 176 - - -\n2 160 - - -\n");
     weighed[9] = 9;
     is_listing(weighed, sizeof weighed, "refused 16\n");
     is_listing(input, 1, "refused 1\n");
@@ -365,6 +381,19 @@ static void worked_listing(void) {
     is_listing(dead, sizeof dead, "refused 10\n");
 }
 
+/* The lent sheet, into outputs of every length: these bytes, as many as W's sheet has. */
+static void is_written_back(const uint8_t *bytes) {
+    size_t size = sizeof W_SHEET;
+    for (size_t room = 0; room < size + 8; room++) {
+        lend_filled(&out, 0xEE, room);
+        nafthurm_written w = nafthurm_sheet_write_back(plan.bytes, plan.size, sheet.bytes, sheet.size, out.bytes, out.size);
+        HOLD(w.number == (room < size ? 12 : 0) && w.size == (room < size ? 0 : size));
+        if (room < size) check_kept(&out);
+        else HOLD(memcmp(out.bytes, bytes, size) == 0);
+        check_around(&out);
+    }
+}
+
 static void worked_lookups(void) {
     lend(&plan, W, sizeof W);
     lend(&sheet, W_SHEET, sizeof W_SHEET);
@@ -373,60 +402,90 @@ static void worked_lookups(void) {
         nafthurm_part part = nafthurm_lookup(plan.bytes, plan.size, sheet.bytes, sheet.size, d);
         nafthurm_route r = nafthurm_lookup_route(plan.bytes, plan.size, sheet.bytes, sheet.size, d);
         nafthurm_planned p = nafthurm_pair(plan.bytes, plan.size, 0, d);
-        HOLD(r.number == 0 && r.number == p.route.number && r.kind == p.route.kind && r.via == p.route.via);
+        HOLD(r.number == 0 && r.number == p.route.number && r.kind == p.route.kind && r.via[0] == p.route.via[0] && r.via[1] == p.route.via[1]);
         if (r.kind == 0) {
             HOLD(part.start == 0 && part.size == 0);
             continue;
         }
-        HOLD(part.size == 5 && part.start + 5 <= sheet.size && (part.start - 7) % 5 == 0);
+        HOLD(part.size == 7 && part.start + 7 <= sheet.size && (part.start - 7) % 7 == 0);
         const uint8_t *entry = sheet.bytes + part.start;
-        HOLD(entry[0] * 256 + entry[1] == d && entry[2] == r.kind && entry[3] * 256 + entry[4] == r.via);
+        HOLD(entry[0] * 256 + entry[1] == d && entry[2] == r.kind && entry[3] * 256 + entry[4] == r.via[0] && entry[5] * 256 + entry[6] == r.via[1]);
     }
     nafthurm_part part = nafthurm_lookup(plan.bytes, plan.size, sheet.bytes, sheet.size, 16);
     HOLD(part.start == 0 && part.size == 0);
     HOLD(nafthurm_lookup_route(plan.bytes, plan.size, sheet.bytes, sheet.size, 16).number == 9);
     HOLD(nafthurm_lookup_route(plan.bytes, plan.size, sheet.bytes, sheet.size - 1, 1).number == 13);
     HOLD(nafthurm_lookup_route(plan.bytes, 8, sheet.bytes, sheet.size, 1).number == 1);
-    for (size_t room = 44; room < 50; room++) {
-        lend_filled(&out, 0xEE, room);
-        nafthurm_written w = nafthurm_sheet_write_back(plan.bytes, plan.size, sheet.bytes, sheet.size, out.bytes, out.size);
-        HOLD(w.number == (room < 47 ? 12 : 0) && w.size == (room < 47 ? 0 : 47));
-        if (room < 47) check_kept(&out);
-        else HOLD(memcmp(out.bytes, W_SHEET, 47) == 0);
-        check_around(&out);
-    }
+    is_written_back(W_SHEET);
     check_kept(&plan);
     check_kept(&sheet);
 
-    /* Entries of kinds 10 and 11 give their number; a via equal to an end is 13. */
+    /* Entries of kinds 160 and 176 give 10 and 11; a via equal to an end, two equal vias and an absent one that is not 0 are 13. */
+    uint8_t made[] = {3, 0, 18, 0, 0, 0, 2, 0, 1, 160, 0, 0, 0, 0, 0, 2, 176, 0, 0, 0, 0};
+    lend(&sheet, made, sizeof made);
+    HOLD(nafthurm_lookup_route(plan.bytes, plan.size, sheet.bytes, sheet.size, 1).number == 10);
+    HOLD(nafthurm_lookup_route(plan.bytes, plan.size, sheet.bytes, sheet.size, 2).number == 11);
+    HOLD(nafthurm_lookup(plan.bytes, plan.size, sheet.bytes, sheet.size, 2).start == 14);
+    const uint8_t bad[][3] = {{16, 2, 0}, {16, 0, 0}, {16, 16, 0}, {16, 3, 4}, {32, 3, 3}, {32, 3, 2}, {32, 3, 0}, {32, 3, 16}, {1, 3, 0}, {1, 0, 3}, {0, 0, 0}, {2, 3, 0}, {20, 3, 0},
+                              {40, 3, 4}, {10, 0, 0}, {160, 0, 1}, {176, 1, 0}, {255, 0, 0}};
+    for (size_t i = 0; i <= sizeof bad / sizeof *bad; i++) {
+        const uint8_t *entry = i < sizeof bad / sizeof *bad ? bad[i] : (const uint8_t[]){39, 3, 4};
+        made[16] = entry[0], made[18] = entry[1], made[20] = entry[2];
+        lend(&sheet, made, sizeof made);
+        HOLD(nafthurm_sheet_check(plan.bytes, plan.size, sheet.bytes, sheet.size) == (i < sizeof bad / sizeof *bad ? 13 : 0));
+    }
+}
+
+/* W's sheet of version 2: its own five bytes, the kinds of version 3, and written again with the same routes. */
+static void second_version(void) {
+    lend(&plan, W, sizeof W);
+    lend(&sheet, W_SECOND_SHEET, sizeof W_SECOND_SHEET);
+    HOLD(nafthurm_sheet_check(plan.bytes, plan.size, sheet.bytes, sheet.size) == 0);
+    is_written_back(W_WRITTEN_AGAIN);
+    nafthurm_part part = nafthurm_lookup(plan.bytes, plan.size, sheet.bytes, sheet.size, 2);
+    HOLD(part.start == 12 && part.size == 5);
+    for (uint16_t d = 0; d < 16; d++) {
+        nafthurm_route r = nafthurm_lookup_route(plan.bytes, plan.size, sheet.bytes, sheet.size, d);
+        nafthurm_route again = nafthurm_lookup_route(plan.bytes, plan.size, W_WRITTEN_AGAIN, sizeof W_WRITTEN_AGAIN, d);
+        HOLD(r.number == 0 && r.kind == again.kind && r.via[0] == again.via[0] && r.via[1] == 0 && again.via[1] == 0);
+    }
+    HOLD(nafthurm_lookup_route(plan.bytes, plan.size, sheet.bytes, sheet.size, 1).kind == 18);
+    check_kept(&plan);
+    check_kept(&sheet);
+
     uint8_t made[] = {2, 0, 14, 0, 0, 0, 2, 0, 1, 10, 0, 0, 0, 2, 11, 0, 0};
     lend(&sheet, made, sizeof made);
     HOLD(nafthurm_lookup_route(plan.bytes, plan.size, sheet.bytes, sheet.size, 1).number == 10);
     HOLD(nafthurm_lookup_route(plan.bytes, plan.size, sheet.bytes, sheet.size, 2).number == 11);
-    HOLD(nafthurm_lookup(plan.bytes, plan.size, sheet.bytes, sheet.size, 2).start == 12);
-    made[14] = 2, made[16] = 2;
+    lend_filled(&out, 0xEE, 21);
+    HOLD(nafthurm_sheet_write_back(plan.bytes, plan.size, sheet.bytes, sheet.size, out.bytes, out.size).size == 21);
+    HOLD(out.bytes[9] == 160 && out.bytes[16] == 176);
+    made[14] = 16, made[16] = 3;
     lend(&sheet, made, sizeof made);
     HOLD(nafthurm_sheet_check(plan.bytes, plan.size, sheet.bytes, sheet.size) == 13);
 }
 
-/* W's sheet with each other version byte, 1 among them, is 13 by every call that reads it. The converter takes 1 alone, and finds 17 in the first entry, by 3. */
-static void sheet_versions(void) {
+/*
+ * A sheet of W, of version `own`, with each other version byte is 13 by every call that reads it. The converter takes 1 alone, of version 2's layout, and finds 17 in
+ * the first entry, by 3.
+ */
+static void sheet_versions(const uint8_t *own, size_t size) {
     uint8_t bytes[sizeof W_SHEET];
-    memcpy(bytes, W_SHEET, sizeof bytes);
+    memcpy(bytes, own, size);
     lend(&plan, W, sizeof W);
     for (int version = 0; version < 256; version++) {
-        uint8_t number = version == 2 ? 0 : 13;
+        uint8_t number = version == own[0] ? 0 : 13;
         bytes[0] = (uint8_t)version;
-        lend(&sheet, bytes, sizeof bytes);
+        lend(&sheet, bytes, size);
         lend_filled(&out, 0xEE, sizeof bytes);
         HOLD(nafthurm_sheet_check(plan.bytes, plan.size, sheet.bytes, sheet.size) == number);
-        HOLD(nafthurm_lookup(plan.bytes, plan.size, sheet.bytes, sheet.size, 1).size == (number ? 0 : 5));
+        HOLD(nafthurm_lookup(plan.bytes, plan.size, sheet.bytes, sheet.size, 1).size == (number ? 0 : own[0] == 2 ? 5 : 7));
         HOLD(nafthurm_lookup_route(plan.bytes, plan.size, sheet.bytes, sheet.size, 1).number == number);
         HOLD(nafthurm_lookup_route(plan.bytes, plan.size, sheet.bytes, sheet.size, 7).number == number);
         HOLD(nafthurm_sheet_write_back(plan.bytes, plan.size, sheet.bytes, sheet.size, out.bytes, out.size).number == number);
         if (number != 0) check_kept(&out);
         lend_filled(&out, 0xEE, sizeof bytes);
-        HOLD(nafthurm_convert(plan.bytes, plan.size, sheet.bytes, sheet.size, out.bytes, out.size).number == (version == 1 ? 17 : 13));
+        HOLD(nafthurm_convert(plan.bytes, plan.size, sheet.bytes, sheet.size, out.bytes, out.size).number == (version == 1 && own[0] == 2 ? 17 : 13));
         check_kept(&out);
         check_kept(&sheet);
     }
@@ -465,7 +524,7 @@ static void is_not_converted(const uint8_t *bytes, size_t size, uint8_t number, 
     }
 }
 
-/* Ordinary reading takes the converted sheet, which leads from 0 to 1 by 4 as the old one did; planning now leads by 3. */
+/* Ordinary reading takes the converted sheet, which leads from 0 to 1 by 4 as the old one did; planning now leads by 3 and 2. */
 static void worked_conversion(void) {
     uint8_t bytes[sizeof W_OLD_SHEET + 1] = {0};
     memcpy(bytes, W_OLD_SHEET, sizeof W_OLD_SHEET);
@@ -473,7 +532,7 @@ static void worked_conversion(void) {
     is_converted(bytes, sizeof W_OLD_SHEET);
     HOLD(convert(bytes, sizeof W_OLD_SHEET, sizeof W_OLD_SHEET).number == 0);
     nafthurm_route r = nafthurm_lookup_route(plan.bytes, plan.size, out.bytes, out.size, 1);
-    HOLD(r.number == 0 && r.kind == 3 && r.via == 4);
+    HOLD(r.number == 0 && r.kind == 18 && r.via[0] == 4 && r.via[1] == 0);
     HOLD(nafthurm_lookup_route(plan.bytes, plan.size, sheet.bytes, sheet.size, 1).number == 13);
     for (size_t size = 0; size < sizeof W_OLD_SHEET; size++) is_not_converted(bytes, size, 13, 0);
     is_not_converted(bytes, sizeof bytes, 13, 0);
@@ -541,7 +600,7 @@ static void half_ring_conversions(void) {
 }
 
 static int same_packet(nafthurm_packet a, nafthurm_packet b) {
-    for (int i = 0; i < 2; i++)
+    for (int i = 0; i < 3; i++)
         if (a.legs[i].target != b.legs[i].target || a.legs[i].mode != b.legs[i].mode) return 0;
     return a.node == b.node && a.left == b.left;
 }
@@ -590,39 +649,66 @@ static void worked_packets(void) {
     packets_of(WEIGHED, sizeof WEIGHED);
     packets_of(W, sizeof W);
     nafthurm_shape shape = nafthurm_plan_shape(plan.bytes, plan.size);
-    /* Endings and refusals of a walk from 0 by 3 to 2. */
-    nafthurm_packet packet = {0, {{3, 0}, {2, 0}}, 2};
-    const uint8_t run[] = {1, 1, 1};
-    HOLD(nafthurm_walk(shape, packet, run, 3).ending == NAFTHURM_ARRIVED);
-    nafthurm_walked w = nafthurm_walk(shape, packet, run, 1);
-    HOLD(w.ending == NAFTHURM_USED_UP && w.number == 0 && w.hops == 1 && w.packet.node == 3 && w.packet.left == 1);
+    /* Endings and refusals of a walk from 0 by 3 and 2 to 1. */
+    nafthurm_packet packet = {0, {{3, 0}, {2, 0}, {1, 0}}, 3};
+    const uint8_t run[] = {1, 1, 1, 1};
+    nafthurm_walked w = nafthurm_walk(shape, packet, run, 4);
+    HOLD(w.ending == NAFTHURM_ARRIVED && w.hops == 3 && w.packet.node == 1 && w.packet.left == 0);
+    w = nafthurm_walk(shape, packet, run, 2);
+    HOLD(w.ending == NAFTHURM_USED_UP && w.number == 0 && w.hops == 2 && w.packet.node == 2 && w.packet.left == 1);
     const uint8_t wrong[] = {1, 0};
     w = nafthurm_walk(shape, packet, wrong, 2);
-    HOLD(w.ending == NAFTHURM_NOT_ALLOWED && w.number == 15 && w.hops == 1 && w.packet.node == 3);
-    packet.left = 3;
+    HOLD(w.ending == NAFTHURM_NOT_ALLOWED && w.number == 15 && w.hops == 1 && w.packet.node == 3 && w.packet.left == 2);
+    packet.left = 4;
     w = nafthurm_walk(shape, packet, run, 3);
     HOLD(w.ending == NAFTHURM_REFUSED && w.number == 14 && w.hops == 0 && same_packet(w.packet, packet));
-    packet.left = 2, packet.legs[1].target = 16;
-    HOLD(nafthurm_step(shape, packet, 1).number == 14);
+    for (int leg = 0; leg < 3; leg++) {
+        nafthurm_packet outside = {0, {{3, 0}, {2, 0}, {1, 0}}, 3};
+        outside.legs[leg].target = 16;
+        HOLD(nafthurm_step(shape, outside, 1).number == 14);
+        outside.left = (uint8_t)(2 - leg);
+        HOLD(nafthurm_packet_check(shape, outside) == 0); /* of a leg that is not left */
+    }
+    /* Two legs that end where they begin are dropped at once; one behind another waits. */
+    nafthurm_packet here = {0, {{0, 1}, {0, 0}, {3, 0}}, 3}, waits = {0, {{3, 0}, {0, 0}, {0, 0}}, 3};
+    nafthurm_stepped s = nafthurm_step(shape, here, 1);
+    HOLD(s.number == 0 && s.packet.node == 3 && s.packet.left == 0);
+    s = nafthurm_step(shape, waits, 1);
+    HOLD(s.number == 0 && s.packet.node == 3 && s.packet.left == 2);
+    s = nafthurm_step(shape, s.packet, 0);
+    HOLD(s.number == 0 && s.packet.node == 0 && s.packet.left == 0);
     /* Any other byte of a mode is deterministic, and comes back as it was. */
-    nafthurm_packet odd = {0, {{2, 9}, {2, 200}}, 1};
+    nafthurm_packet odd = {0, {{2, 7}, {2, 9}, {2, 200}}, 1};
     HOLD(nafthurm_step(shape, odd, 1).number == 15);
-    nafthurm_stepped s = nafthurm_step(shape, odd, 0);
-    HOLD(s.number == 0 && s.packet.node == 1 && s.packet.legs[0].mode == 9 && s.packet.legs[1].mode == 200);
+    s = nafthurm_step(shape, odd, 0);
+    HOLD(s.number == 0 && s.packet.node == 1 && s.packet.legs[0].mode == 7 && s.packet.legs[1].mode == 9 && s.packet.legs[2].mode == 200);
     shape.x = 17;
     HOLD(nafthurm_step(shape, odd, 0).number == 5);
     shape.x = 2;
     HOLD(nafthurm_step(shape, odd, 0).number == 6);
     /* A refused route makes a packet that every call refuses. */
-    nafthurm_route refused = {11, 11, 0};
+    nafthurm_route refused = {11, 176, {0, 0}};
     HOLD(nafthurm_new_packet(0, 1, refused).left == 255);
-    nafthurm_route no_kind = {0, 6, 0};
-    HOLD(nafthurm_new_packet(0, 1, no_kind).left == 255);
+    for (int kind = 48; kind < 256; kind++) {
+        nafthurm_route no_kind = {0, (uint8_t)kind, {0, 0}};
+        HOLD(nafthurm_new_packet(0, 1, no_kind).left == 255);
+    }
+    /* The legs of every kind: a bit for each deterministic one, leg one lowest. */
+    for (int vias = 0; vias < 3; vias++)
+        for (int modes = 0; modes < 2 << vias; modes++) {
+            nafthurm_route route = {0, (uint8_t)(16 * vias + modes), {(uint16_t)(vias > 0 ? 7 : 0), (uint16_t)(vias > 1 ? 9 : 0)}};
+            nafthurm_packet made = nafthurm_new_packet(3, 1, route);
+            HOLD(made.node == 3 && made.left == vias + 1);
+            for (int leg = 0; leg <= vias; leg++) {
+                nafthurm_leg l = made.legs[2 - vias + leg];
+                HOLD(l.target == (leg == vias ? 1 : route.via[leg]) && l.mode == (modes >> leg & 1));
+            }
+        }
 }
 
 /* Whether a packet of one leg, at a place of a ring and bound for another, both in that dimension, may go plus, and whether minus. */
 static void may_go(nafthurm_shape shape, int stride, int dim, int from, int to, uint8_t mode, int plus, int minus) {
-    nafthurm_packet packet = {(uint16_t)(from * stride), {{0, 0}, {(uint16_t)(to * stride), mode}}, 1};
+    nafthurm_packet packet = {(uint16_t)(from * stride), {{0, 0}, {0, 0}, {(uint16_t)(to * stride), mode}}, 1};
     HOLD(nafthurm_step(shape, packet, (uint8_t)(2 * dim)).number == (plus ? 0 : 15));
     HOLD(nafthurm_step(shape, packet, (uint8_t)(2 * dim + 1)).number == (minus ? 0 : 15));
 }
@@ -643,10 +729,10 @@ static void half_rings(void) {
         }
 }
 
-/* The ring of 4 with 0 X+ dead, from 0 by 3 to 1: the second leg begins anew, at an odd place. */
+/* On a ring of 4 from 0 by 3 to 1, the second leg deterministic: it begins anew, at an odd place. */
 static void half_ring_route(void) {
-    const uint8_t ring[] = {1, 0, 9, 4, 1, 1, 1, 0, 1, 0, 0, 0}, minus[] = {1, 1, 1}, plus[] = {1, 0};
-    nafthurm_packet packet = nafthurm_new_packet(0, 1, pair(ring, sizeof ring, 0, 1).route);
+    const uint8_t minus[] = {1, 1, 1}, plus[] = {1, 0};
+    nafthurm_packet packet = nafthurm_new_packet(0, 1, (nafthurm_route){0, 18, {3, 0}});
     nafthurm_shape shape = {4, 1, 1, 1};
     nafthurm_walked w = nafthurm_walk(shape, packet, minus, sizeof minus);
     HOLD(w.ending == NAFTHURM_ARRIVED && w.hops == 3 && w.packet.node == 1);
@@ -656,8 +742,8 @@ static void half_ring_route(void) {
 
 /* ---- The stack ---- */
 
-static uint8_t stack[1 << 18] __attribute__((aligned(64)));
-static uint8_t big_input[2 + NAFTHURM_PLAN_BYTES], *const big_plan = big_input + 2, big_sheet[NAFTHURM_SHEET_BYTES], big_old[NAFTHURM_SHEET_BYTES];
+static uint8_t stack[1 << 19] __attribute__((aligned(64)));
+static uint8_t big_input[2 + NAFTHURM_PLAN_BYTES], *const big_plan = big_input + 2, big_sheet[NAFTHURM_SHEET_BYTES], big_old[7 + 5 * 4095];
 static uint8_t big_out[NAFTHURM_LISTING_BYTES], run_of_45[45];
 static uint16_t big_work[NAFTHURM_ALL_WORDS];
 static size_t big_sheet_size;
@@ -665,7 +751,7 @@ static ucontext_t back, on_stack;
 static volatile size_t answer;
 
 static const nafthurm_shape CUBE = {16, 16, 16, 7};
-static const nafthurm_packet TWO_LEGS = {0, {{7, 0}, {9, 1}}, 2};
+static const nafthurm_packet THREE_LEGS = {0, {{7, 0}, {9, 1}, {11, 0}}, 3};
 
 static void no_call(void) { answer = 0; }
 static void calls_plan_check(void) { answer = nafthurm_plan_check(big_plan, NAFTHURM_PLAN_BYTES); }
@@ -687,9 +773,9 @@ static void calls_sheet_write_back(void) {
 static void calls_lookup(void) { answer = nafthurm_lookup(big_plan, NAFTHURM_PLAN_BYTES, big_sheet, big_sheet_size, 4000).size; }
 static void calls_lookup_route(void) { answer = nafthurm_lookup_route(big_plan, NAFTHURM_PLAN_BYTES, big_sheet, big_sheet_size, 4000).kind; }
 static void calls_convert(void) { answer = nafthurm_convert(big_plan, NAFTHURM_PLAN_BYTES, big_old, sizeof big_old, big_out, sizeof big_out).size; }
-static void calls_packet_check(void) { answer = nafthurm_packet_check(CUBE, TWO_LEGS); }
-static void calls_step(void) { answer = nafthurm_step(CUBE, TWO_LEGS, 0).number; }
-static void calls_walk(void) { answer = nafthurm_walk(CUBE, TWO_LEGS, run_of_45, sizeof run_of_45).hops; }
+static void calls_packet_check(void) { answer = nafthurm_packet_check(CUBE, THREE_LEGS); }
+static void calls_step(void) { answer = nafthurm_step(CUBE, THREE_LEGS, 0).number; }
+static void calls_walk(void) { answer = nafthurm_walk(CUBE, THREE_LEGS, run_of_45, sizeof run_of_45).hops; }
 
 /* The bytes of stack that the call changes. */
 static size_t stack_of(void (*call)(void)) {
@@ -764,7 +850,9 @@ int main(int count, char **words) {
     worked_all_sheets();
     worked_listing();
     worked_lookups();
-    sheet_versions();
+    second_version();
+    sheet_versions(W_SHEET, sizeof W_SHEET);
+    sheet_versions(W_SECOND_SHEET, sizeof W_SECOND_SHEET);
     worked_conversion();
     old_rings();
     half_ring_conversions();

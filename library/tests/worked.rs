@@ -8,10 +8,10 @@ const W: [u8; 12] = [1, 0, 9, 4, 4, 1, 3, 0, 1, 0, 0, 0];
 const WEIGHED: [u8; 15] = [2, 0, 12, 4, 4, 1, 3, 3, 1, 1, 0, 1, 0, 3, 0];
 
 fn sheet_of_w() -> Vec<u8> {
-    let mut out = [0xEE; 60];
-    assert_eq!(write_sheet(&W, 0, &mut out), Ok(47));
-    assert!(out[47..].iter().all(|&b| b == 0xEE));
-    out[..47].to_vec()
+    let mut out = [0xEE; 80];
+    assert_eq!(write_sheet(&W, 0, &mut out), Ok(63));
+    assert!(out[63..].iter().all(|&b| b == 0xEE));
+    out[..63].to_vec()
 }
 
 fn route(plan: &[u8], source: u16, destination: u16) -> Result<(Route, u16), Refused> {
@@ -20,12 +20,12 @@ fn route(plan: &[u8], source: u16, destination: u16) -> Result<(Route, u16), Ref
 
 #[test]
 fn pairs() {
-    assert_eq!(route(&W, 0, 1), Ok((Route::Via(3, Adaptive, Deterministic), 3)));
+    assert_eq!(route(&W, 0, 1), Ok((Route::Vias(3, 2, Adaptive, Adaptive, Adaptive), 3)));
     assert_eq!(route(&W, 0, 2), Ok((Route::Via(3, Adaptive, Adaptive), 2)));
     assert_eq!(route(&W, 0, 7), Ok((Route::Direct(Adaptive), 2)));
     assert_eq!(route(&W, 0, 0), Ok((Route::Direct(Adaptive), 0)));
     assert_eq!(route(&W, 0, 16), Err(Refused(9)));
-    assert_eq!(route(&[1, 0, 9, 4, 1, 1, 1, 0, 1, 0, 0, 0], 0, 1), Ok((Route::Via(3, Adaptive, Deterministic), 3)));
+    assert_eq!(route(&[1, 0, 9, 4, 1, 1, 1, 0, 1, 0, 0, 0], 0, 1), Ok((Route::Vias(3, 2, Adaptive, Adaptive, Adaptive), 3)));
     assert_eq!(route(&[1, 0, 9, 5, 1, 1, 1, 0, 1, 0, 0, 0], 0, 1), Ok((Route::Via(3, Adaptive, Adaptive), 4)));
     assert_eq!(route(&[1, 0, 9, 2, 1, 1, 0, 0, 1, 0, 0, 0], 0, 1), Err(Refused(11)));
     assert_eq!(route(&[1, 0, 9, 1, 1, 1, 0, 0, 1, 0, 0, 3], 0, 0), Err(Refused(10)));
@@ -33,8 +33,8 @@ fn pairs() {
 
 #[test]
 fn weights() {
-    assert_eq!(route(&[1, 0, 9, 4, 4, 1, 3, 0, 1, 0, 3, 0], 0, 3), Ok((Route::Via(2, Deterministic, Adaptive), 3)));
-    assert_eq!(route(&WEIGHED, 0, 3), Ok((Route::Via(4, Adaptive, Deterministic), 5)));
+    assert_eq!(route(&[1, 0, 9, 4, 4, 1, 3, 0, 1, 0, 3, 0], 0, 3), Ok((Route::Vias(1, 2, Adaptive, Adaptive, Adaptive), 3)));
+    assert_eq!(route(&WEIGHED, 0, 3), Ok((Route::Vias(4, 7, Adaptive, Adaptive, Adaptive), 5)));
     assert_eq!(route(&[2, 0, 9, 16, 16, 16, 0, 8, 8, 8, 0, 0], 0, 4095), Ok((Route::Direct(Adaptive), 360)));
     assert_eq!(route(&[2, 0, 9, 16, 16, 16, 0, 8, 8, 9, 0, 0], 0, 4095), Err(Refused(16)));
     assert_eq!(plan_weights(&WEIGHED), Weights { x: 3, y: 1, z: 1 });
@@ -63,24 +63,44 @@ fn plans() {
 
 #[test]
 fn sheets() {
-    let mut out = [0xEE; 46];
+    let mut out = [0xEE; 62];
     assert_eq!(write_sheet(&W, 0, &mut out), Err(Refused(12)));
-    assert_eq!(out, [0xEE; 46]);
+    assert_eq!(out, [0xEE; 62]);
     let sheet = sheet_of_w();
-    assert_eq!(sheet[..12], [2, 0, 0x2C, 0, 0, 0, 8, 0, 1, 3, 0, 3]);
+    assert_eq!(sheet[..14], [3, 0, 0x3C, 0, 0, 0, 8, 0, 1, 32, 0, 3, 0, 2]);
     assert_eq!(sheet_check(&W, &sheet), Ok(()));
     assert_eq!(sheet_check(&W, &sheet[1..]), Err(Refused(13)));
-    let mut back = [0; 47];
-    assert_eq!(sheet_write_back(&W, &sheet, &mut back), Ok(47));
+    let mut back = [0; 63];
+    assert_eq!(sheet_write_back(&W, &sheet, &mut back), Ok(63));
     assert_eq!(back[..], sheet[..]);
-    let old = [&[1], &sheet[1..]].concat();
-    assert_eq!(sheet_check(&W, &old), Err(Refused(13)));
-    assert_eq!(sheet_write_back(&W, &old, &mut back), Err(Refused(13)));
-    assert_eq!(lookup_route(&W, &old, 1), Err(Refused(13)));
-    assert!(lookup(&W, &old, 1).is_empty());
+    for version in [1, 2, 4] {
+        let other = [&[version], &sheet[1..]].concat();
+        assert_eq!(sheet_check(&W, &other), Err(Refused(13)));
+        assert_eq!(sheet_write_back(&W, &other, &mut back), Err(Refused(13)));
+        assert_eq!(lookup_route(&W, &other, 1), Err(Refused(13)));
+        assert!(lookup(&W, &other, 1).is_empty());
+    }
 }
 
-/// W's sheet of source 0 as document 01 has it: its first entry is by 4, where planning now goes by 3.
+/// Version 2 is read, and written again as version 3.
+#[test]
+fn second_version() {
+    let second = [2, 0, 29, 0, 0, 0, 5, 0, 1, 3, 0, 3, 0, 2, 2, 0, 3, 0, 5, 4, 0, 4, 0, 6, 10, 0, 0, 0, 7, 11, 0, 0];
+    let third = [
+        3, 0, 39, 0, 0, 0, 5, 0, 1, 18, 0, 3, 0, 0, 0, 2, 16, 0, 3, 0, 0, 0, 5, 17, 0, 4, 0, 0, 0, 6, 160, 0, 0, 0, 0, 0, 7, 176, 0, 0, 0, 0,
+    ];
+    let mut out = [0xEE; 43];
+    assert_eq!(sheet_write_back(&W, &second, &mut out[..41]), Err(Refused(12)));
+    assert_eq!(sheet_write_back(&W, &second, &mut out), Ok(42));
+    assert_eq!((&out[..42], out[42]), (&third[..], 0xEE));
+    assert!(std::ptr::eq(lookup(&W, &second, 2), &second[12..17]));
+    for destination in 0..17 {
+        assert_eq!(lookup_route(&W, &second, destination), lookup_route(&W, &third, destination));
+    }
+    assert_eq!((lookup_route(&W, &third, 6), lookup_route(&W, &third, 7)), (Err(Refused(10)), Err(Refused(11))));
+}
+
+/// W's sheet of source 0 as document 01 has it: its first entry is by 4, where planning now goes by 3 and 2.
 const OLD: [u8; 47] = [
     1, 0, 0x2C, 0, 0, 0, 8, 0, 1, 3, 0, 4, 0, 2, 2, 0, 3, 0, 5, 2, 0, 4, 0, 6, 2, 0, 3, 0, 9, 2, 0, 4, 0, 10, 2, 0, 3, 0, 13, 2, 0, 12, 0, 14, 2, 0, 3,
 ];
@@ -101,7 +121,8 @@ fn old_sheets() {
     assert_eq!(convert(&W[..8], &OLD, &mut out), refused(1));
     let now = sheet_of_w();
     assert_eq!(convert(&W, &now, &mut out), refused(13));
-    assert_eq!(convert(&W, &[&[1], &now[1..]].concat(), &mut out), Err(NotConverted::NotKept(0)));
+    let by_3 = [&OLD[..11], &[3], &OLD[12..]].concat();
+    assert_eq!(convert(&W, &by_3, &mut out), Err(NotConverted::NotKept(0)));
     assert_eq!(out, [0xEE; 48]);
     assert_eq!(convert(&W, &OLD, &mut out), Ok(47));
     assert_eq!((out[0], &out[1..47], out[47]), (2, &OLD[1..], 0xEE));
@@ -129,7 +150,7 @@ fn all_sheets_of_w() {
     };
     let sheets: Vec<Vec<u8>> = (0..16).map(one).collect();
     let mut work = [0xEEEE; 16 * ALL_WORDS_A_BOARD];
-    for room in [47, 100, 16 * 47, 2000] {
+    for room in [63, 100, 16 * 63, 2000] {
         let (mut from, mut row, mut out) = (0, vec![], vec![0xEE; room]);
         while from < 16 {
             let run = all_sheets(&W, from, &mut work, &mut out).unwrap();
@@ -141,7 +162,7 @@ fn all_sheets_of_w() {
         assert_eq!(row, sheets.concat());
     }
     let mut out = [0; 100];
-    assert_eq!(all_sheets(&W, 0, &mut work, &mut out[..46]), Err(NoRun::Refused(Refused(12))));
+    assert_eq!(all_sheets(&W, 0, &mut work, &mut out[..62]), Err(NoRun::Refused(Refused(12))));
     assert_eq!(all_sheets(&W, 16, &mut work, &mut out), Err(NoRun::Refused(Refused(9))));
     assert_eq!(all_sheets(&W[..8], 0, &mut work, &mut out), Err(NoRun::Refused(Refused(1))));
     assert_eq!(all_sheets(&W, 0, &mut work[1..], &mut out), Err(NoRun::FewWords));
@@ -152,7 +173,7 @@ fn listings() {
     let mut out = [0; LISTING_BYTES];
     let input = [&[0, 0], &W[..]].concat();
     let size = listing(&input, &mut out).unwrap();
-    assert!(out[..size].starts_with(b"0 16 1\n0 0 - 0\n1 3 3 3\n2 2 3 2\n3 0 - 1\n") && out[..size].ends_with(b"14 2 3 3\n15 0 - 2\n"));
+    assert!(out[..size].starts_with(b"0 16 1\n0 0 - - 0\n1 32 3 2 3\n2 16 3 - 2\n3 0 - - 1\n") && out[..size].ends_with(b"14 16 3 - 3\n15 0 - - 2\n"));
     assert_eq!(listing(&input, &mut out[..size - 1]), Err(Refused(12)));
     assert_eq!(listing(&input[..1], &mut out), Ok(10));
     assert_eq!(&out[..10], b"refused 1\n");
@@ -161,7 +182,7 @@ fn listings() {
 #[test]
 fn lookups() {
     let sheet = sheet_of_w();
-    assert!(std::ptr::eq(lookup(&W, &sheet, 2), &sheet[12..17]));
+    assert!(std::ptr::eq(lookup(&W, &sheet, 2), &sheet[14..21]));
     assert!(lookup(&W, &sheet, 7).is_empty() && lookup(&W, &sheet, 16).is_empty());
     for destination in 0..16 {
         assert_eq!(lookup_route(&W, &sheet, destination), pair(&W, 0, destination).map(|p| p.route));
@@ -191,9 +212,13 @@ fn packets() {
     assert_eq!(packet.walk(shape, &[1]).ending, Ending::UsedUp);
     assert_eq!(packet.walk(shape, &[1, 0]).ending, Ending::NotAllowed);
     assert_eq!(packet.step(shape, 6), Err(Refused(15)));
-    let three = Packet { left: 3, ..packet };
-    assert_eq!(three.walk(shape, &[1]), Walked { packet: three, hops: 0, ending: Ending::Refused(Refused(14)) });
-    assert_eq!(three.step(Shape { x: 17, ..shape }, 1), Err(Refused(5)));
+    let three = Packet::new(0, 1, Route::Vias(3, 2, Adaptive, Deterministic, Adaptive));
+    assert_eq!((three.left, three.legs.map(|leg| (leg.target, leg.mode))), (3, [(3, Adaptive), (2, Deterministic), (1, Adaptive)]));
+    assert_eq!(three.walk(shape, &[1, 1]).packet.left, 1);
+    assert_eq!((three.walk(shape, &[1, 1, 1]).packet.node, three.walk(shape, &[1, 1, 1]).ending), (1, Ending::Arrived));
+    let four = Packet { left: 4, ..packet };
+    assert_eq!(four.walk(shape, &[1]), Walked { packet: four, hops: 0, ending: Ending::Refused(Refused(14)) });
+    assert_eq!(four.step(Shape { x: 17, ..shape }, 1), Err(Refused(5)));
 }
 
 #[test]
@@ -208,14 +233,14 @@ fn half_rings() {
 #[test]
 fn largest_sheet() {
     let plan = [1, 0, 6, 16, 16, 16, 7, 0, 0];
-    let mut sheet = vec![2, 0, 0, 0, 0, 0x0F, 0xFF];
+    let mut sheet = vec![3, 0, 0, 0, 0, 0x0F, 0xFF];
     for destination in 1..4096u16 {
-        sheet.extend([(destination >> 8) as u8, destination as u8, 1, 0, 0]);
+        sheet.extend([(destination >> 8) as u8, destination as u8, 1, 0, 0, 0, 0]);
     }
     assert_eq!(sheet.len(), SHEET_BYTES);
     let follows = (SHEET_BYTES - 3) as u16;
     sheet[1..3].copy_from_slice(&follows.to_be_bytes());
     assert_eq!(sheet_check(&plan, &sheet), Ok(()));
-    assert_eq!(lookup(&plan, &sheet, 4095), &[0x0F, 0xFF, 1, 0, 0]);
+    assert_eq!(lookup(&plan, &sheet, 4095), &[0x0F, 0xFF, 1, 0, 0, 0, 0]);
     assert_eq!(lookup_route(&plan, &sheet, 4095), Ok(Route::Direct(Deterministic)));
 }

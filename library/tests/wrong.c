@@ -109,7 +109,9 @@ static int deterministic_would_do(const uint8_t *plan, uint16_t source, uint16_t
 }
 
 static int route_hops(nafthurm_shape s, nafthurm_route route, uint16_t source, uint16_t destination) {
-    return route.kind < 2 ? hops(s, source, destination) : hops(s, source, route.via) + hops(s, route.via, destination);
+    int sum = 0, at = source;
+    for (int i = 0; i < route.kind / 16; i++) sum += hops(s, at, route.via[i]), at = route.via[i];
+    return sum + hops(s, at, destination);
 }
 
 /* On plans that are small for the model. */
@@ -122,21 +124,46 @@ static nafthurm_planned pair_by(half_rule *rule, const uint8_t *plan, uint16_t s
     return p;
 }
 
+/* A route by two vias in the place of this one, as short and with its modes: one with a lower second via (147), or with a higher one behind the same first (148). */
+static nafthurm_planned other_order(nafthurm_planned p, const uint8_t *plan, int source, int destination) {
+    static model_plan model;
+    if (p.route.kind < 32) return p;
+    read_plan(&model, plan);
+    int nodes = nodes_of(model.shape), modes = p.route.kind & 7;
+    for (int via = 0; via < nodes; via++)
+        for (int second = 0; second < nodes; second++) {
+            if (via == source || via == destination || second == source || second == destination || via == second) continue;
+            if (apart(&model, source, via) + apart(&model, via, second) + apart(&model, second, destination) != p.length) continue;
+            if (wrong(147) && second >= p.route.via[1]) continue;
+            if (wrong(148) && (via != p.route.via[0] || second <= p.route.via[1])) continue;
+            if (!leg_clear(&model, source, via, modes & 1) || !leg_clear(&model, via, second, modes >> 1 & 1) || !leg_clear(&model, second, destination, modes >> 2)) continue;
+            return (nafthurm_planned){{0, p.route.kind, {(uint16_t)via, (uint16_t)second}}, p.length};
+        }
+    return p;
+}
+
 AROUND(nafthurm_planned, nafthurm_pair, const uint8_t *plan, size_t plan_size, uint16_t source, uint16_t destination) {
     nafthurm_planned p = __real_nafthurm_pair(plan, plan_size, source, destination);
     int count = count_of(plan, plan_size);
     half_rule *rule = wrong(86) ? always_plus : wrong(87) ? from_odd : wrong(88) ? by_target : wrong(89) ? by_number : wrong(90) ? by_first : NULL;
     if (rule != NULL && count > 0 && count <= 64) return pair_by(rule, plan, source, destination);
     if (wrong(14) && p.route.number == 9 && source == count) return __real_nafthurm_pair(plan, plan_size, (uint16_t)(source - 1), destination);
-    if (wrong(15) && p.route.number == 9 && destination == count) return (nafthurm_planned){{11, 11, 0}, 0};
+    if (wrong(15) && p.route.number == 9 && destination == count) return (nafthurm_planned){refused_route(11), 0};
     int dead = nafthurm_dead_node(plan, plan_size, source) || nafthurm_dead_node(plan, plan_size, destination);
-    if (wrong(16) && p.route.number == 9 && dead) return (nafthurm_planned){{10, 10, 0}, 0}; /* 10 before 9 */
+    if (wrong(16) && p.route.number == 9 && dead) return (nafthurm_planned){refused_route(10), 0}; /* 10 before 9 */
     if (p.route.number != 0) return p;
-    if (wrong(17) && p.route.kind == 5) p.route.kind = 4;
-    if (wrong(18) && p.route.kind >= 2) p.route.kind = 0, p.route.via = 0;
-    if (wrong(19) && p.length > 30) return (nafthurm_planned){{11, 11, 0}, 0};
-    if (wrong(20) && p.route.kind == 2 && deterministic_would_do(plan, source, destination, p.length)) p.route.kind = 1, p.route.via = 0; /* vias before modes */
-    if (wrong(21) && p.route.kind == 2 && p.route.via == 0) p.route.kind = 0; /* via 0 taken for none */
+    if (wrong(17) && p.route.kind == 18) p.route.kind = 17;
+    if (wrong(18) && p.route.kind >= 16) p.route = (nafthurm_route){0, 0, {0, 0}};
+    if (wrong(19) && p.length > 30) return (nafthurm_planned){refused_route(11), 0};
+    if (wrong(20) && p.route.kind == 16 && deterministic_would_do(plan, source, destination, p.length)) p.route = (nafthurm_route){0, 1, {0, 0}}; /* vias before modes */
+    if (wrong(21) && p.route.kind == 16 && p.route.via[0] == 0) p.route.kind = 0; /* via 0 taken for none */
+    if (wrong(141) && p.route.kind >= 32) return (nafthurm_planned){refused_route(11), 0};                     /* no second via */
+    if (wrong(142) && p.route.kind == 39) p.route.kind = 38;
+    if (wrong(143) && p.route.kind == 33) p.route.kind = 36;                                                   /* leg one highest */
+    if (wrong(144) && p.route.kind >= 32 && p.route.via[1] == 0) p.route.kind = (uint8_t)(16 + p.route.kind % 4);
+    if (wrong(145) && p.route.kind >= 32) p.route.via[0] ^= p.route.via[1], p.route.via[1] ^= p.route.via[0], p.route.via[0] ^= p.route.via[1];
+    if (wrong(146) && p.length > 720) p.length = 720;
+    if ((wrong(147) || wrong(148)) && count <= 64) return other_order(p, plan, source, destination);
     if (wrong(74)) p.length = (uint16_t)route_hops(nafthurm_plan_shape(plan, plan_size), p.route, source, destination);
     if (wrong(75)) p.length &= 255;
     if (wrong(76) && p.length > 511) p.length = 511;
@@ -146,7 +173,7 @@ AROUND(nafthurm_planned, nafthurm_pair, const uint8_t *plan, size_t plan_size, u
 /* Where the first entry of the kind stands; the size where there is none. */
 static size_t kind_at(const uint8_t *sheet, size_t size, int kind) {
     size_t at = 7;
-    while (at < size && sheet[at + 2] != kind) at += 5;
+    while (at < size && sheet[at + 2] != kind) at += entry_size(sheet[0]);
     return at;
 }
 
@@ -155,9 +182,12 @@ AROUND(nafthurm_written, nafthurm_write_sheet, const uint8_t *plan, size_t plan_
     if (wrong(22) && count > 0 && source == count) source--;
     nafthurm_written w = __real_nafthurm_write_sheet(plan, plan_size, source, out, out_size);
     if (wrong(23) && w.number == 12 && out_size > 0) out[0] ^= 1;
-    size_t at = w.number == 0 ? kind_at(out, w.size, 11) : 0;
-    if (wrong(24) && w.number == 0 && at < w.size) out[at + 2] = 10;
-    if (wrong(91) && w.number == 0) out[0] = 1; /* version 1 is written */
+    size_t at = w.number == 0 ? kind_at(out, w.size, NONE_KIND) : 0;
+    if (wrong(24) && w.number == 0 && at < w.size) out[at + 2] = DEAD_KIND;
+    if (wrong(91) && w.number == 0) out[0] = 2; /* version 2 is written */
+    if (wrong(149) && w.number == 0 && at < w.size) out[at + 2] = 11;
+    at = w.number == 0 ? kind_at(out, w.size, 16) : 0;
+    if (wrong(150) && w.number == 0 && at < w.size) out[at + 6] = out[at + 4]; /* an absent via that is not 0 */
     return w;
 }
 
@@ -182,10 +212,10 @@ AROUND(nafthurm_run, nafthurm_all_sheets, const uint8_t *plan, size_t plan_size,
     if (wrong(60) && r.size < out_size) out[r.size] ^= 1;
     if (wrong(61) && r.size > 0 && r.size == out_size) return __real_nafthurm_all_sheets(plan, plan_size, from, work, work_words, out, out_size - 1);
     if (wrong(62) && last > 0) out[last + 4] = out[4];                                /* the last sheet with the first one's source */
-    if (wrong(92) && r.size > 0) out[last] = 1;                                       /* the last sheet of version 1 */
+    if (wrong(92) && r.size > 0) out[last] = 2;                                       /* the last sheet of version 2 */
     if (wrong(63) && r.next < count && nafthurm_dead_node(plan, plan_size, (uint16_t)(r.next - 1))) r.next--; /* it stops before a dead board */
     if (wrong(64) && r.next == count) r.next--;
-    if (wrong(65) && last > 0 && kind_at(out, last, 2) < last) r.size = last; /* a sheet less is told */
+    if (wrong(65) && last > 0 && kind_at(out, last, 16) < last) r.size = last; /* a sheet less is told */
     return r;
 }
 
@@ -197,22 +227,26 @@ AROUND(nafthurm_written, nafthurm_listing, const uint8_t *input, size_t input_si
 
 /* ---- Route sheets ---- */
 
-/* A node that is none of these two. */
-static size_t third_node(size_t one, size_t two) {
+/* A node that is none of these three. */
+static size_t other_node(size_t one, size_t two, size_t three) {
     size_t node = 0;
-    while (node == one || node == two) node++;
+    while (node == one || node == two || node == three) node++;
     return node;
 }
 
-/* Whether the entry's via is one that the wrong answer takes for good. */
-static int forgiven(const uint8_t *entry, size_t count) {
-    int by_via = entry[2] >= 2 && entry[2] <= 5;
-    if (wrong(27)) return !by_via && word(entry + 3) != 0;
-    if (wrong(28)) return by_via && word(entry + 3) == word(entry);
-    return wrong(29) && by_via && word(entry + 3) == count;
+/* Whether the entry's via in that place is one that the wrong answer takes for good. */
+static int forgiven(int version, const uint8_t *entry, int place, size_t count) {
+    int by_via = vias_of(kind_in(version, entry[2])) > place;
+    size_t via = word(entry + 3 + 2 * place);
+    if (wrong(27)) return !by_via && via != 0 && place == 0;
+    if (wrong(28)) return by_via && via == word(entry) && place == 0;
+    if (wrong(151)) return !by_via && via != 0 && place == 1;
+    if (wrong(152)) return by_via && via == word(entry) && place == 1;
+    if (wrong(153)) return by_via && place == 1 && via == word(entry + 3);
+    return wrong(29) && by_via && via == count;
 }
 
-static uint8_t copy[30000];
+static uint8_t copy[40000];
 
 /* The sheet, one of a version that is read as well made the version that is read. */
 static const uint8_t *read_too(int version, int as, const uint8_t *sheet, size_t sheet_size) {
@@ -221,47 +255,63 @@ static const uint8_t *read_too(int version, int as, const uint8_t *sheet, size_t
     return copy;
 }
 
-/* The sheet with a good via in each entry whose via is forgiven. */
+/* The sheet with good vias in each entry whose vias are forgiven. */
 static const uint8_t *mended(const uint8_t *sheet, size_t sheet_size, size_t count) {
     memcpy(copy, sheet, sheet_size);
-    for (size_t at = 7; at + 5 <= sheet_size; at += 5) {
-        if (!forgiven(copy + at, count)) continue;
-        size_t via = wrong(27) ? 0 : third_node(word(sheet + 3), word(sheet + at));
-        copy[at + 3] = (uint8_t)(via >> 8), copy[at + 4] = (uint8_t)via;
-    }
+    size_t each = sheet_size > 0 ? entry_size(sheet[0]) : 5;
+    for (size_t at = 7; at + each <= sheet_size; at += each)
+        for (int place = 0; place < (each == 7 ? 2 : 1); place++) {
+            if (!forgiven(sheet[0], copy + at, place, count)) continue;
+            size_t via = wrong(27) || wrong(151) ? 0 : other_node(word(sheet + 3), word(sheet + at), each == 7 ? word(copy + at + 5 - 2 * place) : word(sheet + 3));
+            copy[at + 3 + 2 * (size_t)place] = (uint8_t)(via >> 8), copy[at + 4 + 2 * (size_t)place] = (uint8_t)via;
+        }
     return copy;
 }
 
 AROUND(uint8_t, nafthurm_sheet_check, const uint8_t *plan, size_t plan_size, const uint8_t *sheet, size_t sheet_size) {
     const volatile uint8_t *end = sheet + sheet_size;
     if (wrong(26)) (void)*end;
-    if (wrong(93)) return __real_nafthurm_sheet_check(plan, plan_size, read_too(OLD_VERSION, SHEET_VERSION, sheet, sheet_size), sheet_size);
-    if (wrong(94)) return __real_nafthurm_sheet_check(plan, plan_size, read_too(3, SHEET_VERSION, sheet, sheet_size), sheet_size);
+    if (wrong(93)) return __real_nafthurm_sheet_check(plan, plan_size, read_too(OLD_VERSION, SECOND_VERSION, sheet, sheet_size), sheet_size);
+    if (wrong(94)) return __real_nafthurm_sheet_check(plan, plan_size, read_too(4, SHEET_VERSION, sheet, sheet_size), sheet_size);
+    if (wrong(154)) return __real_nafthurm_sheet_check(plan, plan_size, read_too(SECOND_VERSION, 0, sheet, sheet_size), sheet_size); /* version 2 is not read */
     return __real_nafthurm_sheet_check(plan, plan_size, mended(sheet, sheet_size, (size_t)count_of(plan, plan_size)), sheet_size);
 }
 
 AROUND(nafthurm_written, nafthurm_sheet_write_back, const uint8_t *plan, size_t plan_size, const uint8_t *sheet, size_t sheet_size, uint8_t *out, size_t out_size) {
-    if (wrong(95)) sheet = read_too(OLD_VERSION, SHEET_VERSION, sheet, sheet_size);
+    if (wrong(95)) sheet = read_too(OLD_VERSION, SECOND_VERSION, sheet, sheet_size);
     nafthurm_written w = __real_nafthurm_sheet_write_back(plan, plan_size, sheet, sheet_size, out, out_size);
-    if (wrong(96) && w.number == 0) out[0] = 1; /* version 1 is written back */
+    if (wrong(96) && w.number == 0) out[0] = 2; /* version 2 is written back */
+    if (w.number == 12 && sheet[0] == SECOND_VERSION && out_size >= sheet_size && wrong(155)) { /* version 2 comes back as it is, where that fits */
+        memcpy(out, sheet, sheet_size);
+        return (nafthurm_written){0, sheet_size};
+    }
+    size_t at = w.number == 0 && sheet[0] == SECOND_VERSION ? kind_at(out, w.size, 18) : 0;
+    if (wrong(156) && at > 0 && at < w.size) out[at + 2] = 17; /* leg one highest */
+    at = w.number == 0 && sheet[0] == SECOND_VERSION ? kind_at(out, w.size, NONE_KIND) : 0;
+    if (wrong(157) && at > 0 && at < w.size) out[at + 2] = 11;
     return w;
 }
 
 AROUND(nafthurm_part, nafthurm_lookup, const uint8_t *plan, size_t plan_size, const uint8_t *sheet, size_t sheet_size, uint16_t destination) {
-    if (wrong(97)) sheet = read_too(OLD_VERSION, SHEET_VERSION, sheet, sheet_size);
+    if (wrong(97)) sheet = read_too(OLD_VERSION, SECOND_VERSION, sheet, sheet_size);
     nafthurm_part part = __real_nafthurm_lookup(plan, plan_size, sheet, sheet_size, destination);
-    if (wrong(30) && part.size != 0 && destination == 0) part.start += 5;
+    if (wrong(30) && part.size != 0 && destination == 0) part.start += part.size;
+    if (wrong(158) && part.size == 7) part.size = 5;
+    if (wrong(159) && part.size == 5) part.size = 7;
     if (wrong(31) && part.size == 0) part.start = sheet_size;
     return part;
 }
 
 AROUND(nafthurm_route, nafthurm_lookup_route, const uint8_t *plan, size_t plan_size, const uint8_t *sheet, size_t sheet_size, uint16_t destination) {
-    if (wrong(98)) sheet = read_too(OLD_VERSION, SHEET_VERSION, sheet, sheet_size);
+    if (wrong(98)) sheet = read_too(OLD_VERSION, SECOND_VERSION, sheet, sheet_size);
     nafthurm_route r = __real_nafthurm_lookup_route(plan, plan_size, sheet, sheet_size, destination);
     int count = count_of(plan, plan_size);
-    if (wrong(32) && r.number == 9 && destination == count) return (nafthurm_route){0, 0, 0};
-    if (wrong(33) && r.number == 13 && destination >= count) return (nafthurm_route){9, 9, 0}; /* 9 before 13 */
-    if (wrong(34) && r.number == 0 && r.kind == 3) r.kind = 4;
+    if (wrong(32) && r.number == 9 && destination == count) return (nafthurm_route){0, 0, {0, 0}};
+    if (wrong(33) && r.number == 13 && destination >= count) return refused_route(9); /* 9 before 13 */
+    if (wrong(34) && r.number == 0 && r.kind == 18) r.kind = 17;
+    if (wrong(160) && r.number == 0 && r.kind == 35) r.kind = 38;
+    if (wrong(161) && r.number == 0) r.via[1] = 0;
+    if (wrong(162) && r.number == 11 && sheet[0] == SECOND_VERSION) r.number = 13; /* the kinds of version 3 alone are known */
     return r;
 }
 
@@ -339,7 +389,7 @@ static nafthurm_converted convert_from(size_t entry, nafthurm_shape s, const uin
     if (lost < word(sheet + 5)) return (nafthurm_converted){17, (uint16_t)lost, 0};
     if (room < size) return (nafthurm_converted){12, 0, 0};
     memcpy(out, sheet, size);
-    out[0] = SHEET_VERSION;
+    out[0] = SECOND_VERSION;
     return (nafthurm_converted){0, 0, size};
 }
 
@@ -374,7 +424,7 @@ static nafthurm_converted wrong_of_lost(nafthurm_converted c, nafthurm_shape s, 
     if (wrong(117) && c.entry == 0) return convert_from(1, s, sheet, size, out, room);                               /* the first entry is not judged */
     if (wrong(118) && c.entry + 1u == word(sheet + 5)) return convert_from(c.entry + 1u, s, sheet, size, out, room); /* the last is not */
     if (wrong(119) && c.entry > 255) return convert_from(word(sheet + 5), s, sheet, size, out, room);                /* none behind 256 is */
-    if (wrong(120) && room > 0) out[0] = SHEET_VERSION;
+    if (wrong(120) && room > 0) out[0] = SECOND_VERSION;
     if (wrong(121) && room > 0) out[room - 1] ^= 1;
     if (wrong(122)) c.entry++;                                              /* counted from 1 */
     if (wrong(123)) c.entry = (uint16_t)word(sheet + 7 + 5 * c.entry);      /* its destination */
@@ -389,7 +439,8 @@ static nafthurm_converted wrong_of_kept(nafthurm_converted c, const uint8_t *len
     if (wrong(127) && c.size == 7) return (nafthurm_converted){13, 0, 0};    /* a sheet without entries */
     if (wrong(128) && c.size < room) out[c.size] ^= 1;
     if (wrong(129)) out[0] = OLD_VERSION;
-    if (wrong(130)) ((uint8_t *)lent)[0] = SHEET_VERSION;                    /* in place too */
+    if (wrong(163)) out[0] = SHEET_VERSION;
+    if (wrong(130)) ((uint8_t *)lent)[0] = SECOND_VERSION;                   /* in place too */
     size_t at = kind_at(out, c.size, 3);
     if (wrong(131) && at < c.size) out[at + 2] = 4;
     if (wrong(132)) c.entry = (uint16_t)word(out + 5);
@@ -408,8 +459,8 @@ AROUND(nafthurm_converted, nafthurm_convert, const uint8_t *plan, size_t plan_si
     const volatile uint8_t *end = sheet + sheet_size;
     nafthurm_shape s = nafthurm_plan_shape(plan, plan_size);
     if (wrong(135)) (void)*end;
-    if (wrong(136)) sheet = read_too(SHEET_VERSION, OLD_VERSION, sheet, sheet_size);
-    if (wrong(137)) sheet = read_too(3, OLD_VERSION, sheet, sheet_size);
+    if (wrong(136)) sheet = read_too(SECOND_VERSION, OLD_VERSION, sheet, sheet_size);
+    if (wrong(137)) sheet = read_too(0, OLD_VERSION, sheet, sheet_size);
     nafthurm_converted c = __real_nafthurm_convert(plan, plan_size, sheet, sheet_size, out, out_size);
     if (c.number == 13) return wrong_of_bad(c, s, sheet, sheet_size, out_size);
     if (wrong(138) && s.x == 0 && (sheet_size < 7 || sheet[0] != OLD_VERSION)) c.number = 13; /* 13 before the plan's checks */
@@ -417,7 +468,7 @@ AROUND(nafthurm_converted, nafthurm_convert, const uint8_t *plan, size_t plan_si
     if (wrong_rule() != NULL || wrong(112) || wrong(113)) return convert_from(0, s, sheet, sheet_size, out, out_size);
     if (against_faults(plan, plan_size, sheet, sheet_size)) return (nafthurm_converted){13, 0, 0};
     if (wrong(139) && c.number == 12) c.size = sheet_size;
-    if (wrong(140) && c.number == 12 && out_size > 0) out[0] = SHEET_VERSION;
+    if (wrong(140) && c.number == 12 && out_size > 0) out[0] = SECOND_VERSION;
     return c.number == 17 ? wrong_of_lost(c, s, sheet, sheet_size, out, out_size) : c.number == 0 ? wrong_of_kept(c, lent, out, out_size) : c;
 }
 
@@ -426,15 +477,18 @@ AROUND(nafthurm_converted, nafthurm_convert, const uint8_t *plan, size_t plan_si
 AROUND(nafthurm_packet, nafthurm_new_packet, uint16_t source, uint16_t destination, nafthurm_route route) {
     nafthurm_packet packet = __real_nafthurm_new_packet(source, destination, route);
     if (wrong(35) && packet.left == 255) packet.left = 0;
+    if (wrong(164) && packet.left == 3) packet.legs[1].mode = packet.legs[2].mode;
     return packet;
 }
 
 AROUND(uint8_t, nafthurm_packet_check, nafthurm_shape shape, nafthurm_packet packet) {
     uint8_t number = __real_nafthurm_packet_check(shape, packet);
-    if (wrong(36) && (number == 5 || number == 6) && packet.left > 2) return 14;                                    /* 14 before 5 and 6 */
-    if (wrong(37) && number == 14 && packet.left <= 2 && packet.node == nodes_of(shape)) return 0;                  /* just outside the shape */
-    if (wrong(38) && number == 14 && packet.left == 2 && packet.node < nodes_of(shape) && packet.legs[0].target < nodes_of(shape)) return 0;
-    if (wrong(39) && number == 0 && packet.left < 2 && packet.legs[0].target >= nodes_of(shape)) return 14;         /* of a leg that is not left */
+    if (wrong(36) && (number == 5 || number == 6) && packet.left > 3) return 14;                                    /* 14 before 5 and 6 */
+    if (wrong(37) && number == 14 && packet.left <= 3 && packet.node == nodes_of(shape)) return 0;                  /* just outside the shape */
+    if (wrong(38) && number == 14 && packet.left == 2 && packet.node < nodes_of(shape) && packet.legs[1].target < nodes_of(shape)) return 0;
+    if (wrong(39) && number == 0 && packet.left < 3 && packet.legs[0].target >= nodes_of(shape)) return 14;         /* of a leg that is not left */
+    if (wrong(165) && number == 0 && packet.left == 3) return 14;                                                   /* two legs at most */
+    if (wrong(166) && number == 14 && packet.left == 3 && packet.node < nodes_of(shape) && packet.legs[0].target < nodes_of(shape) && packet.legs[1].target < nodes_of(shape)) return 0;
     return number;
 }
 
@@ -444,7 +498,7 @@ static int most_extent(nafthurm_shape s) { return s.x > s.y ? (s.x > s.z ? s.x :
 static int at_half(nafthurm_shape s, nafthurm_packet packet, int direction) {
     int left = dropped(packet).left, dim = direction / 2;
     if (left == 0 || direction > 5 || !wrapped(s, dim)) return 0;
-    return 2 * abs(place(s, packet.node, dim) - place(s, packet.legs[2 - left].target, dim)) == extent(s, dim);
+    return 2 * abs(place(s, packet.node, dim) - place(s, packet.legs[MOST_LEGS - left].target, dim)) == extent(s, dim);
 }
 
 static nafthurm_stepped step_by(half_rule *rule, nafthurm_shape shape, nafthurm_packet packet, uint8_t direction) {
@@ -457,13 +511,15 @@ static nafthurm_stepped step_by(half_rule *rule, nafthurm_shape shape, nafthurm_
 AROUND(nafthurm_stepped, nafthurm_step, nafthurm_shape shape, nafthurm_packet packet, uint8_t direction) {
     if (wrong(40) && most_extent(shape) > 6) return (nafthurm_stepped){packet, 5};
     if (wrong(41) && most_extent(shape) > 6) shape.wrap &= 0xF8; /* long rings as if they were open */
-    if (wrong(42) && packet.left == 3) packet.left = 2;       /* a third leg is not counted */
+    if (wrong(42) && packet.left == 4) packet.left = 3;       /* a fourth leg is not counted */
     half_rule *rule = wrong(46) ? always_plus : wrong(77) ? from_odd : wrong(78) ? by_target : wrong(79) ? by_number : NULL;
     if (rule != NULL) return step_by(rule, shape, packet, direction);
     nafthurm_stepped s = __real_nafthurm_step(shape, packet, direction);
     nafthurm_packet ready = dropped(packet);
     if (wrong(43) && s.number == 15 && packet.left == 2 && ready.left == 1) s.packet = ready;                                   /* a refusal stores drops */
     if (wrong(44) && s.number == 0 && packet.left == 2 && ready.left == 2 && s.packet.left == 1) s.packet.left = 2;             /* a via dropped late */
+    if (wrong(167) && s.number == 0 && packet.left == 3 && ready.left == 3 && s.packet.left == 1) s.packet.left = 2;            /* two legs never dropped at once */
+    if (wrong(168) && s.number == 0 && packet.left == 3 && ready.left == 1) s.packet.left = (uint8_t)(s.packet.left + 1);
     if (wrong(45) && s.number == 0 && ready.left < packet.left) return (nafthurm_stepped){packet, 15};                          /* not judged after drops */
     if (wrong(47) && s.number == 0 && at_half(shape, packet, direction) && direction % 2) return (nafthurm_stepped){packet, 15}; /* half a ring as one direction */
     if (wrong(80) && s.number == 0 && at_half(shape, packet, direction) && direction % 2 != place(shape, packet.node, direction / 2) % 2)
@@ -483,6 +539,7 @@ AROUND(nafthurm_walked, nafthurm_walk, nafthurm_shape shape, nafthurm_packet pac
     if (rule != NULL) return walk_by(rule, shape, packet, directions, directions_size);
     if (wrong(48) && directions_size > 12) directions_size = 12;
     if (wrong(49) && directions_size > 45) directions_size = 45;
+    if (wrong(169) && directions_size > 90) directions_size = 90;
     nafthurm_walked w = __real_nafthurm_walk(shape, packet, directions, directions_size);
     if (wrong(50) && w.ending == NAFTHURM_NOT_ALLOWED && w.hops > 0) w.hops--;
     if (wrong(51) && w.ending == NAFTHURM_ARRIVED && w.hops < directions_size) w.ending = NAFTHURM_NOT_ALLOWED, w.number = 15; /* bytes past the arrival judged */

@@ -4,16 +4,28 @@ use packet::Packet;
 use packet::Route;
 use shape::Shape;
 
-fn mode_of(mode: u8) -> Mode {
-    if mode == 0 {
+fn mode_of(bit: u8) -> Mode {
+    if bit == 0 {
         Mode::Adaptive
     } else {
         Mode::Deterministic
     }
 }
 
-// The hops that the walk of a packet with two legs takes, and 65,536 for each unit of the number of the node that it ends at. Mode 0 is adaptive, any other
-// deterministic. Fewer than 65,536 directions are told apart.
+// The new packet of a route of three legs. `modes` has a bit for each deterministic leg, leg one lowest.
+fn packet_of(node: u16, via: u16, further: u16, target: u16, modes: u8) -> Packet {
+    let first = mode_of(modes % 2);
+    let second = mode_of(modes / 2 % 2);
+    let third = mode_of(modes / 4 % 2);
+    Packet::new(
+        node,
+        target,
+        Route::Vias(via, further, first, second, third),
+    )
+}
+
+// The hops that the walk of such a packet takes, and 65,536 for each unit of the number of the node that it ends at. Fewer than 65,536 directions are told
+// apart.
 #[no_mangle]
 pub extern "C" fn nafthurm_walk(
     x: u8,
@@ -22,14 +34,13 @@ pub extern "C" fn nafthurm_walk(
     wrap: u8,
     node: u16,
     via: u16,
+    further: u16,
     target: u16,
-    first: u8,
-    second: u8,
+    modes: u8,
     dirs: &[u8],
 ) -> u64 {
     let shape = Shape { x, y, z, wrap };
-    let route = Route::Via(via, mode_of(first), mode_of(second));
-    let packet = Packet::new(node, target, route);
+    let packet = packet_of(node, via, further, target, modes);
     let walked = packet.walk(shape, dirs);
     let ended = walked.packet;
     (ended.node as u64) * 65536 + ((walked.hops % 65536) as u64)
@@ -44,14 +55,13 @@ pub extern "C" fn nafthurm_step(
     wrap: u8,
     node: u16,
     via: u16,
+    further: u16,
     target: u16,
-    first: u8,
-    second: u8,
+    modes: u8,
     dir: u8,
 ) -> u32 {
     let shape = Shape { x, y, z, wrap };
-    let route = Route::Via(via, mode_of(first), mode_of(second));
-    let stepped = Packet::new(node, target, route).step(shape, dir);
+    let stepped = packet_of(node, via, further, target, modes).step(shape, dir);
     let packet = stepped.packet;
     let answer = stepped.answer;
     (answer.number() as u32) * 65536 + (packet.node as u32)

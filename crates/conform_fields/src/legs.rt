@@ -30,9 +30,9 @@ pub fn put_route(out: &mut [u8], at: usize, dest: u16, route: Route) -> usize {
         Route::Direct(mode) => put_leg(out, at, dest, mode),
         Route::Via(via, first, second) => put_two(out, at, via, first, dest, second),
         Route::Vias(via, further, first, second, third) => {
-            let legs = put_two(out, at, via, first, further, second);
-            let comma = put::byte(out, legs, b',');
-            put_leg(out, comma, dest, third)
+            let leg = put_leg(out, at, via, first);
+            let comma = put::byte(out, leg, b',');
+            put_two(out, comma, further, second, dest, third)
         }
     }
 }

@@ -11,19 +11,19 @@ use Rattle.machine.specs.Torus.{leg}
 use Rattle.packet.specs.New.{legsTo}
 use Rattle.plan.specs.Checks.{large}
 use Rattle.choice.specs.declared.outcome.Outcome.{Outcome}
-use Rattle.choice.specs.Choice.{Choice, AdmitsIn, viasOf}
+use Rattle.choice.specs.Choice.{Choice, AdmitsIn, viasOf, modesOf}
 use Rattle.choice.specs.Answer.{Answer, Given, Refused}
 use Rattle.choice.specs.Pair.{farIn, pair}
 use Rattle.choice.specs.Outcome.{told, toldAs}
-use Rattle.routes.specs.Kinds.{hasModes, kindFrom, kindOf}
+use Rattle.routes.specs.Kinds.{kindOf}
 use Rattle.routes.specs.Said.{entryFor, heard}
 use Rattle.routes.proofs.Saying.{admitted-legs}
 use Rattle.listing_text.specs.declared.field.Field.{Field}
 use Rattle.listing_text.specs.declared.field.Field.the-variants.{Number}
 use Rattle.listing_text.specs.Decimal.{decimal}
-use Rattle.listing_text.specs.Text.{blank, newline, line, headLine, refusedWord, refusal, kindText, viaText, lengthText, destLine, destLines}
+use Rattle.listing_text.specs.Text.{blank, newline, line, headLine, refusedWord, refusal, kindText, viaText, secondViaText, lengthText, destLine, destLines}
 use Rattle.planner.specs.Outcomes.{noOutcome}
-use Rattle.listing_text.specs.Steps.{putAll, Put, fieldText, kindIn, viaIn, lengthIn, outcomeLine, outcomeLines}
+use Rattle.listing_text.specs.Steps.{putAll, Put, fieldText, kindIn, viaIn, secondIn, lengthIn, outcomeLine, outcomeLines}
 use Rattle.listing_text.proofs.Puts.{put-none, put-then}
 
 line-more : (f g : List ℕ) (fs : List (List ℕ)) → (f ++ blank ∷ []) ++ line (g ∷ fs) ≡ line (f ∷ (g ∷ fs))
@@ -49,23 +49,26 @@ pub head-put :
 unfolding headLine fieldText
 head-put a b c p q x = field-then (decimal a) (decimal b) (decimal c ∷ []) p (field-then (decimal b) (decimal c) [] q (last-field (decimal c) x))
 
--- The line of a destination, from its four fields.
+-- The line of a destination, from its five fields.
 pub line-put :
-    {o t u v w : List ℕ} {at i j k r : ℕ} (D K : ℕ) (via len : Field) (a : Outcome) →
+    {o t u v w x : List ℕ} {at i j k l r : ℕ} (D K : ℕ) (via second len : Field) (a : Outcome) →
     K ≡ kindIn a →
     via ≡ viaIn a →
+    second ≡ secondIn a →
     len ≡ lengthIn a →
     Put o t at i (fieldText (Number D) ++ blank ∷ []) →
     Put t u i j (fieldText (Number K) ++ blank ∷ []) →
     Put u v j k (fieldText via ++ blank ∷ []) →
-    Put v w k r (fieldText len ++ newline ∷ []) →
-    Put o w at r (outcomeLine D a)
+    Put v w k l (fieldText second ++ blank ∷ []) →
+    Put w x l r (fieldText len ++ newline ∷ []) →
+    Put o x at r (outcomeLine D a)
 unfolding outcomeLine fieldText
-line-put D K via len a ek ev el p q x y =
-    rw (← ek, ← ev, ← el)
-    (field-then (decimal D) (decimal K) (fieldText via ∷ fieldText len ∷ []) p
-    (field-then (decimal K) (fieldText via) (fieldText len ∷ []) q
-    (field-then (fieldText via) (fieldText len) [] x (last-field (fieldText len) y))))
+line-put D K via second len a ek ev es el p q f g h =
+    rw (← ek, ← ev, ← es, ← el)
+    (field-then (decimal D) (decimal K) (fieldText via ∷ fieldText second ∷ fieldText len ∷ []) p
+    (field-then (decimal K) (fieldText via) (fieldText second ∷ fieldText len ∷ []) q
+    (field-then (fieldText via) (fieldText second) (fieldText len ∷ []) f
+    (field-then (fieldText second) (fieldText len) [] g (last-field (fieldText len) h)))))
 
 -- A refusal, from its word and its number.
 pub refusal-put : {o t u : List ℕ} {r : ℕ} (e : ℕ) → t ≡ putAll o 0 (refusedWord ++ blank ∷ []) → Put t u 8 r (fieldText (Number e) ++ newline ∷ []) → Put o u 0 r (refusal e)
@@ -79,14 +82,14 @@ module _ (o : List ℕ) (at all : ℕ) (os : List Outcome) where
   pub record Writing (t : List ℕ) (next d : ℕ) : Type 0 where
     pub small : all ≤ 4096
     pub inside : d ≤ all
-    pub near : next ≤ 18 + 24 * d
+    pub near : next ≤ 18 + 30 * d
     pub put : Put o t at next (outcomeLines os d)
 
   pub begin : at ≤ 18 → all ≤ 4096 → Writing o at 0
   unfolding outcomeLines
   begin h k = record { small = k; inside = omega arith; near = omega arith; put = put-none o at }
 
-  pub onward : (t u : List ℕ) (next r d : ℕ) → Writing t next d → Put t u next r (outcomeLine d (getD os d noOutcome)) → r ≤ next + 24 → d < all → Writing u r (d + 1)
+  pub onward : (t u : List ℕ) (next r d : ℕ) → Writing t next d → Put t u next r (outcomeLine d (getD os d noOutcome)) → r ≤ next + 30 → d < all → Writing u r (d + 1)
   unfolding outcomeLines
   onward t u next r d w p h l =
       record {
@@ -104,19 +107,23 @@ abbrev pub LineTold : (ℕ → ℕ → ℕ) → ℕ → Answer → Type 0
 LineTold far S a = (D : ℕ) → outcomeLine D (told far S a) ≡ destLine far S D a
 
 pub refused-told : (far : ℕ → ℕ → ℕ) (S e : ℕ) → LineTold far S (Refused e)
-unfolding outcomeLine destLine told toldAs heard entryFor fieldText kindText viaText lengthText
+unfolding outcomeLine destLine told toldAs heard entryFor fieldText kindText viaText secondViaText lengthText
 refused-told far S e D = refl
 
 one-told : (far : ℕ → ℕ → ℕ) (S T : ℕ) (m : Mode) → LineTold far S (Given (leg T m ∷ []))
-unfolding outcomeLine destLine told toldAs heard entryFor legsTo viasOf kindOf kindFrom hasModes fieldText kindText viaText lengthText
+unfolding outcomeLine destLine told toldAs heard entryFor legsTo viasOf modesOf kindOf fieldText kindText viaText secondViaText lengthText
 one-told far S T m D = refl
 
 two-told : (far : ℕ → ℕ → ℕ) (S T v : ℕ) (m n : Mode) → LineTold far S (Given (leg v m ∷ leg T n ∷ []))
-unfolding outcomeLine destLine told toldAs heard entryFor legsTo viasOf kindOf kindFrom hasModes fieldText kindText viaText lengthText
+unfolding outcomeLine destLine told toldAs heard entryFor legsTo viasOf modesOf kindOf fieldText kindText viaText secondViaText lengthText
 two-told far S T v m n D = refl
 
+three-told : (far : ℕ → ℕ → ℕ) (S T v u : ℕ) (m n o : Mode) → LineTold far S (Given (leg v m ∷ leg u n ∷ leg T o ∷ []))
+unfolding outcomeLine destLine told toldAs heard entryFor legsTo viasOf modesOf kindOf fieldText kindText viaText secondViaText lengthText
+three-told far S T v u m n o D = refl
+
 pub choice-told : (far : ℕ → ℕ → ℕ) (s : Shape) (S T : ℕ) (c : Choice) → AdmitsIn s S T c → LineTold far S (Given c)
-choice-told far s S T c a = admitted-legs (λ c. LineTold far S (Given c)) s S T (one-told far S T) (λ v m n _. two-told far S T v m n) c a
+choice-told far s S T c a = admitted-legs (λ c. LineTold far S (Given c)) s S T (one-told far S T) (λ v m n _. two-told far S T v m n) (λ v u m n o _. three-told far S T v u m n o) c a
 
 pub lines-told :
     (os : List Outcome) (p : List ℕ) (S n : ℕ) →

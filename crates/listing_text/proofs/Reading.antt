@@ -18,7 +18,7 @@ use Rattle.listing_text.proofs.Fits.{listing-fits}
 module _
     (input : List ℕ) (size : ℕ) (i o t : List ℕ) (w : Written) (read : i ≡ take size input)
     (made : (w ≡ written (roomError 0 (listingOf i) o) (listingOf i)) × (t ≡ outAfter (roomError 0 (listingOf i) o) (listingOf i) o))
-    (buffer : 783 ≤ length input) (long : 65550 ≤ length o) where
+    (buffer : 783 ≤ length input) (long : 94222 ≤ length o) where
   abbrev s : List ℕ
   s = listingOf i
 

@@ -36,17 +36,27 @@ kindIn o = entryFor 0 (heard 0 o) .kind
 abbrev pub viaBy : Route → Field
 viaBy (Route.Direct m) = Dash
 viaBy (Route.Via v m n) = Number v
+viaBy (Route.Vias v u m n o) = Number v
 
 abbrev pub viaIn : Outcome → Field
 viaIn (Outcome.Given r len) = viaBy r
 viaIn (Outcome.Refused e) = Dash
+
+abbrev pub secondBy : Route → Field
+secondBy (Route.Direct m) = Dash
+secondBy (Route.Via v m n) = Dash
+secondBy (Route.Vias v u m n o) = Number u
+
+abbrev pub secondIn : Outcome → Field
+secondIn (Outcome.Given r len) = secondBy r
+secondIn (Outcome.Refused e) = Dash
 
 abbrev pub lengthIn : Outcome → Field
 lengthIn (Outcome.Given r len) = Number len
 lengthIn (Outcome.Refused e) = Dash
 
 unfoldable pub outcomeLine : ℕ → Outcome → List ℕ
-outcomeLine D o = line (decimal D ∷ decimal (kindIn o) ∷ fieldText (viaIn o) ∷ fieldText (lengthIn o) ∷ [])
+outcomeLine D o = line (decimal D ∷ decimal (kindIn o) ∷ fieldText (viaIn o) ∷ fieldText (secondIn o) ∷ fieldText (lengthIn o) ∷ [])
 
 unfoldable pub outcomeLines : List Outcome → ℕ → List ℕ
 outcomeLines os zero = []

@@ -12,7 +12,7 @@ use Rattle.plan.specs.Checks.{large}
 use Rattle.choice.specs.Choice.{viasOf, lengthFrom}
 use Rattle.choice.specs.Answer.{Answer, Given, Refused}
 use Rattle.choice.specs.Pair.{farIn, pair}
-use Rattle.routes.specs.Kinds.{kindOf}
+use Rattle.routes.specs.Kinds.{kindOf, refusedKind}
 use Rattle.planned_sheet.specs.Sheet.{sourceError}
 use Rattle.listing_text.specs.Decimal.{decimal}
 
@@ -50,25 +50,33 @@ headLine S nodes faults = line (decimal S ∷ decimal nodes ∷ decimal faults �
 -- Kind (0 for direct adaptive).
 unfoldable pub kindText : Answer → List ℕ
 kindText (Given c) = decimal (kindOf c)
-kindText (Refused e) = decimal e
+kindText (Refused e) = decimal (refusedKind e)
 
--- Via or `-` (kinds 0, 1, 10, 11).
-abbrev pub viasText : List ℕ → List ℕ
-viasText [] = dash
-viasText (v ∷ vs) = decimal v
+-- Two via fields, each `-` if absent.
+abbrev pub firstText : List ℕ → List ℕ
+firstText [] = dash
+firstText (v ∷ vs) = decimal v
+
+abbrev pub secondText : List ℕ → List ℕ
+secondText [] = dash
+secondText (v ∷ vs) = firstText vs
 
 unfoldable pub viaText : Answer → List ℕ
-viaText (Given c) = viasText (viasOf c)
+viaText (Given c) = firstText (viasOf c)
 viaText (Refused e) = dash
 
--- Length, from the source S, or `-` (kinds 10 and 11). `far p t` is the distance from p to t: the last field is by weight.
+unfoldable pub secondViaText : Answer → List ℕ
+secondViaText (Given c) = secondText (viasOf c)
+secondViaText (Refused e) = dash
+
+-- Length, from the source S, or `-` (kinds 160 and 176). `far p t` is the distance from p to t: the last field is by weight.
 unfoldable pub lengthText : (ℕ → ℕ → ℕ) → ℕ → Answer → List ℕ
 lengthText far S (Given c) = decimal (lengthFrom far S c)
 lengthText far S (Refused e) = dash
 
 -- The line of the destination D, for which planning answers a.
 unfoldable pub destLine : (ℕ → ℕ → ℕ) → ℕ → ℕ → Answer → List ℕ
-destLine far S D a = line (decimal D ∷ kindText a ∷ viaText a ∷ lengthText far S a ∷ [])
+destLine far S D a = line (decimal D ∷ kindText a ∷ viaText a ∷ secondViaText a ∷ lengthText far S a ∷ [])
 
 -- A line for each node below n in rising order, the source included.
 unfoldable pub destLines : List ℕ → ℕ → ℕ → List ℕ

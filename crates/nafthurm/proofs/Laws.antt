@@ -18,15 +18,15 @@ use Rattle.packet.specs.New.{legsTo, newPacket}
 use Rattle.packet.specs.Answers as Answers
 use Rattle.packet.specs.Answers.{toldWalk}
 use Rattle.choice.specs.declared.outcome.Outcome.{Outcome}
-use Rattle.choice.specs.Choice.{Choice, AdmitsIn, viasOf}
+use Rattle.choice.specs.Choice.{Choice, AdmitsIn, viasOf, modesOf}
 use Rattle.choice.specs.Answer.{Answer, Given, answered}
 use Rattle.choice.specs.Outcome.{told, toldAs}
-use Rattle.routes.specs.Kinds.{hasModes, kindFrom, kindOf}
-use Rattle.routes.specs.Said.{saidBy, entryFor, heard}
+use Rattle.routes.specs.Kinds.{bitsOf, kindOf}
+use Rattle.routes.specs.Said.{modeBy, saidBy, entryFor, heard}
 use Rattle.routes.proofs.Saying.{admitted-legs}
 use Rattle.nafthurm.specs.declared.forms.PacketForm.{PacketForm}
 use Rattle.nafthurm.specs.declared.forms.RouteForm.{RouteForm}
-use Rattle.nafthurm.specs.Forms.{packetOf, packetFor, steppedFor, walkedFor, routeFor, outcomeIn, packetIn, madeFor}
+use Rattle.nafthurm.specs.Forms.{packetOf, packetFor, steppedFor, walkedFor, routeFor, entryIn, outcomeIn, packetIn, madeFor}
 
 -- The packet that a step or a walk hands back has the legs that were lent.
 module _ (s : Shape) where
@@ -63,7 +63,7 @@ module _ (s : Shape) (f : PacketForm) where
   unfolding walkedFor toldWalk
   walked-is ds = packet-kept f (walk (torus s) (stored s) (packetOf f) ds .packet) (walk-legs s (packetOf f) ds)
 
--- A form with a number is that refusal; without one it says what its kind and via say.
+-- A form with a number is that refusal; without one it says what its kind and vias say.
 refused-as : (n : ℕ) (a : Answer) → (n ≡ 0 → ⊥) → Outcome.Refused n ≡ toldAs 0 (answered n a)
 unfolding toldAs answered
 refused-as zero a h = absurd (h refl)
@@ -73,16 +73,16 @@ pub refused-in : (D : ℕ) (f : RouteForm) → (f .number ≡ 0 → ⊥) → Out
 unfolding outcomeIn
 refused-in D f h = refused-as (f .number) _ h
 
-pub said-in : (D : ℕ) (f : RouteForm) → f .number ≡ 0 → toldAs 0 (saidBy (record { dest = D; kind = f .kind; via = f .via })) ≡ outcomeIn D f
+pub said-in : (D : ℕ) (f : RouteForm) → f .number ≡ 0 → toldAs 0 (saidBy (entryIn D f)) ≡ outcomeIn D f
 unfolding outcomeIn answered
-said-in D f h = ap (λ n. toldAs 0 (answered n (saidBy (record { dest = D; kind = f .kind; via = f .via })))) (sym h)
+said-in D f h = ap (λ n. toldAs 0 (answered n (saidBy (entryIn D f)))) (sym h)
 
 -- The packet made of a route that a call gave is the new packet of that route.
 pub new-is :
     (far : ℕ → ℕ → ℕ) (s : Shape) (S D : ℕ) (c : Choice) → AdmitsIn s S D c →
     packetOf (madeFor (packetIn S D (outcomeIn D (routeFor (told far S (Given c)))))) ≡ newPacket S c
-unfolding packetOf madeFor packetIn newPacket legsTo outcomeIn answered routeFor told toldAs heard entryFor saidBy viasOf kindOf kindFrom hasModes
-new-is far s S D c a = admitted-legs (λ c. packetOf (madeFor (packetIn S D (outcomeIn D (routeFor (told far S (Given c)))))) ≡ newPacket S c) s S D one (λ v m n _. two v m n) c a
+unfolding packetOf madeFor packetIn newPacket legsTo outcomeIn answered routeFor told toldAs heard entryFor saidBy modeBy viasOf modesOf kindOf bitsOf
+new-is far s S D c a = admitted-legs (λ c. packetOf (madeFor (packetIn S D (outcomeIn D (routeFor (told far S (Given c)))))) ≡ newPacket S c) s S D one (λ v m n _. two v m n) (λ v u m n o _. three v u m n o) c a
   where
     one : (m : Mode) → packetOf (madeFor (packetIn S D (outcomeIn D (routeFor (told far S (Given (leg D m ∷ []))))))) ≡ newPacket S (leg D m ∷ [])
     one Adaptive = refl
@@ -93,6 +93,18 @@ new-is far s S D c a = admitted-legs (λ c. packetOf (madeFor (packetIn S D (out
     two v Adaptive Deterministic = refl
     two v Deterministic Adaptive = refl
     two v Deterministic Deterministic = refl
+
+    three :
+        (v u : ℕ) (m n o : Mode) →
+        packetOf (madeFor (packetIn S D (outcomeIn D (routeFor (told far S (Given (leg v m ∷ leg u n ∷ leg D o ∷ []))))))) ≡ newPacket S (leg v m ∷ leg u n ∷ leg D o ∷ [])
+    three v u Adaptive Adaptive Adaptive = refl
+    three v u Adaptive Adaptive Deterministic = refl
+    three v u Adaptive Deterministic Adaptive = refl
+    three v u Adaptive Deterministic Deterministic = refl
+    three v u Deterministic Adaptive Adaptive = refl
+    three v u Deterministic Adaptive Deterministic = refl
+    three v u Deterministic Deterministic Adaptive = refl
+    three v u Deterministic Deterministic Deterministic = refl
 
 -- Of a refusal it is declined by every call: 5 or 6 of the shape, else 14.
 pub new-refused : (s : Shape) (S D e : ℕ) → packetError s (packetIn S D (Outcome.Refused e)) ≡ (shapeError s then wrongPacket)

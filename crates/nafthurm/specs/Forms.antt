@@ -24,6 +24,7 @@ use Rattle.choice.specs.Outcome.{outcomeNumber, toldAs}
 use Rattle.sheet.specs.declared.output.Written.{Written}
 use Rattle.sheet.specs.Output.{writtenNumber, writtenSize}
 use Rattle.planner.specs.declared.run.Answer.{Answer}
+use Rattle.routes.specs.declared.layout.Entry.{Entry}
 use Rattle.routes.specs.Said.{saidBy, entryFor, heard}
 use Rattle.nafthurm.specs.declared.forms.ShapeForm.{ShapeForm}
 use Rattle.nafthurm.specs.declared.forms.WeightsForm.{WeightsForm}
@@ -58,7 +59,7 @@ abbrev pub noForm : LegForm
 noForm = record { target = 0; mode = 0 }
 
 unfoldable pub packetOf : PacketForm → Packet
-packetOf q = record { node = q .node; legs = legOf (getD (q .legs) 0 noForm) ∷ legOf (getD (q .legs) 1 noForm) ∷ []; left = q .left }
+packetOf q = record { node = q .node; legs = legOf (getD (q .legs) 0 noForm) ∷ legOf (getD (q .legs) 1 noForm) ∷ legOf (getD (q .legs) 2 noForm) ∷ []; left = q .left }
 
 -- A packet that a call returns or leaves has the array of legs that was lent.
 abbrev pub packetFor : PacketForm → Packet → PacketForm
@@ -91,9 +92,9 @@ runFor Answer.FewWords = record { number = 255; next = 0; size = 0 }
 abbrev pub partFor : ℕ → ℕ → PartForm
 partFor at len = record { start = at; size = len }
 
--- The kind and the via as in the entry of a sheet; the kind of a refusal is its number.
+-- The kind and the two vias as in the entry of a sheet.
 unfoldable pub routeFor : Outcome → RouteForm
-routeFor o = record { number = outcomeNumber o; kind = entryFor 0 (heard 0 o) .kind; via = entryFor 0 (heard 0 o) .via }
+routeFor o = let e = entryFor 0 (heard 0 o) in record { number = outcomeNumber o; kind = e .kind; via = e .via ∷ e .second ∷ [] }
 
 -- The length, 0 for a refusal.
 abbrev pub lengthFor : Outcome → ℕ
@@ -104,8 +105,11 @@ unfoldable pub plannedFor : Outcome → PlannedForm
 plannedFor o = record { route = routeFor o; length = lengthFor o }
 
 -- The route to D that a form says, and the number of a refusal where it has one. A form says no length.
+abbrev pub entryIn : ℕ → RouteForm → Entry
+entryIn D f = record { dest = D; kind = f .kind; via = getD (f .via) 0 0; second = getD (f .via) 1 0 }
+
 unfoldable pub outcomeIn : ℕ → RouteForm → Outcome
-outcomeIn D f = toldAs 0 (answered (f .number) (saidBy (record { dest = D; kind = f .kind; via = f .via })))
+outcomeIn D f = toldAs 0 (answered (f .number) (saidBy (entryIn D f)))
 
 -- The new packet of a route from S to D; of a refusal a packet that every call declines.
 unfoldable pub packetIn : ℕ → ℕ → Outcome → Packet
@@ -117,4 +121,4 @@ abbrev pub legFor : Leg → LegForm
 legFor l = record { target = l .target; mode = det (l .mode) }
 
 unfoldable pub madeFor : Packet → PacketForm
-madeFor q = record { node = q .node; legs = legFor (getD (q .legs) 0 noLeg) ∷ legFor (getD (q .legs) 1 noLeg) ∷ []; left = q .left }
+madeFor q = record { node = q .node; legs = legFor (getD (q .legs) 0 noLeg) ∷ legFor (getD (q .legs) 1 noLeg) ∷ legFor (getD (q .legs) 2 noLeg) ∷ []; left = q .left }

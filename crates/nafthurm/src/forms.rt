@@ -90,7 +90,7 @@ pub struct PartForm {
 pub struct RouteForm {
     pub number: u8,
     pub kind: u8,
-    pub via: u16,
+    pub via: [u16; 2],
 }
 
 #[repr(C)]
@@ -156,7 +156,8 @@ pub fn packet_of(form: PacketForm) -> Packet
     let legs = form.legs;
     let first = leg_of(legs[0]);
     let second = leg_of(legs[1]);
-    Packet::with(form.node, [first, second], form.left)
+    let third = leg_of(legs[2]);
+    Packet::with(form.node, [first, second, third], form.left)
 }
 
 fn packet_for(lent: PacketForm, packet: Packet) -> PacketForm
@@ -250,7 +251,7 @@ pub fn run_for(answer: Answer) -> RunForm
     }
 }
 
-// The kind and the via as in the entry of a sheet.
+// The kind and the vias as in the entry of a sheet.
 pub fn route_for(outcome: Outcome) -> RouteForm
     ensures { λ r. ⌜ r ≡ routeFor outcome ⌝ }
 {
@@ -258,7 +259,7 @@ pub fn route_for(outcome: Outcome) -> RouteForm
     RouteForm {
         number: outcome.number(),
         kind: entry.kind,
-        via: entry.via,
+        via: [entry.via, entry.second],
     }
 }
 
@@ -287,11 +288,15 @@ pub fn outcome_in(destination: u16, form: RouteForm) -> Outcome
     if form.number != 0 {
         return Outcome::Refused(form.number);
     }
+    let vias = form.via;
+    let via = vias[0];
+    let second = vias[1];
     outcome_by(
         Entry {
             dest: destination,
             kind: form.kind,
-            via: form.via,
+            via: via,
+            second: second,
         },
         0,
     )
@@ -336,9 +341,10 @@ pub fn made_for(packet: Packet) -> PacketForm
     let legs = packet.legs;
     let first = leg_for(legs[0]);
     let second = leg_for(legs[1]);
+    let third = leg_for(legs[2]);
     PacketForm {
         node: packet.node,
-        legs: [first, second],
+        legs: [first, second, third],
         left: packet.left,
     }
 }

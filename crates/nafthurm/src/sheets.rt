@@ -7,12 +7,13 @@ use crate::forms::converted_for;
 use crate::forms::route_for;
 use crate::forms::written_for;
 use conversion::convert;
+use route_value::write_back;
 use routes::lookup::entry_part;
 use routes::route::route;
 ghost use mathlib.Core.Path.{_≡_};
 ghost use Rattle.sheet.specs.Output.{written, outAfter};
 ghost use Rattle.routes.specs.Checks.{sheetError};
-ghost use Rattle.routes.specs.Writing.{writeError};
+ghost use Rattle.route_value.specs.Writing.{rewritten, backError};
 ghost use Rattle.plan.specs.Checks.{large};
 ghost use Rattle.choice.specs.Outcome.{told};
 ghost use Rattle.choice.specs.Pair.{farIn};
@@ -35,10 +36,10 @@ pub extern "C" fn nafthurm_sheet_write_back(
     sheet: &[u8],
     out: &mut [u8],
 ) -> WrittenForm
-    ensures { λ r. ⌜ r ≡ writtenFor (written (writeError large (now (plan .entry)) (now (sheet .entry)) (now (out .entry))) (now (sheet .entry))) ⌝ }
-    ensures { λ _. ⌜ now (out .exit) ≡ outAfter (writeError large (now (plan .entry)) (now (sheet .entry)) (now (out .entry))) (now (sheet .entry)) (now (out .entry)) ⌝ }
+    ensures { λ r. ⌜ r ≡ writtenFor (written (backError large (now (plan .entry)) (now (sheet .entry)) (now (out .entry))) (rewritten (now (sheet .entry)))) ⌝ }
+    ensures { λ _. ⌜ now (out .exit) ≡ outAfter (backError large (now (plan .entry)) (now (sheet .entry)) (now (out .entry))) (rewritten (now (sheet .entry))) (now (out .entry)) ⌝ }
 {
-    written_for(routes::write_back(plan, sheet, out))
+    written_for(write_back(plan, sheet, out))
 }
 
 #[no_mangle]

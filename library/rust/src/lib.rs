@@ -5,9 +5,9 @@ mod raw;
 /// The largest plan sheet, of 256 faults.
 pub const PLAN_BYTES: usize = 780;
 /// The largest route sheet, of 4,095 entries: an output of this size is never refused with 12.
-pub const SHEET_BYTES: usize = 20482;
+pub const SHEET_BYTES: usize = 28672;
 /// The largest listing, likewise.
-pub const LISTING_BYTES: usize = 65550;
+pub const LISTING_BYTES: usize = 94222;
 
 /// Words of workspace that `all_sheets` asks for a board of the plan, and for the largest plan, of 4,096 boards.
 pub const ALL_WORDS_A_BOARD: usize = 512;
@@ -48,6 +48,7 @@ pub enum Mode {
 pub enum Route {
     Direct(Mode),
     Via(u16, Mode, Mode),
+    Vias(u16, u16, Mode, Mode, Mode),
 }
 
 /// A planned route and its length, the sum of the weights of its hops.
@@ -88,7 +89,7 @@ pub struct Leg {
 #[derive(Clone, Copy, Debug, PartialEq, Eq)]
 pub struct Packet {
     pub node: u16,
-    pub legs: [Leg; 2],
+    pub legs: [Leg; 3],
     pub left: u8,
 }
 
@@ -156,7 +157,7 @@ pub fn pair(plan: &[u8], source: u16, destination: u16) -> Result<Planned, Refus
     Ok(Planned { route: planned.route.read()?, length: planned.length })
 }
 
-/// The route sheet of every destination, in version 2, into `out`: how many bytes are written.
+/// The route sheet of every destination, in version 3, into `out`: how many bytes are written.
 pub fn write_sheet(plan: &[u8], source: u16, out: &mut [u8]) -> Result<usize, Refused> {
     let written = unsafe { raw::nafthurm_write_sheet(plan.as_ptr(), plan.len(), source, out.as_mut_ptr(), out.len()) };
     accepted(written.number).map(|()| written.size)
@@ -199,18 +200,18 @@ pub fn listing(input: &[u8], out: &mut [u8]) -> Result<usize, Refused> {
 
 // ---- Route sheets
 
-/// The checks of the plan, then 13 of the sheet. Version 2 alone is read; `convert` reads version 1.
+/// The checks of the plan, then 13 of the sheet. Versions 3 and 2 are read; `convert` reads version 1.
 pub fn sheet_check(plan: &[u8], sheet: &[u8]) -> Result<(), Refused> {
     accepted(unsafe { raw::nafthurm_sheet_check(plan.as_ptr(), plan.len(), sheet.as_ptr(), sheet.len()) })
 }
 
-/// The sheet as it is, into `out`: how many bytes are written.
+/// The sheet in version 3, into `out`: how many bytes are written. A version 3 sheet comes back as the same bytes, one of version 2 with the same routes.
 pub fn sheet_write_back(plan: &[u8], sheet: &[u8], out: &mut [u8]) -> Result<usize, Refused> {
     let written = unsafe { raw::nafthurm_sheet_write_back(plan.as_ptr(), plan.len(), sheet.as_ptr(), sheet.len(), out.as_mut_ptr(), out.len()) };
     accepted(written.number).map(|()| written.size)
 }
 
-/// The very five bytes of the destination's entry; empty, at the sheet's start, if it is not listed or the lookup is declined.
+/// The very bytes of the destination's entry, seven of version 3, five of version 2; empty, at the sheet's start, if it is not listed or the lookup is declined.
 pub fn lookup<'a>(plan: &[u8], sheet: &'a [u8], destination: u16) -> &'a [u8] {
     let part = unsafe { raw::nafthurm_lookup(plan.as_ptr(), plan.len(), sheet.as_ptr(), sheet.len(), destination) };
     &sheet[part.start..part.start + part.size]

@@ -37,7 +37,7 @@ pub struct Part {
 pub struct Route {
     pub number: u8,
     pub kind: u8,
-    pub via: u16,
+    pub via: [u16; 2],
 }
 
 #[repr(C)]
@@ -55,7 +55,7 @@ pub struct RawLeg {
 #[repr(C)]
 pub struct Packet {
     pub node: u16,
-    pub legs: [RawLeg; 2],
+    pub legs: [RawLeg; 3],
     pub left: u8,
 }
 
@@ -97,29 +97,39 @@ extern "C" {
 
 use Mode::{Adaptive, Deterministic};
 
+/// A bit for each deterministic leg, leg one lowest.
+fn bits(modes: &[Mode]) -> u8 {
+    modes.iter().rev().fold(0, |bits, &mode| 2 * bits + mode as u8)
+}
+
 impl Route {
     pub fn of(route: crate::Route) -> Route {
         let (kind, via) = match route {
-            crate::Route::Direct(Adaptive) => (0, 0),
-            crate::Route::Direct(Deterministic) => (1, 0),
-            crate::Route::Via(via, Adaptive, Adaptive) => (2, via),
-            crate::Route::Via(via, Adaptive, Deterministic) => (3, via),
-            crate::Route::Via(via, Deterministic, Adaptive) => (4, via),
-            crate::Route::Via(via, Deterministic, Deterministic) => (5, via),
+            crate::Route::Direct(mode) => (bits(&[mode]), [0, 0]),
+            crate::Route::Via(via, first, second) => (16 + bits(&[first, second]), [via, 0]),
+            crate::Route::Vias(via, further, first, second, third) => (32 + bits(&[first, second, third]), [via, further]),
         };
         Route { number: 0, kind, via }
     }
 
     pub fn read(self) -> Result<crate::Route, Refused> {
-        match (self.number, self.kind) {
-            (0, 0) => Ok(crate::Route::Direct(Adaptive)),
-            (0, 1) => Ok(crate::Route::Direct(Deterministic)),
-            (0, 2) => Ok(crate::Route::Via(self.via, Adaptive, Adaptive)),
-            (0, 3) => Ok(crate::Route::Via(self.via, Adaptive, Deterministic)),
-            (0, 4) => Ok(crate::Route::Via(self.via, Deterministic, Adaptive)),
-            (0, 5) => Ok(crate::Route::Via(self.via, Deterministic, Deterministic)),
-            (number, _) => Err(Refused(number)),
+        if self.number != 0 {
+            return Err(Refused(self.number));
         }
+        let [first, second, third] = [0, 1, 2].map(|leg| mode(self.kind >> leg & 1));
+        Ok(match self.kind / 16 {
+            0 => crate::Route::Direct(first),
+            1 => crate::Route::Via(self.via[0], first, second),
+            _ => crate::Route::Vias(self.via[0], self.via[1], first, second, third),
+        })
+    }
+}
+
+fn mode(raw: u8) -> Mode {
+    if raw == 0 {
+        Adaptive
+    } else {
+        Deterministic
     }
 }
 
@@ -128,7 +138,7 @@ fn raw_leg(leg: Leg) -> RawLeg {
 }
 
 fn leg(raw: RawLeg) -> Leg {
-    Leg { target: raw.target, mode: if raw.mode == 0 { Adaptive } else { Deterministic } }
+    Leg { target: raw.target, mode: mode(raw.mode) }
 }
 
 impl Packet {

@@ -15,9 +15,15 @@ array-copy-out-leg-for-2 c = search needs
 leg-for-requires-2 : tie.Need-leg-for-requires-2
 leg-for-requires-2 c κs = search needs
 
+array-copy-out-leg-for-3 : tie.Need-array-copy-out-leg-for-3
+array-copy-out-leg-for-3 c = search needs
+
+leg-for-requires-3 : tie.Need-leg-for-requires-3
+leg-for-requires-3 c κs = search needs
+
 returns : tie.Need-returns
 unfolding madeFor
-returns c = rw (c .leg-for2 .ensures, c .before .before .leg-for .ensures)
+returns c = rw (c .leg-for3 .ensures, c .before .before .leg-for2 .ensures, c .before .before .before .before .leg-for .ensures)
 
 pub made-for-spec : {M : Type 1} → statement M
 made-for-spec =
@@ -27,4 +33,6 @@ made-for-spec =
     leg-for-requires
     array-copy-out-leg-for-2
     leg-for-requires-2
+    array-copy-out-leg-for-3
+    leg-for-requires-3
     returns)

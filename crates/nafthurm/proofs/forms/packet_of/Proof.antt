@@ -16,12 +16,18 @@ array-copy-out-leg-of-2 c = search needs
 leg-of-requires-2 : tie.Need-leg-of-requires-2
 leg-of-requires-2 c κs = search needs
 
+array-copy-out-leg-of-3 : tie.Need-array-copy-out-leg-of-3
+array-copy-out-leg-of-3 c = search needs
+
+leg-of-requires-3 : tie.Need-leg-of-requires-3
+leg-of-requires-3 c κs = search needs
+
 with-requires : tie.Need-with-requires
 with-requires c κs = search needs
 
 returns : tie.Need-returns
 unfolding packetOf packetWith
-returns c = rw (← c .before .before .before .leg-of .ensures, ← c .before .leg-of2 .ensures) (c .with .ensures)
+returns c = rw (← c .before .before .before .before .before .leg-of .ensures, ← c .before .before .before .leg-of2 .ensures, ← c .before .leg-of3 .ensures) (c .with .ensures)
 
 pub packet-of-spec : {M : Type 1} → statement M
 packet-of-spec =
@@ -31,5 +37,7 @@ packet-of-spec =
     leg-of-requires
     array-copy-out-leg-of-2
     leg-of-requires-2
+    array-copy-out-leg-of-3
+    leg-of-requires-3
     with-requires
     returns)
