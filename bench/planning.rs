@@ -93,39 +93,36 @@ fn pairs_of(machine: Machine, random: &mut Random) -> Vec<(u16, u16)> {
     (0..200).map(|_| (node(), node())).collect()
 }
 
-fn check_pair(plan: &[u8], source: u16, dest: u16) {
+fn check_pair(plan: &[u8], ready: &fast::Ready, source: u16, dest: u16) {
     let planned = nafthurm::pair(plan, source, dest);
-    assert_eq!(planned.map(|p| p.length).ok(), fast::length(plan, source, dest), "{source} to {dest}: the length is another than that of fast");
+    assert_eq!(planned.map(|p| p.length).ok(), ready.length(source, dest), "{source} to {dest}: the length is another than that of fast");
     let route = match planned {
         Ok(p) => as_in_a_sheet(p.route),
-        Err(nafthurm::Refused(number)) => (number, 0),
+        Err(nafthurm::Refused(number)) => (16 * number, [0, 0]),
     };
     assert_eq!(route, shadows::pair(plan, source, dest), "{source} to {dest}: the route is another than that of shadows");
 }
 
-fn as_in_a_sheet(route: nafthurm::Route) -> (u8, u16) {
-    use nafthurm::{Mode::*, Route::*};
+fn as_in_a_sheet(route: nafthurm::Route) -> (u8, [u16; 2]) {
+    use nafthurm::Route::*;
     match route {
-        Direct(Adaptive) => (0, 0),
-        Direct(Deterministic) => (1, 0),
-        Via(via, Adaptive, Adaptive) => (2, via),
-        Via(via, Adaptive, Deterministic) => (3, via),
-        Via(via, Deterministic, Adaptive) => (4, via),
-        Via(via, Deterministic, Deterministic) => (5, via),
+        Direct(mode) => (mode as u8, [0, 0]),
+        Via(via, first, second) => (16 + first as u8 + 2 * second as u8, [via, 0]),
+        Vias(via, further, first, second, third) => (32 + first as u8 + 2 * second as u8 + 4 * third as u8, [via, further]),
     }
 }
 
 fn pair_times() {
     let mut random = Random(88172645463325252);
-    head(&["machine", "dead links", "a pair", "fast.rs", "ratio", "shadows.rs", "ratio"]);
+    head(&["machine", "dead links", "a pair", "shadows.rs", "ratio"]);
     each_plan_and_weighed(|machine, links, plan| {
         let pairs = pairs_of(machine, &mut random);
-        pairs.iter().for_each(|&(s, d)| check_pair(plan, s, d));
+        let ready = fast::Ready::new(plan);
+        pairs.iter().for_each(|&(s, d)| check_pair(plan, &ready, s, d));
         let time = |f: &dyn Fn(u16, u16)| time::least(5, || pairs.iter().for_each(|&(s, d)| f(s, d))) / pairs.len() as f64;
         let ours = time(&|s, d| _ = black_box(nafthurm::pair(plan, s, d)));
-        let fast = time(&|s, d| _ = black_box(fast::length(plan, s, d)));
         let shadows = time(&|s, d| _ = black_box(shadows::pair(plan, s, d)));
-        row(machine, links, &[time_of(ours), time_of(fast), ratio(ours, fast), time_of(shadows), ratio(ours, shadows)]);
+        row(machine, links, &[time_of(ours), time_of(shadows), ratio(ours, shadows)]);
     });
 }
 

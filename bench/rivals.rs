@@ -1,10 +1,10 @@
-//! The planners in plain Rust, `reference/fast.rs` and `reference/shadows.rs` under document 01's rules with E1 to E4, called from here and as programs.
+//! The planners in plain Rust, `reference/fast.rs` and `reference/shadows.rs` under document 01's rules with E1 to E5, called from here and as programs.
 use std::io::Write;
 use std::process::{Command, Stdio};
 
 /// What the two call these rules.
-pub const STAGE: &str = "E3";
-const STAGE_NUMBER: u32 = 3;
+pub const STAGE: &str = "E5";
+const STAGE_NUMBER: u32 = 5;
 
 #[allow(warnings)]
 pub mod fast {
@@ -12,27 +12,25 @@ pub mod fast {
 
     use super::STAGE_NUMBER;
 
-    /// The length of the pair's first choice, where there is one.
-    pub fn length(sheet: &[u8], source: u16, dest: u16) -> Option<u16> {
-        let p = Plan::parse(sheet, STAGE_NUMBER).ok().unwrap();
-        let t = tables(&p);
-        let (source, dest) = (source as usize, dest as usize);
-        let (mut bad, mut from, mut to) = (vec![0; p.n], [vec![FAR; p.n], vec![FAR; p.n]], [vec![FAR; p.n], vec![FAR; p.n]]);
-        let [a, d] = &mut from;
-        onward(&p, &t, source, &mut bad, [a, d]);
-        let [a, d] = &mut to;
-        toward(&p, &t, dest, &mut bad, [a, d]);
-        let direct = from[A][dest].min(from[D][dest]);
-        let via = (0..4).map(|m| least(&from[m / 2], &to[m % 2], wide())).min().unwrap();
-        match direct.min(via) {
-            _ if source == dest => Some(0),
-            FAR => None,
-            length => Some(length as u16),
+    /// The tables of a plan: with them a source is planned as a whole.
+    pub struct Ready(Planner);
+
+    impl Ready {
+        pub fn new(plan: &[u8]) -> Ready {
+            Ready(Planner::new(Plan::parse(plan, STAGE_NUMBER).ok().unwrap(), true))
+        }
+
+        /// The length of the pair's first choice, where there is one.
+        pub fn length(&self, source: u16, dest: u16) -> Option<u16> {
+            match self.0.plan(&[source as usize]).pop().unwrap()[dest as usize] {
+                Answer::Route { length, .. } => Some(length as u16),
+                _ => None,
+            }
         }
     }
 
     pub fn one_sheet(plan: &[u8], source: u16) -> Vec<u8> {
-        let planner = Planner::new(Plan::parse(plan, STAGE_NUMBER).ok().unwrap(), false);
+        let Ready(planner) = Ready::new(plan);
         let answers = planner.plan(&[source as usize]).pop().unwrap();
         sheet(source as usize, &answers, STAGE_NUMBER)
     }
@@ -50,22 +48,14 @@ pub mod shadows {
         (p, g)
     }
 
-    /// The kind and the via of the pair's first choice, as in a sheet; kind 11 where there is none.
-    pub fn pair(plan: &[u8], source: u16, dest: u16) -> (u8, u16) {
+    /// The kind and the vias of the pair's first choice, as in a sheet.
+    pub fn pair(plan: &[u8], source: u16, dest: u16) -> (u8, [u16; 2]) {
         if source == dest {
-            return (0, 0);
+            return (0, [0, 0]);
         }
         let (p, g) = shadows_of(plan);
-        let (kind, via, _) = pair_lean(&g, RULES, source as usize, dest as usize, &mut Work::new(p.n));
-        let kind = match kind {
-            16 => 2,
-            17 => 4,
-            18 => 3,
-            19 => 5,
-            176 => 11,
-            kind => kind,
-        };
-        (kind, via as u16)
+        let (kind, via, second) = pair_lean(&g, RULES, source as usize, dest as usize, &mut Work::new(p.n));
+        (kind, [via as u16, second as u16])
     }
 
     pub fn one_sheet(plan: &[u8], source: u16) -> Vec<u8> {

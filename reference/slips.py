@@ -43,12 +43,12 @@ OF_VERSION = '    weights = (1, 1, 1) if version == 1 else tuple(sheet[7:10])\n'
 SHAPE = '    extents, wrap = tuple(sheet[3:6]), sheet[6]\n    number = check_shape(extents, wrap, rack)\n    if number:\n        return number, None\n'
 WEIGHED = 'self.weights[dim] * self.shape.hops_in'
 ORDER = "    return (length_of(plan, source, legs), modes.count('D'), len(vias), vias, modes)"
-LAST_LEG = "            if keep(here, (destination, mode)):\n                yield done + ((destination, mode),)"
+TRIED = '        for found in modes:\n'
 ENTRY = '    return two(destination) + bytes([kind])'
-WRITTEN = '2 if stage >= E2 else 1'
+WRITTEN = '    return 3 if stage >= E5'
 WRITES = '    """The route sheet that planning from a source writes."""\n    version = written_version(stage)'
 REWRITES = '        return 13, 0\n    version = written_version(stage)'
-READ = '[2] if stage >= E2 else [1]'
+READ = '[2, 3] if stage >= E5'
 VERSION = '    if len(sheet) < 7 or sheet[0] not in versions:\n        return None\n    version = sheet[0]\n'
 LOOKS_UP = '    """(number, sheet read, entry or None): 1 to 8, 13, then 9."""\n'
 WRITES_BACK = '    """(number, bytes written): 1 to 8, 13, 12."""\n'
@@ -57,6 +57,10 @@ ABSENT = '        if any(absent):\n'
 LISTED = '        if destination >= shape.nodes or any(v >= shape.nodes for v in vias):'
 VIAS = '        if source in vias or destination in vias'
 FOUND = '    if read is None:\n        return 13, None, None\n    if destination >= plan.nodes:\n        return 9, None, None\n'
+KIND = "sum(1 << i for i, mode in enumerate(modes) if mode == 'D')"
+MODES = "'D' if kind % 16 >> i & 1 else 'A'"
+NO_KIND = '    if vias > 2 or bits >= 2 ** (vias + 1) or kind == 0:'
+LEGS = 'def most_legs(stage):\n    return 3 if'
 CONVERTS = '    """(number, bytes written): 1 to 8, 13, 17, 12.  Version 1 in, version 2 out."""\n'
 CONVERTED = '    read = read_route_sheet(plan.shape, sheet, [1])\n    if read is None:\n        return 13, 0\n'
 JUDGED = '    if not all(kept(plan.shape, read.source, entry) for entry in read.entries):\n        return 17, 0\n'
@@ -83,7 +87,11 @@ SLIPS = [
     ('packets: the wrap is not checked', SHAPE_CHECK, SHAPE_CHECK.replace('number or', '(0 if number == 6 else number) or')),
     ('packets: 14 before 5 and 6', SHAPE_CHECK, '    return check_packet(stage, Shape(extents, wrap), packet) or check_shape(extents, wrap)'),
     ('packets: legs are counted after drops', 'len(packet.legs) > most_legs', 'len(drop(packet).legs) > most_legs'),
-    ('packets: three legs are accepted', 'def most_legs(stage):\n    return 3 if', 'def most_legs(stage):\n    return 3 if True or'),
+    ('packets: four legs are accepted', LEGS, LEGS.replace('3', '4')),
+    ('packets: three legs are 14', LEGS, LEGS.replace('3', '2')),
+    ('packets: of three legs the middle target is not checked', NAMED, NAMED.replace('packet.legs]', '(packet.legs[:1] + packet.legs[2:] if len(packet.legs) == 3 else packet.legs)]')),
+    ('packets: two legs alone are dropped', DROP, '        for _ in range(2):\n            if packet.legs and packet.legs[0][0] == packet.node:\n                packet = packet._replace(legs=packet.legs[1:])'),
+    ('packets: a walk is cut at 90 hops', HOPPED, HOPPED + "\n        if hops == 90:\n            return Walked(0, packet, hops, 'used-up')"),
     ('packets: the front target alone is checked', NAMED, NAMED.replace('packet.legs]', 'packet.legs[:1]]')),
     ('packets: the last target is not checked', NAMED, NAMED.replace('packet.legs]', 'packet.legs[:-1]]')),
     ('packets: the present node is not checked', NAMED, NAMED.replace('[packet.node] + ', '')),
@@ -141,6 +149,7 @@ SLIPS = [
     ('ties: planning has plus on rings of 10', PLANNED, OTHER_SIDE % '{0} % 2 == 1 and plan.shape.extents[d // 2] == 10'.format(PLACE)),
     ('ties: planning has plus on rings of 16', PLANNED, OTHER_SIDE % '{0} % 2 == 1 and plan.shape.extents[d // 2] == 16'.format(PLACE)),
     ('ties: packets have plus, planning the rule', STEPPED, STEPPED.replace('stage', 'E1')),
+    ('ties: a packet\'s middle leg of three has plus', STEPPED, STEPPED.replace('stage', '(stage if len(drop(packet).legs) != 2 else E1)')),
     ('ties: a packet\'s last leg has plus', STEPPED, STEPPED.replace('stage', '(stage if len(drop(packet).legs) > 1 else E1)')),
     ('ties: a packet\'s first leg of two has plus', STEPPED, STEPPED.replace('stage', '(stage if len(drop(packet).legs) < 2 else E1)')),
     ('plans: 8 bytes are enough', '    if len(sheet) < 9:', '    if len(sheet) < 8:'),
@@ -219,8 +228,24 @@ SLIPS = [
     ('pairs: the highest via', ORDER, ORDER.replace(' vias, modes)', ' tuple(-v for v in vias), modes)')),
     ('pairs: vias compared in one byte', ORDER, ORDER.replace(' vias, modes)', ' tuple(v % 256 for v in vias), modes)')),
     ('pairs: two deterministic legs as good as one', ORDER, ORDER.replace("modes.count('D')", "'D' in modes")),
-    ('pairs: no two deterministic legs', LAST_LEG, LAST_LEG.replace('mode)):', "mode)) and [m for _, m in done] + [mode] != ['D', 'D']:")),
-    ('pairs: no direct deterministic leg', LAST_LEG, LAST_LEG.replace('mode)):', "mode)) and (done or mode == 'A'):")),
+    ('pairs: no two deterministic legs of two', TRIED, TRIED.replace('modes:', "[m for m in modes if m != ('D', 'D')]:")),
+    ('pairs: no direct deterministic leg', TRIED, TRIED.replace('modes:', "[m for m in modes if m != ('D',)]:")),
+    ('pairs: no three deterministic legs', TRIED, TRIED.replace('modes:', "[m for m in modes if m != ('D', 'D', 'D')]:")),
+    ('pairs: the middle leg of three is adaptive', TRIED, TRIED.replace('modes:', "[m for m in modes if len(m) < 3 or m[1] == 'A']:")),
+    ('pairs: the last leg of three is adaptive', TRIED, TRIED.replace('modes:', "[m for m in modes if len(m) < 3 or m[2] == 'A']:")),
+    ('pairs: the first leg of three is adaptive', TRIED, TRIED.replace('modes:', "[m for m in modes if len(m) < 3 or m[0] == 'A']:")),
+    ('pairs: no two vias', '    return 2 if stage >= E5 else 1', '    return 1'),
+    ('pairs: the second via before the first', ORDER, ORDER.replace(' vias, modes)', ' vias[::-1], modes)')),
+    ('pairs: the highest second via', ORDER, ORDER.replace(' vias, modes)', ' vias[:1], tuple(-v for v in vias[1:]), modes)')),
+    ('pairs: the highest first via', ORDER, ORDER.replace(' vias, modes)', ' tuple(-v for v in vias[:1]), vias[1:], modes)')),
+    ('pairs: modes before vias', ORDER, ORDER.replace(' vias, modes)', ' modes, vias)')),
+    ('pairs: more vias before fewer', ORDER, ORDER.replace('len(vias)', '-len(vias)')),
+    ('pairs: three deterministic legs as good as two', ORDER, ORDER.replace("modes.count('D')", "min(2, modes.count('D'))")),
+    ('pairs: the third leg\'s mode is not counted', ORDER, ORDER.replace("modes.count('D')", "modes[:2].count('D')")),
+    ('pairs: the third leg\'s length is not counted', ORDER, ORDER.replace('length_of(plan, source, legs)', 'length_of(plan, source, legs[:2])')),
+    ('pairs: a length of at most 720', '    return 0, Route(source, legs, length_of(plan, source, legs))', '    return 0, Route(source, legs, min(720, length_of(plan, source, legs)))'),
+    ('pairs: two vias only where one finds none', '            return best is None or length < best[0] or length == best[0] and best[1] > 0', '            return best is None'),
+    ('pairs: two vias only where they are shorter', '            return best is None or length < best[0] or length == best[0] and best[1] > 0', '            return best is None or length < best[0]'),
     ('sheets: a source just outside is 10', SOURCE, SOURCE.replace('>=', '>').replace('if source in plan.dead', 'if source == plan.nodes or source in plan.dead')),
     ('sheets: a dead source is written', SOURCE, SOURCE.replace('source in plan.dead', 'False')),
     ('sheets: 12 before 10', SOURCE, SOURCE.replace('return 10, 0', 'return (12 if len(out) < 7 else 10), 0')),
@@ -236,16 +261,18 @@ SLIPS = [
     ('listing: destinations of three digits', '[str(destination), str(kind)]', '[str(destination % 1000), str(kind)]'),
     ('listing: a source just outside is 10', '    if not number and source >= plan.nodes:\n        number = 9\n', '    if not number and source >= plan.nodes:\n        number = 9 + (source == plan.nodes)\n'),
     ('listing: fewer than two bytes are 9', "        return 'refused 1\\n'", "        return 'refused 9\\n'"),
-    ('versions: 1 is written', WRITTEN, '1'),
-    ('versions: 3 is written', WRITTEN, '3'),
-    ('versions: planning writes 1', WRITES, WRITES.replace('written_version(stage)', '1')),
-    ('versions: writing back writes 1', REWRITES, REWRITES.replace('written_version(stage)', '1')),
-    ('versions: 1 alone is read', READ, '[1]'),
-    ('versions: 1 is read too', READ, '[1, 2]'),
-    ('versions: 3 is read too', VERSION, VERSION.replace('versions', '(2, 3)').replace('version = sheet[0]', 'version = 2')),
-    ('versions: 3 with entries of seven bytes is read too', READ, '[2, 3]'),
-    ('versions: 0 is read too', READ, '[0, 2]'),
-    ('versions: 255 is read too', READ, '[2, 255]'),
+    ('versions: 2 is written', WRITTEN, '    return 2 if stage >= E5'),
+    ('versions: 4 is written', WRITTEN, '    return 4 if stage >= E5'),
+    ('versions: planning writes 2', WRITES, WRITES.replace('written_version(stage)', '2')),
+    ('versions: writing back writes 2', REWRITES, REWRITES.replace('written_version(stage)', '2')),
+    ('versions: version 2 comes back as it is', REWRITES, REWRITES.replace('written_version(stage)', 'read.version')),
+    ('versions: 2 is not read', READ, '[3] if stage >= E5'),
+    ('versions: 3 is not read', READ, '[2] if stage >= E5'),
+    ('versions: 1 is read too', READ, '[1, 2, 3] if stage >= E5'),
+    ('versions: 0 is read too', READ, '[0, 2, 3] if stage >= E5'),
+    ('versions: 255 is read too', READ, '[2, 3, 255] if stage >= E5'),
+    ('versions: 3 is read as 2', VERSION, VERSION.replace('versions', '(2, 3)').replace('version = sheet[0]', 'version = 2')),
+    ('versions: 2 is read as 3', VERSION, VERSION.replace('versions', '(2, 3)').replace('version = sheet[0]', 'version = 3')),
     ('versions: 1 is 13 before the plan is checked', LOOKS_UP, LOOKS_UP + "    if sheet[:1] == b'\\1':\n        return 13, None, None\n"),
     ('versions: 1 is 13 before the plan, writing back', WRITES_BACK, WRITES_BACK + "    if sheet[:1] == b'\\1':\n        return 13, 0\n"),
     ('versions: 9 before 13 for version 1', FOUND, FOUND.replace('return 13,', "return 9 if sheet[:1] == b'\\1' and destination >= plan.nodes else 13,")),
@@ -277,6 +304,39 @@ SLIPS = [
     ('lookups: destinations compared in one byte', 'if entry.destination == destination:', 'if entry.destination % 256 == destination % 256:'),
     ('lookups: kinds 3 and 4 exchanged', 'if number == kind)', 'if number == {3: 4, 4: 3}.get(kind, kind))'),
     ('lookups: 10 for a dead destination is 11', '        return entry.kind, None', '        return 11, None'),
+    ('kinds: leg one highest, written', KIND, KIND.replace('1 << i', '1 << len(legs) - 1 - i')),
+    ('kinds: leg one highest, read', MODES, MODES.replace('>> i &', '>> kind // 16 - i &')),
+    ('kinds: 10 and 11 are written', '16 * number      #', 'number      #'),
+    ('kinds: a dead destination is 176', '16 * number      #', '176      #'),
+    ('kinds: 160 and 176 are numbers', '        return entry.kind // 16, None', '        return entry.kind, None'),
+    ('kinds: no clear choice is told as 10', '        return entry.kind // 16, None', '        return 10, None'),
+    ('kinds: 0 is accepted', NO_KIND, NO_KIND.replace(' or kind == 0', '')),
+    ('kinds: 48 and more are accepted', NO_KIND, NO_KIND.replace('vias > 2', 'vias > 3')),
+    ('kinds: 20 is accepted', NO_KIND, NO_KIND.replace('>= 2 **', '> 2 **')),
+    ('kinds: any bits are accepted', NO_KIND, NO_KIND.replace('bits >= 2 ** (vias + 1) or ', '')),
+    ('kinds: 2 is accepted', NO_KIND, NO_KIND.replace('bits >= 2 ** (vias + 1) or ', 'kind != 2 and bits >= 2 ** (vias + 1) or ')),
+    ('kinds: 10 and 11 are accepted', '    if kind in (160, 176):\n        return 0', '    if kind in (10, 11, 160, 176):\n        return 0'),
+    ('kinds: 176 is not accepted', '    if kind in (160, 176):\n        return 0', '    if kind == 160:\n        return 0'),
+    ('kinds: 161 is accepted', '    if kind in (160, 176):\n        return 0', '    if kind in (160, 161, 176):\n        return 0'),
+    ('vias: two equal ones are accepted', ' or len(set(vias)) < len(vias)', ''),
+    ('vias: the second is not checked', LISTED, LISTED.replace('in vias)', 'in vias[:1])')),
+    ('vias: the second may be the source', VIAS, VIAS.replace('source in vias', 'source in vias[:1]')),
+    ('vias: the second may be the destination', VIAS, VIAS.replace('destination in vias', 'destination in vias[:1]')),
+    ('vias: equal in one byte', ' or len(set(vias)) < len(vias)', ' or len({v % 256 for v in vias}) < len(vias)'),
+    ('vias: the absent second one is not judged', ABSENT, '        if any(absent[:2 - vias_used] if vias_used != 1 else []):\n'),
+    ('vias: the absent second one is judged where both are absent alone', ABSENT, '        if any(absent) and not (len(absent) == 1 and version == 3):\n'),
+    ('vias: the first absent one alone is judged', ABSENT, '        if any(absent[:1]):\n'),
+    ('vias: the second is written in one byte', 'two(v) for v in vias[:size]', 'two(v if i == 0 else v % 256) for i, v in enumerate(vias[:size])'),
+    ('vias: exchanged where they are written', '    vias = tuple(vias) + (0, 0)\n', '    vias = tuple(vias)[::-1] + (0, 0)\n'),
+    ('vias: exchanged where they are read', '    targets = list(entry.vias) + [entry.destination]', '    targets = list(entry.vias)[::-1] + [entry.destination]'),
+    ('entries: five bytes are given of version 3', 'entries.append(Entry(destination, kind, vias, at, at + size))', 'entries.append(Entry(destination, kind, vias, at, at + 5))'),
+    ('entries: seven bytes are given of version 2', 'entries.append(Entry(destination, kind, vias, at, at + size))', 'entries.append(Entry(destination, kind, vias, at, at + 7))'),
+    ('entries: 12 by the size read', '    return put(sheet_bytes(version, read.source, entries), out)', '    return (0, len(out)) if len(out) == len(sheet) and read.version == 2 else put(sheet_bytes(version, read.source, entries), out)'),
+    ('entries: a listed 11 is planned anew', '        number, legs = entry_answer(read.version, entry)\n        kind', '        number, legs = entry_answer(read.version, entry)\n        if number == 11 and pair_in(stage, plan, read.source, entry.destination)[1]:\n            continue\n        kind'),
+    ('listing: one via field', "fields = vias + ['-'] * (most_vias(stage) - len(vias))", "fields = (vias + ['-'])[:1]"),
+    ('listing: an absent second via is 0', "fields = vias + ['-'] * (most_vias(stage) - len(vias))", "fields = (vias or ['-']) + ['0'] * (2 - max(1, len(vias)))"),
+    ('listing: vias exchanged', "fields = vias + ['-'] * (most_vias(stage) - len(vias))", "fields = vias[::-1] + ['-'] * (most_vias(stage) - len(vias))"),
+    ('listing: 10 and 11 for 160 and 176', 'kind = refusal_kind(version, number) if number else kind_of(version, route.legs)\n        length', 'kind = number if number else kind_of(version, route.legs)\n        length'),
     ('writing back: 12 before 13', '        return 13, 0\n    version', '        return (12 if len(out) < len(sheet) else 13), 0\n    version'),
     ('conversions: from even places', ODD_HALF, ODD_HALF.replace('== 1', '== 0')),
     ('conversions: from every place', ODD_HALF, ODD_HALF.replace('% 2 == 1', '>= 0')),

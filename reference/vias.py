@@ -40,14 +40,35 @@ DECIDED = {
     'first via before second': (12, 59, 63, 81, 182, 184, 265, 334, 445, 496, 500, 530),
 }
 
+# By the length of a ring, seeds of `on_ring` whose route would be another with plus at every half ring.
+TIES = {
+    4: (124, 186, 227, 356, 476, 498),
+    6: (20, 23, 25, 113, 141, 227),
+    8: (124, 146, 169, 311, 416, 547),
+    10: (104, 172, 245, 341, 357, 389),
+    12: (3, 208, 272, 282, 515, 549),
+    14: (86, 142, 145, 542, 564, 607),
+    16: (48, 110, 150, 197, 203, 238),
+}
+
+
+def two_nodes(rng, plan):
+    """The plan and two of its nodes that are not dead, if there are two."""
+    read = ref.read_plan(STAGE, plan)[1]
+    live = sorted(set(range(read.nodes)) - read.dead)
+    return (plan, *rng.sample(live, 2)) if len(live) > 1 else (plan, 0, 0)
+
 
 def a_pair(seed):
     """A narrow machine with many faults, and two of its nodes."""
     rng = random.Random('vias/%s/%d' % (SEED, seed))
-    plan = ties.any_plan(rng, rng.choice([4, 6, 8]))
-    read = ref.read_plan(STAGE, plan)[1]
-    live = sorted(set(range(read.nodes)) - read.dead)
-    return (plan, *rng.sample(live, 2)) if len(live) > 1 else (plan, 0, 0)
+    return two_nodes(rng, ties.any_plan(rng, rng.choice([4, 6, 8])))
+
+
+def on_ring(ring, seed):
+    """Likewise, with a ring of this length."""
+    rng = random.Random('vias/%s/%d/%d' % (SEED, ring, seed))
+    return two_nodes(rng, ties.any_plan(rng, ring))
 
 
 def modes_of(seed):
@@ -100,6 +121,25 @@ def decided():
             plan, source, destination = a_pair(seed)
             yield line('pair', plan=plan, source=source, destination=destination)
             yield line('sheetrun', plan=plan, source=source, destination=destination, calls='-')
+
+
+def with_plus(plan, source, destination):
+    """The pair's route with plus at every half ring."""
+    rule = ref.deterministic
+    ref.deterministic = lambda stage, *ends: rule(ref.E1, *ends)
+    route = ref.pair_in(STAGE, ref.read_plan(STAGE, plan)[1], source, destination)[1]
+    ref.deterministic = rule
+    return route
+
+
+def by_ties():
+    """Pairs whose route of up to three legs goes by the rule of half rings, of every even length."""
+    for ring, seeds in TIES.items():
+        for seed in seeds:
+            plan, source, destination = on_ring(ring, seed)
+            assert with_plus(plan, source, destination) != ref.plan_pair(STAGE, plan, source, destination)[1]
+            yield line('pair', plan=plan, source=source, destination=destination)
+            yield next(runs_on(plan, source, destination))
 
 
 def only_by_two():
@@ -280,4 +320,4 @@ def full():
         yield line('lookup', plan=cube, sheet=routes[:-2] + b'\xff\xff', destination=1)
 
 
-LACKING = (every_kind, decided, only_by_two, three_legs, drops, counts, kinds, bad_vias, layouts, written_again, checks, full)
+LACKING = (every_kind, decided, by_ties, only_by_two, three_legs, drops, counts, kinds, bad_vias, layouts, written_again, checks, full)

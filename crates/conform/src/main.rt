@@ -7,8 +7,8 @@ use answer_lines::answer_all;
 
 const LINE_BYTES: usize = 131072;
 
-// Room for a line and its answer.
-const OUT_BYTES: usize = LINE_BYTES + 65536;
+// Room for a line and its answer, of which a listing's text is the longest.
+const OUT_BYTES: usize = LINE_BYTES + 98304;
 
 fn main() {
     let mut buffer = [0u8; LINE_BYTES];
