@@ -8,6 +8,7 @@ pub mod Shortest
 pub mod Zero
 pub mod Forced
 pub mod AtTorus
+pub mod Computed
 pub mod Search
 pub mod Demand
 pub mod Worked
