@@ -3,7 +3,7 @@ pub mod Keys
 pub mod Listed
 pub mod Tidy
 pub mod Further
-pub mod OneVia
+pub mod InWords
 pub mod Shortest
 pub mod Zero
 pub mod Forced
