@@ -3,11 +3,12 @@ pub mod Keys
 pub mod Listed
 pub mod Tidy
 pub mod Further
-pub mod OneVia
+pub mod InWords
 pub mod Shortest
 pub mod Zero
 pub mod Forced
 pub mod AtTorus
+pub mod Computed
 pub mod Search
 pub mod Demand
 pub mod Worked

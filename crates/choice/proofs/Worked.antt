@@ -1,10 +1,9 @@
 -- The worked lines hold, and those with weights; and the theorem on planning a pair speaks of machine W, and of a plan with weights.
-use Prim.Native.Nat.{ℕ, _<_}
-use native.Mathlib.Omega.{arith}
+use Prim.Native.Nat.{ℕ}
 use mathlib.Core.Path.{_≡_, refl, ap, _∙_}
 use mathlib.Core.Bool.{true, false}
 use mathlib.Core.Option as Option
-use mathlib.Core.List.{[], _∷_}
+use mathlib.Core.List.{List, [], _∷_}
 use Rattle.theory.specs.Machine.{endBy, sumBy}
 use Rattle.theory.specs.Clear.{every, clearBy, clearIn, clear}
 use Rattle.theory.specs.Choice.{lex, earlier, best}
@@ -16,6 +15,7 @@ use Rattle.machine.specs.Hop.{dirDim, opposite, link, neighbour, hops, useful, 
 use Rattle.machine.specs.Node.{isNode}
 use Rattle.machine.specs.declared.leg.Mode.the-variants.{Adaptive}
 use Rattle.machine.specs.Torus.{allowedBy, leg, torus}
+use Rattle.machine.proofs.Nodes.{node-of}
 use Rattle.packet.specs.declared.route.Route.{Route}
 use Rattle.weights.specs.Weights.{badWeights, weightError}
 use Rattle.weights.specs.Distance.{distance}
@@ -26,85 +26,99 @@ use Rattle.plan.specs.Kinds.{kindDim, kindDir}
 use Rattle.plan.specs.Checks.{large, faultGood, faultKey, faultsError, planErrorBy, faultExists, planError}
 use Rattle.plan.specs.Worked.{W}
 use Rattle.dead.specs.Dead.{some, namesNode, deadNode, namesLink, names, deadLink, sound}
-use Rattle.choice.specs.Choice.{Choice, lengthFrom, targetsOf, viasOf, modesOf, detsOf, keyOf, over, after, direct, legsBy, misses, different, kept, choicesBy}
+use Rattle.choice.specs.Choice.{Choice, targetsOf, viasOf, modesOf, detsOf, keyOf, over, after, direct, legsBy, misses, different, kept, choicesBy}
 use Rattle.choice.specs.declared.outcome.Outcome.{Outcome}
-use Rattle.choice.specs.Further.{firstBy}
-use Rattle.choice.specs.Search.{Lengths}
+use Rattle.choice.specs.Further.{better, alone, followed}
 use Rattle.choice.specs.Answer.{Given, answered}
 use Rattle.choice.specs.Outcome.{told, toldAs}
-use Rattle.choice.specs.Pair.{soundIn, farIn, routeBy, routeIn, pairError, chosen, pair}
+use Rattle.choice.specs.Pair.{soundIn, farIn, routeBy, pairError, chosen, pair}
 use Rattle.choice.specs.Demand.{Demand}
 use Rattle.choice.specs.Worked.{tells, Worked}
 use Rattle.choice.specs.Weighed.{machine, Weighed}
-use Rattle.choice.proofs.AtTorus.{far-lengths, two-enough}
+use Rattle.choice.proofs.AtTorus.{far-lengths}
+use Rattle.choice.proofs.Computed.{onward, oneFirst, twoFirst, two-first}
 use Rattle.choice.proofs.Demand.{pair-chosen, demand}
 
+-- By laws, where the choices are many: what a route tells that is computed without the list of all choices.
+module _ (p : List ℕ) (S D : ℕ) where
+  abbrev route : Option.Option Choice
+  route = twoFirst (farIn p) (clear (torus (shapeOf p)) (soundIn p)) (nodeCount (shapeOf p)) S D
+
+  told-by :
+      (c : Choice) (outcome : Outcome) → route ≡ Option.some c → told (farIn p) S (Given c) ≡ outcome →
+      planError large p ≡ 0 → isNode (shapeOf p) S ≡ true → isNode (shapeOf p) D ≡ true → deadNode (faultsOf p) S ≡ false → deadNode (faultsOf p) D ≡ false → tells p S D ≡ outcome
+  told-by c outcome is same e hS hD dS dD =
+      let from = node-of (shapeOf p) S hS in
+      let to = node-of (shapeOf p) D hD in
+      let found = two-first (farIn p) (shapeOf p) (far-lengths large p e) (from .sound) (soundIn p) S (from .below) D (to .below) ∙ is in
+      ap (told (farIn p) S) (pair-chosen large p S D e hS hD dS dD) ∙ (ap (λ o. told (farIn p) S (chosen o)) found ∙ same)
+
+w-0-1-route : route W 0 1 ≡ Option.some (leg 3 Adaptive ∷ leg 2 Adaptive ∷ leg 1 Adaptive ∷ [])
+unfolding endBy sumBy every clearIn clear lex earlier best axisHops hasLink place nodeCount numberOf coordsOf dirDim opposite link neighbour hops useful rule toward firstDirection allowedBy listFrom version layoutOf shapeOf weightsBy distance faultCount faultAt faultsOf kindDim kindDir some namesNode deadNode namesLink names deadLink sound targetsOf viasOf modesOf detsOf keyOf over better alone followed onward oneFirst twoFirst
+w-0-1-route = refl
+
+w-0-1-told : told (farIn W) 0 (Given (leg 3 Adaptive ∷ leg 2 Adaptive ∷ leg 1 Adaptive ∷ [])) ≡ Outcome.Given (Route.Vias 3 2 Adaptive Adaptive Adaptive) 3
+unfolding sumBy axisHops nodeCount coordsOf version layoutOf shapeOf weightsBy distance told toldAs
+w-0-1-told = refl
+
 w-0-1 : tells W 0 1 ≡ Outcome.Given (Route.Vias 3 2 Adaptive Adaptive Adaptive) 3
-unfolding endBy sumBy every clearBy clearIn clear lex earlier best planned shapeError badExtents badWraps axisHops hasLink place nodeCount numberOf coordsOf dirDim opposite link neighbour hops useful rule toward firstDirection isNode allowedBy listFrom version lengthField bytesAfter lengthIs layoutOf shapeOf weightsBy badWeights weightError distance faultCount faultAt faultsOf kindDim kindDir faultGood faultKey faultsError planErrorBy faultExists some namesNode deadNode namesLink names deadLink sound targetsOf viasOf modesOf detsOf keyOf over after direct legsBy misses different kept choicesBy answered told toldAs routeBy pairError pair
-w-0-1 = refl
+unfolding shapeError badExtents badWraps nodeCount isNode listFrom version lengthField bytesAfter lengthIs layoutOf shapeOf weightsBy badWeights weightError faultCount faultAt faultsOf kindDim kindDir coordsOf hasLink link dirDim faultGood faultKey faultsError planErrorBy faultExists some namesNode deadNode
+w-0-1 = told-by W 0 1 (leg 3 Adaptive ∷ leg 2 Adaptive ∷ leg 1 Adaptive ∷ []) (Outcome.Given (Route.Vias 3 2 Adaptive Adaptive Adaptive) 3) w-0-1-route w-0-1-told refl refl refl refl refl
 
--- By laws, where the choices are many: what a route tells.
-module _ (D : ℕ) (c : Choice) (outcome : Outcome) (node : isNode (shapeOf W) D ≡ true) (alive : deadNode (faultsOf W) D ≡ false) (is : told (farIn W) 0 (Given c) ≡ outcome) (route : routeIn W 0 D ≡ Option.some c) where
-  accepted : planError large W ≡ 0
-  unfolding endBy sumBy every clearBy clearIn clear lex earlier best planned shapeError badExtents badWraps axisHops hasLink place nodeCount numberOf coordsOf dirDim opposite link neighbour hops useful rule toward firstDirection isNode allowedBy listFrom version lengthField bytesAfter lengthIs layoutOf shapeOf weightsBy badWeights weightError distance faultCount faultAt faultsOf kindDim kindDir faultGood faultKey faultsError planErrorBy faultExists some namesNode deadNode namesLink names deadLink sound targetsOf viasOf modesOf detsOf keyOf over after direct legsBy misses different kept choicesBy answered told toldAs routeBy pairError pair
-  accepted = refl
+w-0-2-route : route W 0 2 ≡ Option.some (leg 3 Adaptive ∷ leg 2 Adaptive ∷ [])
+unfolding endBy sumBy every clearIn clear lex earlier best axisHops hasLink place nodeCount numberOf coordsOf dirDim opposite link neighbour hops useful rule toward firstDirection allowedBy listFrom version layoutOf shapeOf weightsBy distance faultCount faultAt faultsOf kindDim kindDir some namesNode deadNode namesLink names deadLink sound targetsOf viasOf modesOf detsOf keyOf over better alone followed onward oneFirst twoFirst
+w-0-2-route = refl
 
-  source : isNode (shapeOf W) 0 ≡ true
-  unfolding endBy sumBy every clearBy clearIn clear lex earlier best planned shapeError badExtents badWraps axisHops hasLink place nodeCount numberOf coordsOf dirDim opposite link neighbour hops useful rule toward firstDirection isNode allowedBy listFrom version lengthField bytesAfter lengthIs layoutOf shapeOf weightsBy badWeights weightError distance faultCount faultAt faultsOf kindDim kindDir faultGood faultKey faultsError planErrorBy faultExists some namesNode deadNode namesLink names deadLink sound targetsOf viasOf modesOf detsOf keyOf over after direct legsBy misses different kept choicesBy answered told toldAs routeBy pairError pair
-  source = refl
-
-  sound-source : deadNode (faultsOf W) 0 ≡ false
-  unfolding endBy sumBy every clearBy clearIn clear lex earlier best planned shapeError badExtents badWraps axisHops hasLink place nodeCount numberOf coordsOf dirDim opposite link neighbour hops useful rule toward firstDirection isNode allowedBy listFrom version lengthField bytesAfter lengthIs layoutOf shapeOf weightsBy badWeights weightError distance faultCount faultAt faultsOf kindDim kindDir faultGood faultKey faultsError planErrorBy faultExists some namesNode deadNode namesLink names deadLink sound targetsOf viasOf modesOf detsOf keyOf over after direct legsBy misses different kept choicesBy answered told toldAs routeBy pairError pair
-  sound-source = refl
-
-  told-by : tells W 0 D ≡ outcome
-  told-by = ap (told (farIn W) 0) (pair-chosen large W 0 D accepted source node sound-source alive) ∙ ap (λ o. told (farIn W) 0 (chosen o)) route ∙ is
-
-w-ok : shapeError (shapeOf W) ≡ 0
-unfolding endBy sumBy every clearBy clearIn clear lex earlier best planned shapeError badExtents badWraps axisHops hasLink place nodeCount numberOf coordsOf dirDim opposite link neighbour hops useful rule toward firstDirection isNode allowedBy listFrom version lengthField bytesAfter lengthIs layoutOf shapeOf weightsBy badWeights weightError distance faultCount faultAt faultsOf kindDim kindDir faultGood faultKey faultsError planErrorBy faultExists some namesNode deadNode namesLink names deadLink sound targetsOf viasOf modesOf detsOf keyOf over after direct legsBy misses different kept choicesBy answered told toldAs routeBy pairError pair
-w-ok = refl
-
-w-lengths : Lengths (shapeOf W) (farIn W)
-unfolding endBy sumBy every clearBy clearIn clear lex earlier best planned shapeError badExtents badWraps axisHops hasLink place nodeCount numberOf coordsOf dirDim opposite link neighbour hops useful rule toward firstDirection isNode allowedBy listFrom version lengthField bytesAfter lengthIs layoutOf shapeOf weightsBy badWeights weightError distance faultCount faultAt faultsOf kindDim kindDir faultGood faultKey faultsError planErrorBy faultExists some namesNode deadNode namesLink names deadLink sound targetsOf viasOf modesOf detsOf keyOf over after direct legsBy misses different kept choicesBy answered told toldAs routeBy pairError pair
-w-lengths = far-lengths large W refl
-
-w-node : (v : ℕ) → v < 16 → v < nodeCount (shapeOf W)
-unfolding endBy sumBy every clearBy clearIn clear lex earlier best planned shapeError badExtents badWraps axisHops hasLink place nodeCount numberOf coordsOf dirDim opposite link neighbour hops useful rule toward firstDirection isNode allowedBy listFrom version lengthField bytesAfter lengthIs layoutOf shapeOf weightsBy badWeights weightError distance faultCount faultAt faultsOf kindDim kindDir faultGood faultKey faultsError planErrorBy faultExists some namesNode deadNode namesLink names deadLink sound targetsOf viasOf modesOf detsOf keyOf over after direct legsBy misses different kept choicesBy answered told toldAs routeBy pairError pair
-w-node v l = l
-
--- No two vias better one where its legs are adaptive and make the least length.
-w-2-by-one : firstBy (farIn W) (clear (torus (shapeOf W)) (soundIn W)) 1 (nodeCount (shapeOf W)) 0 2 ≡ Option.some (leg 3 Adaptive ∷ leg 2 Adaptive ∷ [])
-unfolding endBy sumBy every clearBy clearIn clear lex earlier best planned shapeError badExtents badWraps axisHops hasLink place nodeCount numberOf coordsOf dirDim opposite link neighbour hops useful rule toward firstDirection isNode allowedBy listFrom version lengthField bytesAfter lengthIs layoutOf shapeOf weightsBy badWeights weightError distance faultCount faultAt faultsOf kindDim kindDir faultGood faultKey faultsError planErrorBy faultExists some namesNode deadNode namesLink names deadLink sound targetsOf viasOf modesOf detsOf keyOf over after direct legsBy misses different kept choicesBy answered told toldAs routeBy pairError pair firstBy
-w-2-by-one = refl
-
-w-2-short : lengthFrom (farIn W) 0 (leg 3 Adaptive ∷ leg 2 Adaptive ∷ []) ≡ farIn W 0 2
-unfolding endBy sumBy every clearBy clearIn clear lex earlier best planned shapeError badExtents badWraps axisHops hasLink place nodeCount numberOf coordsOf dirDim opposite link neighbour hops useful rule toward firstDirection isNode allowedBy listFrom version lengthField bytesAfter lengthIs layoutOf shapeOf weightsBy badWeights weightError distance faultCount faultAt faultsOf kindDim kindDir faultGood faultKey faultsError planErrorBy faultExists some namesNode deadNode namesLink names deadLink sound targetsOf viasOf modesOf detsOf keyOf over after direct legsBy misses different kept choicesBy answered told toldAs routeBy pairError pair
-w-2-short = refl
-
-w-2-node : isNode (shapeOf W) 2 ≡ true
-unfolding endBy sumBy every clearBy clearIn clear lex earlier best planned shapeError badExtents badWraps axisHops hasLink place nodeCount numberOf coordsOf dirDim opposite link neighbour hops useful rule toward firstDirection isNode allowedBy listFrom version lengthField bytesAfter lengthIs layoutOf shapeOf weightsBy badWeights weightError distance faultCount faultAt faultsOf kindDim kindDir faultGood faultKey faultsError planErrorBy faultExists some namesNode deadNode namesLink names deadLink sound targetsOf viasOf modesOf detsOf keyOf over after direct legsBy misses different kept choicesBy answered told toldAs routeBy pairError pair
-w-2-node = refl
-
-w-2-alive : deadNode (faultsOf W) 2 ≡ false
-unfolding endBy sumBy every clearBy clearIn clear lex earlier best planned shapeError badExtents badWraps axisHops hasLink place nodeCount numberOf coordsOf dirDim opposite link neighbour hops useful rule toward firstDirection isNode allowedBy listFrom version lengthField bytesAfter lengthIs layoutOf shapeOf weightsBy badWeights weightError distance faultCount faultAt faultsOf kindDim kindDir faultGood faultKey faultsError planErrorBy faultExists some namesNode deadNode namesLink names deadLink sound targetsOf viasOf modesOf detsOf keyOf over after direct legsBy misses different kept choicesBy answered told toldAs routeBy pairError pair
-w-2-alive = refl
-
-w-2-told : told (farIn W) 0 (Given (leg 3 Adaptive ∷ leg 2 Adaptive ∷ [])) ≡ Outcome.Given (Route.Via 3 Adaptive Adaptive) 2
-unfolding endBy sumBy every clearBy clearIn clear lex earlier best planned shapeError badExtents badWraps axisHops hasLink place nodeCount numberOf coordsOf dirDim opposite link neighbour hops useful rule toward firstDirection isNode allowedBy listFrom version lengthField bytesAfter lengthIs layoutOf shapeOf weightsBy badWeights weightError distance faultCount faultAt faultsOf kindDim kindDir faultGood faultKey faultsError planErrorBy faultExists some namesNode deadNode namesLink names deadLink sound targetsOf viasOf modesOf detsOf keyOf over after direct legsBy misses different kept choicesBy answered told toldAs routeBy pairError pair
-w-2-told = refl
+w-0-2-told : told (farIn W) 0 (Given (leg 3 Adaptive ∷ leg 2 Adaptive ∷ [])) ≡ Outcome.Given (Route.Via 3 Adaptive Adaptive) 2
+unfolding sumBy axisHops nodeCount coordsOf version layoutOf shapeOf weightsBy distance told toldAs
+w-0-2-told = refl
 
 w-0-2 : tells W 0 2 ≡ Outcome.Given (Route.Via 3 Adaptive Adaptive) 2
-unfolding detsOf
-w-0-2 =
-    told-by 2 (leg 3 Adaptive ∷ leg 2 Adaptive ∷ []) (Outcome.Given (Route.Via 3 Adaptive Adaptive) 2) w-2-node w-2-alive w-2-told
-    (two-enough (farIn W) (shapeOf W) w-lengths w-ok (soundIn W) 0 2 (w-node 0 (omega arith)) (w-node 2 (omega arith)) (leg 3 Adaptive ∷ leg 2 Adaptive ∷ []) w-2-by-one w-2-short refl)
+unfolding shapeError badExtents badWraps nodeCount isNode listFrom version lengthField bytesAfter lengthIs layoutOf shapeOf weightsBy badWeights weightError faultCount faultAt faultsOf kindDim kindDir coordsOf hasLink link dirDim faultGood faultKey faultsError planErrorBy faultExists some namesNode deadNode
+w-0-2 = told-by W 0 2 (leg 3 Adaptive ∷ leg 2 Adaptive ∷ []) (Outcome.Given (Route.Via 3 Adaptive Adaptive) 2) w-0-2-route w-0-2-told refl refl refl refl refl
+
+w-0-7-route : route W 0 7 ≡ Option.some (leg 7 Adaptive ∷ [])
+unfolding endBy sumBy every clearIn clear lex earlier best axisHops hasLink place nodeCount numberOf coordsOf dirDim opposite link neighbour hops useful rule toward firstDirection allowedBy listFrom version layoutOf shapeOf weightsBy distance faultCount faultAt faultsOf kindDim kindDir some namesNode deadNode namesLink names deadLink sound targetsOf viasOf modesOf detsOf keyOf over better alone followed onward oneFirst twoFirst
+w-0-7-route = refl
+
+w-0-7-told : told (farIn W) 0 (Given (leg 7 Adaptive ∷ [])) ≡ Outcome.Given (Route.Direct Adaptive) 2
+unfolding sumBy axisHops nodeCount coordsOf version layoutOf shapeOf weightsBy distance told toldAs
+w-0-7-told = refl
+
+w-0-7 : tells W 0 7 ≡ Outcome.Given (Route.Direct Adaptive) 2
+unfolding shapeError badExtents badWraps nodeCount isNode listFrom version lengthField bytesAfter lengthIs layoutOf shapeOf weightsBy badWeights weightError faultCount faultAt faultsOf kindDim kindDir coordsOf hasLink link dirDim faultGood faultKey faultsError planErrorBy faultExists some namesNode deadNode
+w-0-7 = told-by W 0 7 (leg 7 Adaptive ∷ []) (Outcome.Given (Route.Direct Adaptive) 2) w-0-7-route w-0-7-told refl refl refl refl refl
+
+by-hops-route : route (machine 1) 0 1 ≡ Option.some (leg 5 Adaptive ∷ leg 6 Adaptive ∷ leg 1 Adaptive ∷ [])
+unfolding endBy sumBy every clearIn clear lex earlier best axisHops hasLink place nodeCount numberOf coordsOf dirDim opposite link neighbour hops useful rule toward firstDirection allowedBy listFrom version layoutOf shapeOf weightsBy distance faultCount faultAt faultsOf kindDim kindDir some namesNode deadNode namesLink names deadLink sound targetsOf viasOf modesOf detsOf keyOf over better alone followed onward oneFirst twoFirst
+by-hops-route = refl
+
+by-hops-told : told (farIn (machine 1)) 0 (Given (leg 5 Adaptive ∷ leg 6 Adaptive ∷ leg 1 Adaptive ∷ [])) ≡ Outcome.Given (Route.Vias 5 6 Adaptive Adaptive Adaptive) 3
+unfolding sumBy axisHops nodeCount coordsOf version layoutOf shapeOf weightsBy distance told toldAs
+by-hops-told = refl
+
+by-hops : tells (machine 1) 0 1 ≡ Outcome.Given (Route.Vias 5 6 Adaptive Adaptive Adaptive) 3
+unfolding shapeError badExtents badWraps nodeCount isNode listFrom version lengthField bytesAfter lengthIs layoutOf shapeOf weightsBy badWeights weightError faultCount faultAt faultsOf kindDim kindDir coordsOf hasLink link dirDim faultGood faultKey faultsError planErrorBy faultExists some namesNode deadNode
+by-hops = told-by (machine 1) 0 1 (leg 5 Adaptive ∷ leg 6 Adaptive ∷ leg 1 Adaptive ∷ []) (Outcome.Given (Route.Vias 5 6 Adaptive Adaptive Adaptive) 3) by-hops-route by-hops-told refl refl refl refl refl
+
+by-weight-route : route (machine 2) 0 1 ≡ Option.some (leg 3 Adaptive ∷ leg 1 Adaptive ∷ [])
+unfolding endBy sumBy every clearIn clear lex earlier best axisHops hasLink place nodeCount numberOf coordsOf dirDim opposite link neighbour hops useful rule toward firstDirection allowedBy listFrom version layoutOf shapeOf weightsBy distance faultCount faultAt faultsOf kindDim kindDir some namesNode deadNode namesLink names deadLink sound targetsOf viasOf modesOf detsOf keyOf over better alone followed onward oneFirst twoFirst
+by-weight-route = refl
+
+by-weight-told : told (farIn (machine 2)) 0 (Given (leg 3 Adaptive ∷ leg 1 Adaptive ∷ [])) ≡ Outcome.Given (Route.Via 3 Adaptive Adaptive) 4
+unfolding sumBy axisHops nodeCount coordsOf version layoutOf shapeOf weightsBy distance told toldAs
+by-weight-told = refl
+
+by-weight : tells (machine 2) 0 1 ≡ Outcome.Given (Route.Via 3 Adaptive Adaptive) 4
+unfolding shapeError badExtents badWraps nodeCount isNode listFrom version lengthField bytesAfter lengthIs layoutOf shapeOf weightsBy badWeights weightError faultCount faultAt faultsOf kindDim kindDir coordsOf hasLink link dirDim faultGood faultKey faultsError planErrorBy faultExists some namesNode deadNode
+by-weight = told-by (machine 2) 0 1 (leg 3 Adaptive ∷ leg 1 Adaptive ∷ []) (Outcome.Given (Route.Via 3 Adaptive Adaptive) 4) by-weight-route by-weight-told refl refl refl refl refl
 
 pub worked : Worked
 unfolding endBy sumBy every clearBy clearIn clear lex earlier best planned shapeError badExtents badWraps axisHops hasLink place nodeCount numberOf coordsOf dirDim opposite link neighbour hops useful rule toward firstDirection isNode allowedBy listFrom version lengthField bytesAfter lengthIs layoutOf shapeOf weightsBy badWeights weightError distance faultCount faultAt faultsOf kindDim kindDir faultGood faultKey faultsError planErrorBy faultExists some namesNode deadNode namesLink names deadLink sound targetsOf viasOf modesOf detsOf keyOf over after direct legsBy misses different kept choicesBy answered told toldAs routeBy pairError pair
 worked = record {
   w-0-1 = w-0-1;
   w-0-2 = w-0-2;
-  w-0-7 = refl;
+  w-0-7 = w-0-7;
   w-0-0 = refl;
   ring-of-4 = refl;
   ring-of-5 = refl;
@@ -119,8 +133,8 @@ worked = record {
 pub weighed : Weighed
 unfolding endBy sumBy every clearBy clearIn clear lex earlier best planned shapeError badExtents badWraps axisHops hasLink place nodeCount numberOf coordsOf dirDim opposite link neighbour hops useful rule toward firstDirection isNode allowedBy listFrom version lengthField bytesAfter lengthIs layoutOf shapeOf weightsBy badWeights weightError distance faultCount faultAt faultsOf kindDim kindDir faultGood faultKey faultsError planErrorBy faultExists some namesNode deadNode namesLink names deadLink sound targetsOf viasOf modesOf detsOf keyOf over after direct legsBy misses different kept choicesBy answered told toldAs routeBy pairError pair
 weighed = record {
-  by-hops = refl;
-  by-weight = refl;
+  by-hops = by-hops;
+  by-weight = by-weight;
   weight-8 = refl;
   weight-9 = refl;
   weight-0 = refl;

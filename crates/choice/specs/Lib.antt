@@ -1,5 +1,5 @@
 pub mod Choice
-pub mod OneVia
+pub mod InWords
 pub mod Further
 pub mod Search
 pub mod Answer
