@@ -17,6 +17,7 @@ use Rattle.shape.proofs.Shapes.{sound}
 use Rattle.machine.specs.Number.{nodeCount}
 use Rattle.plan.specs.Layout.{shapeOf}
 use Rattle.plan.specs.Checks.{large, torusPlans, planError}
+use Rattle.routes.specs.Layout.{mostBytes}
 use Rattle.plan.proofs.Plans.{accepted}
 use Rattle.planner.specs.declared.run.Run.{Run}
 use Rattle.planner.specs.declared.run.Answer.the-variants.{Written, Refused, FewWords}
@@ -102,7 +103,7 @@ pub all-runs : (p bytes : List ℕ) → Runs p 0 bytes → bytes ≡ joined (all
 all-runs p bytes rs = runs-left p 0 bytes rs
 
 -- ---- a run with words enough, and room for the longest sheet
-module _ (p : List ℕ) (ok : planError large p ≡ 0) (words room : ℕ) (w : 512 * boards p ≤ words) (h : 20482 ≤ room) where
+module _ (p : List ℕ) (ok : planError large p ≡ 0) (words room : ℕ) (w : 512 * boards p ≤ words) (h : mostBytes ≤ room) where
   module _ (from : ℕ) (l : from < boards p) where
     some-fits : noneFits p (runOf p from room) ≡ false
     unfolding runOf runBytes

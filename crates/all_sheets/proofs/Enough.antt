@@ -12,6 +12,7 @@ use Rattle.shape.proofs.Shapes.{count-most}
 use Rattle.machine.specs.Number.{nodeCount}
 use Rattle.plan.specs.Layout.{shapeOf}
 use Rattle.plan.specs.Checks.{large, torusPlans, planError}
+use Rattle.routes.specs.Layout.{mostBytes}
 use Rattle.plan.specs.Reading.{isPlan}
 use Rattle.plan.proofs.Plans.{accepted}
 use Rattle.planner.specs.declared.run.Answer.{Answer}
@@ -33,13 +34,13 @@ always-made p w r v l g =
     (λ f. rw f)
 
 always-run :
-    (p : List ℕ) (from : ℕ) (w o : List ℕ) (r : Answer) (v t : List ℕ) → 2097152 ≤ length w → 20482 ≤ length o → RunWritten p from w o r v t → planError large p ≡ 0 → from < boards p →
+    (p : List ℕ) (from : ℕ) (w o : List ℕ) (r : Answer) (v t : List ℕ) → 2097152 ≤ length w → mostBytes ≤ length o → RunWritten p from w o r v t → planError large p ≡ 0 → from < boards p →
     r ≡ Written (runOf p from (length o))
 always-run p from w o r v t l h g ok k = g .answer ∙ always-written p ok (length w) (length o) (enough p ok (length w) l) h from k
 
 -- A run of a plan that was read into a buffer, with the sets to all boards.
 pub input-run :
-    (plan p : List ℕ) (size from : ℕ) (w o : List ℕ) (r : Answer) (t : List ℕ) → 781 ≤ length plan → 2097152 ≤ length w → 20482 ≤ length o → p ≡ take size plan →
+    (plan p : List ℕ) (size from : ℕ) (w o : List ℕ) (r : Answer) (t : List ℕ) → 781 ≤ length plan → 2097152 ≤ length w → mostBytes ≤ length o → p ≡ take size plan →
     (Filled p w → RunWritten p from w o r w t) →
     (Filled (take size plan) w → RunWritten (take size plan) from w o r w t) × (((whole : List ℕ) → ReadInto whole plan size → Filled (take size plan) w → RunWritten whole from w o r w t)
     × (Filled (take size plan) w → planError large (take size plan) ≡ 0 → from < boards (take size plan) → r ≡ Written (runOf (take size plan) from (length o))))

@@ -7,6 +7,7 @@ use lib.ListN.{length, length-append}
 use borrow.Author.Tests.{eq-eqb, ne-eqb}
 use Rattle.plan.specs.Checks.{large, planError}
 use Rattle.plan.specs.Reading.{isPlan}
+use Rattle.routes.specs.Layout.{mostBytes}
 use Rattle.planned_sheet.specs.Sheet.{sourceError, plannedSheet}
 use Rattle.all_sheets.specs.All.{sheetsFrom, left}
 use Rattle.planner.specs.Run.{runSheets, runNext, joined, boards, runBytes}
@@ -44,7 +45,7 @@ module _ (p : List ℕ) where
       (λ f. f .sheets)
 
   -- With room for the longest sheet, a run that leaves a board has a sheet.
-  pub next-left : (n S room : ℕ) → 20482 ≤ room → runNext p S n room < S + n → 1 ≤ length (joined (runSheets p S n room))
+  pub next-left : (n S room : ℕ) → mostBytes ≤ room → runNext p S n room < S + n → 1 ≤ length (joined (runSheets p S n room))
   unfolding runNext joined
   next-left zero S room h l = absurd (omega arith)
   next-left (suc n) S room h l =

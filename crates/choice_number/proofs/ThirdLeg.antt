@@ -210,7 +210,7 @@ module _ (far : ℕ → ℕ → ℕ) (s : Shape) (F : Lengths s far) (h : shapeE
         (λ high. record { worth = 16384; is = rw (le-leb unclear own high) (omega arith) })
         (λ low. record { worth = own / 4096 + 4 * far S D; is = rw (lt-leb unclear own low) refl })
 
-    bound-most : bound ≤ unclear
+    pub bound-most : bound ≤ unclear
     unfolding boundOf
     bound-most = by-le unclear own
         (λ high. rw (le-leb unclear own high) (omega arith))

@@ -31,10 +31,10 @@ adaptive-of false e = absurd (omega arith)
 module _ (far : ℕ → ℕ → ℕ) (s : Shape) (F : Lengths s far) (h : shapeError s ≡ 0) (sound : ℕ → ℕ → Bool) (S D : ℕ) (hS : S < nodeCount s) (hD : D < nodeCount s)
     (blocked : clear (torus s) sound (leg D Adaptive) S ≡ false)
     (no-via : (v : ℕ) → v < nodeCount s → clear (torus s) sound (leg v Adaptive) S ≡ true → clear (torus s) sound (leg D Adaptive) v ≡ true → far S v + far v D ≡ far S D → ⊥) where
-  abbrev isAdaptive : ℕ → ℕ → Type 0
+  abbrev pub isAdaptive : ℕ → ℕ → Type 0
   isAdaptive u t = clear (torus s) sound (leg t Adaptive) u ≡ true
 
-  abbrev isBetween : ℕ → Type 0
+  abbrev pub isBetween : ℕ → Type 0
   isBetween x = far S x + far x D ≡ far S D
 
   -- Such vias u and x.
@@ -67,7 +67,7 @@ module _ (far : ℕ → ℕ → ℕ) (s : Shape) (F : Lengths s far) (h : shapeE
         (noted x (t .behind) (second-between u x t) .least u (t .below) (adaptive-clear rule s h sound u S hS (t .below) (t .one)) (adaptive-clear rule s h sound x u (t .below) (t .behind) (t .two)))
 
     -- A note below 4096 is a via of two such legs.
-    note-two : (w : ℕ) → w < nodeCount s → isBetween w → isAdaptive w D → notes w < 4096 → Two (notes w) w
+    pub note-two : (w : ℕ) → w < nodeCount s → isBetween w → isAdaptive w D → notes w < 4096 → Two (notes w) w
     unfolding valueBy
     note-two w lw b a low =
         let r = noted w lw b .real (omega arith) in

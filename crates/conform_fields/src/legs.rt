@@ -1,4 +1,4 @@
-// Legs as text: `target:mode,target:mode`.
+// Legs as text: `target:mode,target:mode`, up to three.
 use machine::leg::Mode;
 use packet::Route;
 use text::decimal;

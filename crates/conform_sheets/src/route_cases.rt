@@ -8,8 +8,9 @@ use conform_fields::sheets::PLAN_BYTES;
 use conform_fields::sheets::ROUTE_BYTES;
 use conform_fields::sheets::read_plan;
 use conform_fields::sheets::read_routes;
-use routes::layout::ENTRIES_AT;
-use routes::layout::ENTRY_SIZE;
+use routes::layout::entry_place;
+use routes::layout::entry_size;
+use routes::layout::format_in;
 use routes::layout::source_in;
 use routes::lookup::find_entry;
 use routes::lookup::lookup;
@@ -27,8 +28,9 @@ fn put_part(out: &mut [u8], at: usize, sheet: &[u8], dest: u16, entry: &[u8]) ->
     if entry.len() == 0 {
         return put::bytes(out, at, b"part=0:0");
     }
-    let start = ENTRIES_AT + ENTRY_SIZE * (find_entry(sheet, dest) as usize);
-    let end = start + ENTRY_SIZE;
+    let format = format_in(sheet);
+    let start = entry_place(format, find_entry(sheet, dest));
+    let end = start + entry_size(format);
     if !same(part(sheet, start, end), entry) {
         return put::bytes(out, at, b"part=?");
     }

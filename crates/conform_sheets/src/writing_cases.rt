@@ -9,7 +9,7 @@ use conform_fields::sheets::read_plan;
 use conform_fields::sheets::read_room;
 use conform_fields::sheets::read_routes;
 use conversion::convert;
-use routes::write_back;
+use route_value::write_back;
 use sheet::Written;
 use text::decimal::Number;
 use text::field;

@@ -1,5 +1,5 @@
 -- The bytes of a converted sheet: all but the version stay.
-use Prim.Native.Nat.{ℕ, zero, suc, _+_, _*_, _<_}
+use Prim.Native.Nat.{ℕ, zero, suc, _+_, _<_}
 use native.Mathlib.Omega.{arith}
 use mathlib.Core.Path.{_≡_, refl, sym, ap, _∙_}
 use mathlib.Core.Bool.{true, _&&_}
@@ -15,7 +15,7 @@ use Rattle.sheet.specs.Head.{version, lengthField, bytesAfter, lengthIs}
 use Rattle.sheet.specs.Output.{roomError, written, outAfter}
 use Rattle.sheet.proofs.Records.{from-same}
 use Rattle.plan.specs.Checks.{Limits}
-use Rattle.routes.specs.Layout.{first, second, formatBy, entriesAt, entrySize, entryIn, entriesIn, source, entryCount, sizeAfter}
+use Rattle.routes.specs.Layout.{first, second, formatBy, entriesAt, entryPlace, kindIn, secondVia, entryIn, entriesIn, source, entryCount, sizeAfter}
 use Rattle.routes.specs.Checks.{headGood, errorIn, sheetError}
 use Rattle.conversion.specs.Converting.{converted}
 
@@ -93,8 +93,9 @@ module _ (s : List ℕ) (h : 0 < length s) where
 
   -- Both versions have the same layout.
   entry-kept : (i : ℕ) → entryIn second (converted s) i ≡ entryIn first s i
+  unfolding kindIn secondVia
   entry-kept i =
-      let at = entriesAt + entrySize first * i in
+      let at = entryPlace first i in
       rw (word-kept at (omega arith), byte-kept s h (at + 2) (omega arith), word-kept (at + 3) (omega arith))
 
   pub entries-kept : entriesIn second (converted s) ≡ entriesIn first s
@@ -117,5 +118,5 @@ module _ (s : List ℕ) (h : 0 < length s) where
 
   -- The sheet's own format is version 2's.
   pub own-second : (L : Limits) (p : List ℕ) → sheetError L p (converted s) ≡ errorIn second L p (converted s)
-  unfolding sheetError formatBy
+  unfolding sheetError formatBy version converted
   own-second L p = refl

@@ -12,6 +12,7 @@ use Rattle.theory.specs.Alike.{SameLegs, RunsAlike}
 use Rattle.theory.proofs.Bools.{and-true}
 use Rattle.theory.proofs.Checks.{then-zero, declined-zero}
 use Rattle.theory.proofs.Alike.{packets-same, runs-alike}
+use Rattle.sheet.specs.Head.{version}
 use Rattle.shape.specs.declared.shape.Shape.{Shape}
 use Rattle.machine.specs.Node.{isNode}
 use Rattle.machine.specs.Torus.{torus}
@@ -33,13 +34,13 @@ use Rattle.conversion.specs.Converting.{keepError, converted}
 use Rattle.conversion.specs.Kept.{saidBefore, Stands, Kept}
 use Rattle.conversion.proofs.Judging.{long}
 use Rattle.conversion.proofs.Bytes.{source-kept, entries-kept, head-kept, own-second}
-use Rattle.conversion.proofs.Standing.{routes-second, says-stands}
+use Rattle.conversion.proofs.Standing.{says-stands}
 
 -- A good version 1 sheet, by its parts.
 pub record Old (L : Limits) (p s : List ℕ) : Type 0 where
   pub sheet : AcceptedIn first L p s
   pub from : isNode (shapeOf p) (source s) ≡ true
-  pub entries : entriesGood first (shapeOf p) (source s) 0 (entriesIn first s) ≡ true
+  pub entries : entriesGood (shapeOf p) (source s) 0 (entriesIn first s) ≡ true
 
 pub old-of : (L : Limits) (p s : List ℕ) → errorIn first L p s ≡ 0 → Old L p s
 unfolding routesGood
@@ -70,10 +71,10 @@ module _ (L : Limits) (p s : List ℕ) (h : keepError L p s ≡ 0) where
   unfolding errorIn goodIn
   new-good =
       own-second s some L p
-      ∙ rw (old .sheet .plan, head-kept s some (old .sheet .head-good), source-kept s some, entries-kept s some, routes-second m (source s) (entriesIn first s), old .sheet .routes)
+      ∙ rw (old .sheet .plan, head-kept s some (old .sheet .head-good), source-kept s some, entries-kept s some, old .sheet .routes)
 
   new-entries : entriesOf (converted s) ≡ entriesIn first s
-  unfolding formatBy
+  unfolding formatBy version converted
   new-entries = own-entries (converted s) ∙ entries-kept s some
 
   new-says : (D : ℕ) → says L p (converted s) D ≡ saidBefore L p s D

@@ -32,6 +32,10 @@ and-right : (b : Bool) → (b && true) ≡ b
 and-right true = refl
 and-right false = refl
 
+and-assoc : (x y z : Bool) → ((x && y) && z) ≡ (x && (y && z))
+and-assoc true y z = refl
+and-assoc false y z = refl
+
 -- The legs of an answer are to nodes.
 abbrev pub InsideOf : Shape → Answer → Type 0
 InsideOf s (Given c) = Inside (torus s) c
@@ -108,3 +112,15 @@ module _ (s : Shape) (h : shapeError s ≡ 0) (D : ℕ) (r : Route) (i : Inside 
     pub via-kept : (c : Coords) (b : Bool) → Each s c (λ a. legKept m s a v && legKept n s v D) b → Each s c (λ a. legsKept s a (legsTo D r)) b
     unfolding legsKept legsTo
     via-kept c b q a qa = q a qa ∙ rw (e, and-right (legKept n s v D))
+
+  -- Three legs, which no sheet of version 1 has.
+  module _ (v u : ℕ) (m n o : Mode) (e : r ≡ Route.Vias v u m n o) where
+    pub vias-nodes : (isNode s v ≡ true) × ((isNode s u ≡ true) × (isNode s D ≡ true))
+    unfolding legsTo
+    vias-nodes = let k = rw e at i in (below-node s h v (k .0), (below-node s h u (k .1 .0), below-node s h D (k .1 .1 .0)))
+
+    pub vias-kept :
+        (c : Coords) (b k w : Bool) → Each s c (λ a. legKept m s a v && legKept n s v u) b → k ≡ legKept o s u D → w ≡ (b && k) →
+        Each s c (λ a. legsKept s a (legsTo D r)) w
+    unfolding legsKept legsTo
+    vias-kept c b k w qb qk qw a qa = qw ∙ rw (qb a qa, qk, e, and-right (legKept o s u D)) (and-assoc (legKept m s a v) (legKept n s v u) (legKept o s u D))

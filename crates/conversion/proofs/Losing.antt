@@ -15,8 +15,8 @@ use Rattle.shape.specs.declared.shape.Shape.{Shape}
 use Rattle.machine.specs.Node.{isNode}
 use Rattle.machine.proofs.Nodes.{is-node}
 use Rattle.routes.specs.declared.layout.Entry.{Entry}
-use Rattle.routes.specs.Layout.{first, written, formatBy, entryCount, entryAt, entriesOf}
-use Rattle.routes.specs.Checks.{viaGood, entryGood, nextGood}
+use Rattle.routes.specs.Layout.{first, entryCount, entryIn, entriesIn}
+use Rattle.routes.specs.Checks.{nextGood}
 use Rattle.routes.proofs.Entries as Entries
 use Rattle.routes.proofs.Entries.{Checking}
 use Rattle.routes.proofs.Rising.{good-entry}
@@ -54,38 +54,32 @@ module _ (m : Shape) (S : ℕ) where
       (λ k. rw k (some-lost es (let z = rw k at h in omega arith)))
       (λ k. rw k)
 
--- Both versions have the same entries.
-next-first : (m : Shape) (S least : ℕ) (e : Entry) → nextGood first m S least e ≡ nextGood written m S least e
-unfolding nextGood entryGood viaGood
-next-first m S least e = refl
-
 -- The ends of an entry that check 13 accepts are nodes.
-pub next-nodes : (m : Shape) (S least : ℕ) (e : Entry) → isNode m S ≡ true → nextGood written m S least e ≡ true → (isNode m (e .dest) ≡ true) × (isNode m (e .via) ≡ true)
+pub next-nodes : (m : Shape) (S least : ℕ) (e : Entry) → isNode m S ≡ true → nextGood m S least e ≡ true → (isNode m (e .dest) ≡ true) × ((isNode m (e .via) ≡ true) × (isNode m (e .second) ≡ true))
 unfolding nextGood
 next-nodes m S least e hS x =
-    let g = good-entry written m S e (and-true (leb least (e .dest)) _ x .1) in
-    (is-node m S hS (e .dest) (g .dest), is-node m S hS (e .via) (g .via))
+    let g = good-entry m S e (and-true (leb least (e .dest)) _ x .1) in
+    (is-node m S hS (e .dest) (g .dest), (is-node m S hS (e .via) (g .via), is-node m S hS (e .second) (g .second)))
 
 -- With i of n entries passed. `lost` is n while all of them can be kept.
 pub record Losing (s : List ℕ) (m : Shape) (S n least lost i : ℕ) : Type 0 where
-  pub checking : Checking first s m S n least i
+  pub checking : Checking (entryIn first s) s m S n least i
   pub most : lost ≤ n
-  pub rest : firstLost m S (entriesOf s) ≡ cond (ltb lost n) lost (i + firstLost m S (listFrom (entryAt s) i (n - i)))
+  pub rest : firstLost m S (entriesIn first s) ≡ cond (ltb lost n) lost (i + firstLost m S (listFrom (entryIn first s) i (n - i)))
 
 module _ (s : List ℕ) (m : Shape) (S n : ℕ) where
   pub begin : n ≡ entryCount s → Losing s m S n 0 n 0
-  unfolding entriesOf
   begin e = record {
-    checking = Entries.begin first s m S n e;
+    checking = Entries.begin (entryIn first s) s m S n e;
     most = omega arith;
     rest = let z : n - 0 ≡ entryCount s = omega arith in rw (le-ltb n n (omega arith), z) (omega arith);
   }
 
   module _ (least lost i : ℕ) (g : Losing s m S n least lost i) where
-    found : n ≤ i → lost ≡ firstLost m S (entriesOf s)
+    found : n ≤ i → lost ≡ firstLost m S (entriesIn first s)
     unfolding firstLost
     found h =
-        let none : firstLost m S (listFrom (entryAt s) i (n - i)) ≡ 0 = ap (firstLost m S) (from-none (entryAt s) i n h) in
+        let none : firstLost m S (listFrom (entryIn first s) i (n - i)) ≡ 0 = ap (firstLost m S) (from-none (entryIn first s) i n h) in
         let within = g .checking .within in
         let most = g .most in
         test (ltb lost n)
@@ -93,26 +87,24 @@ module _ (s : List ℕ) (m : Shape) (S n : ℕ) where
         (λ t. let z = ltb-false lost n t in omega (arith, rw t at (g .rest), none))
 
     pub ended : n ≤ i → Seen m S s true lost
-    unfolding entriesOf entryAt formatBy
-    ended h = record { accepts = Entries.ended first s m S n least i (g .checking) h; first = λ _. found h }
+    ended h = record { accepts = Entries.ended (entryIn first s) s m S n least i (g .checking) h; first = λ _. found h }
 
-    module _ (e : Entry) (q : e ≡ entryAt s i) (h : i < n) where
-      pub refused : (k : ℕ) → nextGood written m S least e ≡ false → Seen m S s false k
-      unfolding entriesOf entryAt formatBy
-      refused k x = record { accepts = Entries.refused first s m S n least i (g .checking) e q h (next-first m S least e ∙ x); first = λ z. absurd (false≢true z) }
+    module _ (e : Entry) (q : e ≡ entryIn first s i) (h : i < n) where
+      pub refused : (k : ℕ) → nextGood m S least e ≡ false → Seen m S s false k
+      refused k x = record { accepts = Entries.refused (entryIn first s) s m S n least i (g .checking) e q h x; first = λ z. absurd (false≢true z) }
 
-      turn : firstLost m S (entriesOf s) ≡ cond (ltb lost n) lost (i + firstLost m S (e ∷ listFrom (entryAt s) (i + 1) (n - (i + 1))))
-      turn = g .rest ∙ ap (λ (l : List Entry). cond (ltb lost n) lost (i + firstLost m S l)) (from-cons (entryAt s) i n h) ∙ rw q
+      turn : firstLost m S (entriesIn first s) ≡ cond (ltb lost n) lost (i + firstLost m S (e ∷ listFrom (entryIn first s) (i + 1) (n - (i + 1))))
+      turn = g .rest ∙ ap (λ (l : List Entry). cond (ltb lost n) lost (i + firstLost m S l)) (from-cons (entryIn first s) i n h) ∙ rw q
 
       -- The first that cannot be kept, with this one.
       abbrev After : ℕ → Type 0
-      After k = (k ≤ n) × (firstLost m S (entriesOf s) ≡ cond (ltb k n) k (i + 1 + firstLost m S (listFrom (entryAt s) (i + 1) (n - (i + 1)))))
+      After k = (k ≤ n) × (firstLost m S (entriesIn first s) ≡ cond (ltb k n) k (i + 1 + firstLost m S (listFrom (entryIn first s) (i + 1) (n - (i + 1)))))
 
       after : After (lostAfter lost n i (entryKept m S e))
       unfolding lostAfter
       after =
           let most = g .most in
-          let es = listFrom (entryAt s) (i + 1) (n - (i + 1)) in
+          let es = listFrom (entryIn first s) (i + 1) (n - (i + 1)) in
           test (ltb lost n)
           (λ t. rw t (most, turn ∙ rw t))
           (λ t. rw t (test (entryKept m S e)
@@ -120,8 +112,8 @@ module _ (s : List ℕ) (m : Shape) (S n : ℕ) where
           (λ k. rw (k, lt-ltb i n h) (omega arith, omega (arith, rw t at turn, first-here m S e es k)))))
 
       pub onward :
-          nextGood written m S least e ≡ true → e .dest < 65536 → (k : Bool) → k ≡ entryKept m S e → (l : ℕ) → l ≡ lostAfter lost n i k →
+          nextGood m S least e ≡ true → e .dest < 65536 → (k : Bool) → k ≡ entryKept m S e → (l : ℕ) → l ≡ lostAfter lost n i k →
           Losing s m S n (e .dest + 1) l (i + 1)
       onward x b k ek l el =
           let is : l ≡ lostAfter lost n i (entryKept m S e) = el ∙ ap (lostAfter lost n i) ek in
-          record { checking = Entries.onward first s m S n least i (g .checking) e q h (next-first m S least e ∙ x) b; most = rw is (after .0); rest = rw is (after .1) }
+          record { checking = Entries.onward (entryIn first s) s m S n least i (g .checking) e q h x b; most = rw is (after .0); rest = rw is (after .1) }

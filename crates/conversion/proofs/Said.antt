@@ -1,15 +1,12 @@
 -- What an entry says, by the code's enum, and where its legs end.
-use Prim.Native.Nat.{ℕ, _<_}
-use mathlib.Core.Path.{_≡_, refl, sym, ap, _∙_}
+use Prim.Native.Nat.{ℕ, zero, suc, _/_, _<_}
+use mathlib.Core.Path.{_≡_, refl, ap, _∙_}
 use mathlib.Core.Bool.{Bool, true, not}
-use mathlib.Core.List.{List, [], _∷_}
-use lib.ListN.{getD}
 use lib.Dec.{eqb}
 use Rattle.numbers.specs.Numbers.{noClearChoice}
 use Rattle.theory.specs.Machine.{Inside}
 use Rattle.shape.specs.declared.shape.Shape.{Shape}
 use Rattle.shape.specs.declared.shape.Coords.{Coords}
-use Rattle.machine.specs.declared.leg.Mode.{Mode}
 use Rattle.machine.specs.Number.{nodeCount}
 use Rattle.machine.specs.Node.{isNode}
 use Rattle.machine.specs.Torus.{torus}
@@ -17,35 +14,36 @@ use Rattle.machine.proofs.Nodes.{node-of}
 use Rattle.packet.specs.declared.route.Route.{Route}
 use Rattle.packet.specs.New.{legsTo}
 use Rattle.choice.specs.declared.outcome.Outcome.{Outcome}
-use Rattle.choice.specs.Answer.{Answer, Given, Refused}
+use Rattle.choice.specs.Answer.{Given, Refused}
 use Rattle.choice.specs.Outcome.{toldAs}
 use Rattle.routes.specs.declared.layout.Entry.{Entry}
-use Rattle.routes.specs.Kinds.{kinds}
 use Rattle.routes.specs.Said.{saidWith, saidBy, heard}
 use Rattle.conversion.specs.Keeping.{legsKept, answerKept, entryKept}
 use Rattle.conversion.proofs.Legs.{InsideOf, Each}
 
 -- The enum says what the entry says.
-heard-with : (ms : List Mode) (e : Entry) (n : ℕ) → heard (e .dest) (toldAs n (saidWith ms e)) ≡ saidWith ms e
+heard-with : (vias k : ℕ) (e : Entry) (n : ℕ) → heard (e .dest) (toldAs n (saidWith vias k e)) ≡ saidWith vias k e
 unfolding heard toldAs legsTo
-heard-with [] e n = refl
-heard-with (m ∷ []) e n = refl
-heard-with (m ∷ k ∷ ms) e n = refl
+heard-with zero k e n = refl
+heard-with (suc zero) k e n = refl
+heard-with (suc (suc zero)) k e n = refl
+heard-with (suc (suc (suc vias))) k e n = refl
 
 pub heard-said : (e : Entry) (n : ℕ) → heard (e .dest) (toldAs n (saidBy e)) ≡ saidBy e
 unfolding saidBy
-heard-said e n = heard-with (getD kinds (e .kind) []) e n
+heard-said e n = heard-with (e .kind / 16) (e .kind) e n
 
--- The legs end at the via and the destination.
+-- The legs end at the vias and the destination.
 module _ (s : Shape) where
-  inside-with : (ms : List Mode) (e : Entry) → e .dest < nodeCount s → e .via < nodeCount s → InsideOf s (saidWith ms e)
-  inside-with [] e d v = tt
-  inside-with (m ∷ []) e d v = (d, tt)
-  inside-with (m ∷ k ∷ ms) e d v = (v, (d, tt))
+  inside-with : (vias k : ℕ) (e : Entry) → e .dest < nodeCount s → e .via < nodeCount s → e .second < nodeCount s → InsideOf s (saidWith vias k e)
+  inside-with zero k e d v u = (d, tt)
+  inside-with (suc zero) k e d v u = (v, (d, tt))
+  inside-with (suc (suc zero)) k e d v u = (v, (u, (d, tt)))
+  inside-with (suc (suc (suc vias))) k e d v u = tt
 
-  pub inside-said : (e : Entry) → e .dest < nodeCount s → e .via < nodeCount s → InsideOf s (saidBy e)
+  pub inside-said : (e : Entry) → e .dest < nodeCount s → e .via < nodeCount s → e .second < nodeCount s → InsideOf s (saidBy e)
   unfolding saidBy
-  inside-said e d v = inside-with (getD kinds (e .kind) []) e d v
+  inside-said e d v u = inside-with (e .kind / 16) (e .kind) e d v u
 
 -- What the code finds in an entry.
 module _ (s : Shape) (e : Entry) (o : Outcome) (told : o ≡ toldAs 0 (saidBy e)) where
@@ -57,8 +55,8 @@ module _ (s : Shape) (e : Entry) (o : Outcome) (told : o ≡ toldAs 0 (saidBy e)
     unfolding heard
     legs = rw given at said
 
-    pub given-inside : isNode s (e .dest) ≡ true → isNode s (e .via) ≡ true → Inside (torus s) (legsTo (e .dest) r)
-    given-inside d v = rw (← legs) at (inside-said s e (node-of s (e .dest) d .below) (node-of s (e .via) v .below))
+    pub given-inside : isNode s (e .dest) ≡ true → isNode s (e .via) ≡ true → isNode s (e .second) ≡ true → Inside (torus s) (legsTo (e .dest) r)
+    given-inside d v u = rw (← legs) at (inside-said s e (node-of s (e .dest) d .below) (node-of s (e .via) v .below) (node-of s (e .second) u .below))
 
     pub given-kept : (c : Coords) (k : Bool) → Each s c (λ a. legsKept s a (legsTo (e .dest) r)) k → Each s c (λ a. entryKept s a e) k
     unfolding entryKept answerKept

@@ -13,8 +13,7 @@ use Rattle.shape.specs.declared.shape.Shape.{Shape}
 use Rattle.machine.specs.Node.{isNode}
 use Rattle.machine.proofs.Nodes.{node-of}
 use Rattle.routes.specs.declared.layout.Entry.{Entry}
-use Rattle.routes.specs.Layout.{first, second}
-use Rattle.routes.specs.Checks.{viaGood, entryGood, nextGood, entriesGood, routesGood}
+use Rattle.routes.specs.Checks.{entryGood, entriesGood}
 use Rattle.routes.specs.Said.{saidBy}
 use Rattle.routes.specs.Says.{saysOf}
 use Rattle.routes.proofs.Entries.{cons}
@@ -24,63 +23,53 @@ use Rattle.conversion.specs.Kept.{Stands, FirstOf}
 use Rattle.conversion.proofs.Legs.{adaptive-kept, answer-kept}
 use Rattle.conversion.proofs.Said.{inside-said}
 
--- Check 13 is the same of both versions' entries.
-entries-second : (m : Shape) (S least : ℕ) (es : List Entry) → entriesGood second m S least es ≡ entriesGood first m S least es
-unfolding entriesGood nextGood entryGood viaGood
-entries-second m S least [] = refl
-entries-second m S least (e ∷ es) = rw (entries-second m S (e .dest + 1) es)
-
-pub routes-second : (m : Shape) (S : ℕ) (es : List Entry) → routesGood second m S es ≡ routesGood first m S es
-unfolding routesGood
-routes-second m S es = rw (entries-second m S 0 es)
-
 module _ (m : Shape) (S : ℕ) (hS : isNode m S ≡ true) where
   -- An entry is kept exactly if what it says stands.
-  pub entry-stands : (e : Entry) → entryGood first m S e ≡ true → (entryKept m S e ≡ true) ↔ Stands m S (saidBy e)
+  pub entry-stands : (e : Entry) → entryGood m S e ≡ true → (entryKept m S e ≡ true) ↔ Stands m S (saidBy e)
   unfolding entryKept
   entry-stands e h =
       let n = node-of m S hS in
-      let g = good-entry first m S e h in
-      answer-kept m (n .sound) S (saidBy e) (n .below) (inside-said m e (g .dest) (g .via))
+      let g = good-entry m S e h in
+      answer-kept m (n .sound) S (saidBy e) (n .below) (inside-said m e (g .dest) (g .via) (g .second))
 
   -- A destination, listed or not.
-  pub says-stands : (D : ℕ) (es : List Entry) (least : ℕ) → entriesGood first m S least es ≡ true → allKept m S es ≡ true → Stands m S (saysOf es D)
+  pub says-stands : (D : ℕ) (es : List Entry) (least : ℕ) → entriesGood m S least es ≡ true → allKept m S es ≡ true → Stands m S (saysOf es D)
   unfolding saysOf allKept
   says-stands D [] least g k = (adaptive-kept m (node-of m S hS .sound) D S, tt)
   says-stands D (e ∷ es) least g k =
-      let c = cons first m S least e es g in
+      let c = cons m S least e es g in
       let both = and-true (entryKept m S e) _ k in
       test (eqb (e .dest) D)
       (λ t. rw t (entry-stands e (c .here) .0 (both .0)))
       (λ t. rw t (says-stands D es (e .dest + 1) (c .later) (both .1)))
 
   -- All entries.
-  pub all-stand : (es : List Entry) (least : ℕ) → entriesGood first m S least es ≡ true → allKept m S es ≡ true → (e : Entry) → List·Memᴰ e es → Stands m S (saidBy e)
+  pub all-stand : (es : List Entry) (least : ℕ) → entriesGood m S least es ≡ true → allKept m S es ≡ true → (e : Entry) → List·Memᴰ e es → Stands m S (saidBy e)
   unfolding allKept
   all-stand [] least g k e h = absurd (List·Memᴰ·not-nil h)
   all-stand (x ∷ es) least g k e h =
-      let c = cons first m S least x es g in
+      let c = cons m S least x es g in
       let both = and-true (entryKept m S x) _ k in
       ⊎-elim
       (λ q. rw q (entry-stands x (c .here) .0 (both .0)))
       (λ t. all-stand es (x .dest + 1) (c .later) (both .1) e t)
       (List·Memᴰ·cases-cons h)
 
-  pub stand-all : (es : List Entry) (least : ℕ) → entriesGood first m S least es ≡ true → ((e : Entry) → List·Memᴰ e es → Stands m S (saidBy e)) → allKept m S es ≡ true
+  pub stand-all : (es : List Entry) (least : ℕ) → entriesGood m S least es ≡ true → ((e : Entry) → List·Memᴰ e es → Stands m S (saidBy e)) → allKept m S es ≡ true
   unfolding allKept
   stand-all [] least g w = refl
   stand-all (x ∷ es) least g w =
-      let c = cons first m S least x es g in
+      let c = cons m S least x es g in
       rw (entry-stands x (c .here) .1 (w x (List·Memᴰ·head refl)), stand-all es (x .dest + 1) (c .later) (λ e t. w e (List·Memᴰ·tail t)))
 
   -- The first that does not stand.
   pub first-lost :
-      (f : ℕ → Entry) (n i least : ℕ) → entriesGood first m S least (listFrom f i n) ≡ true → allKept m S (listFrom f i n) ≡ false →
+      (f : ℕ → Entry) (n i least : ℕ) → entriesGood m S least (listFrom f i n) ≡ true → allKept m S (listFrom f i n) ≡ false →
       FirstOf n (λ j. Stands m S (saidBy (f (i + j)))) (firstLost m S (listFrom f i n))
   unfolding listFrom allKept firstLost
   first-lost f zero i least g k = absurd (true≢false k)
   first-lost f (suc n) i least g k =
-      let c = cons first m S least (f i) (listFrom f (suc i) n) g in
+      let c = cons m S least (f i) (listFrom f (suc i) n) g in
       let one = entry-stands (f i) (c .here) in
       let here : i + 0 ≡ i = omega arith in
       test (entryKept m S (f i))
@@ -103,5 +92,5 @@ module _ (m : Shape) (S : ℕ) (hS : isNode m S ≡ true) where
           (j : ℕ) → j < firstLost m S (listFrom f (suc i) n) + 1 → Stands m S (saidBy (f (i + j)))
       earlier t r zero h =
           let z : i + 0 ≡ i = omega arith in
-          rw z (entry-stands (f i) (cons first m S least (f i) (listFrom f (suc i) n) g .here) .0 t)
+          rw z (entry-stands (f i) (cons m S least (f i) (listFrom f (suc i) n) g .here) .0 t)
       earlier t r (suc j) h = let z : i + suc j ≡ suc i + j = omega arith in rw z (r .before j (omega arith))

@@ -34,7 +34,7 @@ lostAfter lost n i kept = cond (ltb lost n) lost (cond kept n i)
 
 -- What one pass over the entries tells: whether check 13 accepts them, and then the first that cannot be kept.
 pub record Seen (m : Shape) (S : ℕ) (s : List ℕ) (good : Bool) (lost : ℕ) : Type 0 where
-  pub accepts : good ≡ entriesGood first m S 0 (entriesIn first s)
+  pub accepts : good ≡ entriesGood m S 0 (entriesIn first s)
   pub first : good ≡ true → lost ≡ firstLost m S (entriesIn first s)
 
 -- What is judged of a sheet, by itself and under a plan.

@@ -1,6 +1,6 @@
 // The converter.
 use crate::judge::judge;
-use routes::layout::VERSION;
+use routes::layout::SECOND_VERSION;
 use sheet::output::Written;
 use sheet::output::put_sheet;
 use sheet::put_byte;
@@ -27,7 +27,7 @@ fn put_converted(sheet: &[u8], error: u8, out: &mut [u8]) -> Written
     let Written::Bytes(_) = answer else {
         return answer;
     };
-    put_byte(out, 0, VERSION);
+    put_byte(out, 0, SECOND_VERSION);
     answer
 }
 

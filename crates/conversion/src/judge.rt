@@ -5,17 +5,21 @@ use machine::node::is_node;
 use numbers::ENTRY_NOT_KEPT;
 use numbers::WRONG_ROUTE_SHEET;
 use plan::layout::shape_in;
+use routes::Entry;
 use routes::checks::head_good;
 use routes::checks::next_good;
 use routes::layout::FIRST_VERSION;
 use routes::layout::count_in;
-use routes::layout::entry_in;
+use routes::layout::entry_by;
+use routes::layout::one_via;
 use routes::layout::source_in;
 use shape::Shape;
 ghost use mathlib.Core.Bool.{true};
 ghost use mathlib.Core.Path.{_≡_};
 ghost use Rattle.plan.specs.Checks.{large};
 ghost use Rattle.machine.specs.Node.{isNode};
+ghost use Rattle.routes.specs.Layout.{first, entryIn};
+ghost use Rattle.routes.specs.Checks.{headGood};
 ghost use Rattle.conversion.specs.Steps.{lostAfter, Seen, sheetJudged, planJudged};
 
 // The number, 0 where none declines; and with 17 the number of the first entry that cannot be kept, else 0.
@@ -40,6 +44,19 @@ fn lost_after(lost: u16, count: u16, i: u16, kept: bool) -> u16
     if kept { count } else { i }
 }
 
+// The head of a sheet of version 1, and its entry number i.
+fn old_head(sheet: &[u8]) -> bool
+    ensures { λ r. ⌜ r ≡ headGood first (now (sheet .entry)) ⌝ }
+{
+    head_good(sheet, one_via(FIRST_VERSION))
+}
+
+fn old_entry(sheet: &[u8], i: u16) -> Entry
+    ensures { λ r. ⌜ r ≡ entryIn first (now (sheet .entry)) i ⌝ }
+{
+    entry_by(sheet, one_via(FIRST_VERSION), i)
+}
+
 // In one pass.
 fn see_entries(sheet: &[u8], shape: Shape, source: u16) -> Entries
     requires { ⌜ isNode shape source ≡ true ⌝ }
@@ -51,7 +68,7 @@ fn see_entries(sheet: &[u8], shape: Shape, source: u16) -> Entries
     let mut least: u32 = 0;
     let mut i: u16 = 0;
     while i < count {
-        let e = entry_in(sheet, i);
+        let e = old_entry(sheet, i);
         if !next_good(shape, source, least, e) {
             return Entries {
                 good: false,
@@ -80,7 +97,7 @@ fn refused(number: u8) -> Judged
 fn judge_sheet(shape: Shape, sheet: &[u8]) -> Judged
     ensures { λ r. ⌜ r ≡ sheetJudged shape (now (sheet .entry)) ⌝ }
 {
-    if !head_good(sheet, FIRST_VERSION) {
+    if !old_head(sheet) {
         return refused(WRONG_ROUTE_SHEET);
     }
     let source = source_in(sheet);

@@ -33,7 +33,7 @@ fn leg_kept(mode: Mode, shape: Shape, at: Coords, target: u16) -> bool
     }
 }
 
-// Leg two alone, from its own start.
+// A later leg alone, from its own start.
 fn second_kept(mode: Mode, shape: Shape, via: u16, dest: u16) -> bool
     requires { ⌜ isNode shape via ≡ true ⌝ }
     requires { ⌜ isNode shape dest ≡ true ⌝ }
@@ -70,6 +70,7 @@ fn via_kept(shape: Shape, at: Coords, via: u16, dest: u16, first: Mode, second: 
     }
 }
 
+// Three legs no sheet of version 1 has.
 fn route_kept(shape: Shape, at: Coords, dest: u16, route: Route) -> bool
     requires { ⌜ shapeError shape ≡ 0 ⌝ }
     requires { ⌜ Inside (torus shape) (legsTo dest route) ⌝ }
@@ -78,12 +79,17 @@ fn route_kept(shape: Shape, at: Coords, dest: u16, route: Route) -> bool
     match route {
         Route::Direct(mode) => leg_kept(mode, shape, at, dest),
         Route::Via(via, first, second) => via_kept(shape, at, via, dest, first, second),
+        Route::Vias(via, further, first, second, third) => both(
+            via_kept(shape, at, via, further, first, second),
+            second_kept(third, shape, further, dest),
+        ),
     }
 }
 
 pub fn entry_kept(shape: Shape, at: Coords, e: Entry) -> bool
     requires { ⌜ isNode shape (e .dest) ≡ true ⌝ }
     requires { ⌜ isNode shape (e .via) ≡ true ⌝ }
+    requires { ⌜ isNode shape (e .second) ≡ true ⌝ }
     ensures { λ r. ⌜ ((a : ℕ) → at ≡ coordsOf shape a → r ≡ entryKept shape a e) ⌝ }
 {
     match outcome_by(e, 0) {

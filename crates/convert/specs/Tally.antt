@@ -5,8 +5,7 @@ use mathlib.Core.List.{List}
 use lib.Dec.{eqb}
 use Rattle.numbers.specs.Numbers.{wrongRouteSheet, entryNotKept}
 use Rattle.program.specs.Count.{plus}
-use Rattle.routes.specs.declared.layout.Entry.{Entry}
-use Rattle.routes.specs.Layout.{first, source, entryIn}
+use Rattle.routes.specs.Layout.{first, source, kindByte, entryIn}
 use Rattle.convert.specs.declared.tally.Lost.{Lost}
 use Rattle.convert.specs.declared.tally.Tally.{Tally}
 
@@ -14,13 +13,13 @@ use Rattle.convert.specs.declared.tally.Tally.{Tally}
 abbrev pub declinedAt : ℕ → ℕ → Lost
 declinedAt place n = record { number = n; place = place; source = 0; kind = 0; dest = 0 }
 
--- The sheet of the source S at a place, declined for the entry e.
-abbrev pub notKept : ℕ → ℕ → Entry → Lost
-notKept place S e = record { number = entryNotKept; place = place; source = S; kind = e .kind; dest = e .dest }
+-- The sheet of the source S at a place, declined for its entry of this kind, as the sheet has it, and this destination.
+abbrev pub notKept : ℕ → ℕ → ℕ → ℕ → Lost
+notKept place S kind dest = record { number = entryNotKept; place = place; source = S; kind = kind; dest = dest }
 
 -- The version 1 sheet s at a place, declined with n, with 17 for its entry i.
 unfoldable pub lostAt : ℕ → ℕ → ℕ → List ℕ → Lost
-lostAt place n i s = cond (eqb n entryNotKept) (notKept place (source s) (entryIn first s i)) (declinedAt place n)
+lostAt place n i s = cond (eqb n entryNotKept) (notKept place (source s) (kindByte first s i) (entryIn first s i .dest)) (declinedAt place n)
 
 abbrev pub noTally : Tally
 noTally = record { sheets = 0; kept = 0; lost = declinedAt 0 0 }

@@ -2,8 +2,10 @@
 use numbers::ENTRY_NOT_KEPT;
 use numbers::WRONG_ROUTE_SHEET;
 use program::count::sum;
-use routes::Entry;
-use routes::layout::entry_in;
+use routes::layout::FIRST_VERSION;
+use routes::layout::entry_by;
+use routes::layout::kind_byte;
+use routes::layout::one_via;
 use routes::layout::source_in;
 ghost use mathlib.Core.Path.{_≡_};
 ghost use Rattle.convert.specs.Tally.{declinedAt, notKept, lostAt, named, noTally, tallied, ended};
@@ -37,15 +39,15 @@ fn declined_at(place: u32, number: u8) -> Lost
     }
 }
 
-fn not_kept(place: u32, source: u16, e: Entry) -> Lost
-    ensures { λ r. ⌜ r ≡ notKept place source e ⌝ }
+fn not_kept(place: u32, source: u16, kind: u8, dest: u16) -> Lost
+    ensures { λ r. ⌜ r ≡ notKept place source kind dest ⌝ }
 {
     Lost {
         number: ENTRY_NOT_KEPT,
         place: place,
         source: source,
-        kind: e.kind,
-        dest: e.dest,
+        kind: kind,
+        dest: dest,
     }
 }
 
@@ -54,7 +56,10 @@ fn lost_at(place: u32, number: u8, entry: u16, sheet: &[u8]) -> Lost
     ensures { λ r. ⌜ r ≡ lostAt place number entry (now (sheet .entry)) ⌝ }
 {
     if number == ENTRY_NOT_KEPT {
-        not_kept(place, source_in(sheet), entry_in(sheet, entry))
+        let format = one_via(FIRST_VERSION);
+        let kind = kind_byte(sheet, format, entry);
+        let e = entry_by(sheet, format, entry);
+        not_kept(place, source_in(sheet), kind, e.dest)
     } else {
         declined_at(place, number)
     }

@@ -13,7 +13,7 @@ use Rattle.shape.specs.declared.shape.Shape.{Shape}
 use Rattle.shape.specs.declared.shape.Coords.{Coords}
 use Rattle.shape.specs.declared.shape.Dim.the-variants.{X, Y, Z}
 use Rattle.shape.specs.Shape.{shapeError}
-use Rattle.shape.proofs.Shapes.{sound}
+use Rattle.shape.proofs.Shapes.{sound, count-most}
 use Rattle.machine.specs.declared.leg.Mode.{Mode}
 use Rattle.machine.specs.declared.leg.Mode.the-variants.{Adaptive, Deterministic}
 use Rattle.machine.specs.Number.{nodeCount, coordsOf, Inside}
@@ -42,12 +42,16 @@ weights-ok p h = accepted torusPlans large p h .weights
 pub shape-ok : (p : List ℕ) → planError large p ≡ 0 → shapeError (shapeOf p) ≡ 0
 shape-ok p h = accepted torusPlans large p h .shape
 
+pub nodes-few : (s : Shape) → shapeError s ≡ 0 → nodeCount s ≤ 4096
+unfolding nodeCount
+nodes-few s h = count-most s h
+
 -- The largest number of 16 bits has every bit.
-all-bits : (x : ℕ) → x < 16 → bit 65535 x ≡ true
+pub all-bits : (x : ℕ) → x < 16 → bit 65535 x ≡ true
 unfolding rowOf
 all-bits x l = let e : 65535 ≡ rowOf (λ _. true) 16 = refl in rw e (row-bit (λ _. true) 16 x l)
 
-in-all : (s : Shape) → shapeError s ≡ 0 → (c : Coords) → Inside s c → inProduct 65535 65535 65535 c ≡ true
+pub in-all : (s : Shape) → shapeError s ≡ 0 → (c : Coords) → Inside s c → inProduct 65535 65535 65535 c ≡ true
 unfolding inProduct
 in-all s h c i =
     rw (all-bits (c .x) (omega (arith, i .x, sound s h X .high)), all-bits (c .y) (omega (arith, i .y, sound s h Y .high)), all-bits (c .z) (omega (arith, i .z, sound s h Z .high)))
@@ -103,7 +107,7 @@ put-next at rows old new n r g l e = record {
 
 -- A set that was put at a place of a run.
 module _ (s : Shape) (h : shapeError s ≡ 0) where
-  row-small : (v : ℕ) → v < nodeCount s → coordsOf s v .y + 16 * coordsOf s v .z < 256
+  pub row-small : (v : ℕ) → v < nodeCount s → coordsOf s v .y + 16 * coordsOf s v .z < 256
   row-small v l = let i = inside s h v l in omega (arith, i .y, i .z, sound s h Y .high, sound s h Z .high)
 
   pub put-set : (at : ℕ) (rows old new : List ℕ) → Put at rows 256 old new → (v : ℕ) → v < nodeCount s → inSet s new at v ≡ inSet s rows 0 v

@@ -1,14 +1,14 @@
 -- The note by the least number of all vias.
 use Prim.Native.Nat.{ℕ, _+_, _-_, _*_, _/_, _%_, _≤_, _<_}
 use native.Mathlib.Omega.{arith}
-use mathlib.Core.Path.{_≡_, refl, sym, ap, _∙_}
+use mathlib.Core.Path.{_≡_, refl, ap, _∙_}
 use mathlib.Core.Logic.{_⊎_, inl, ⊎-elim}
-use mathlib.Core.Bool.{Bool, true, false, true≢false}
+use mathlib.Core.Bool.{true}
 use mathlib.Core.List.{List}
 use lib.Arith.{digits-div, digits-mod}
-use borrow.Author.Tests.{le-leb, lt-leb, lt-ltb, le-ltb}
+use borrow.Author.Tests.{le-leb, lt-leb, le-ltb}
 use Rattle.theory.specs.Clear.{clear}
-use Rattle.theory.proofs.Cases.{test, by-le}
+use Rattle.theory.proofs.Cases.{test, by-le, by-order}
 use Rattle.shape.specs.declared.shape.Shape.{Shape}
 use Rattle.shape.specs.declared.shape.Coords.{Coords}
 use Rattle.shape.specs.Shape.{shapeError}
@@ -83,14 +83,70 @@ module _ (p : List ℕ) (w : Weights) (s : Shape) (S D : ℕ) (a t : Coords) (fa
       let q = places k (farIn p S v + farIn p v D) (detOf (isClear p Adaptive S v) + detOf (isClear p Adaptive v D)) v (detOf (isClear p Adaptive S v)) (e ∙ both-clear v o b) (node-small (shapeOf p) ok v l) (omega (arith, det-of-low (isClear p Adaptive S v))) in
       (q .worth, q .via)
 
+  number-flat : (v : ℕ) → isClear p Deterministic S v ≡ true → isClear p Deterministic v D ≡ true → number v ≡ 16384 * worth v + (8192 + (v * 2 + detOf (isClear p Adaptive S v)))
+  unfolding valueBy
+  number-flat v o b = omega (arith, both-clear v o b)
+
+  worth-small : (v : ℕ) → v < nodeCount (shapeOf p) → worth v ≤ 2882
+  unfolding valueBy
+  worth-small v l =
+      omega (arith, F .most S v (g .source .node) l, F .most v D l (g .target .node), det-of-low (isClear p Adaptive S v), det-of-low (isClear p Adaptive v D))
+
+  worth-least : (v : ℕ) → v < nodeCount (shapeOf p) → 4 * farIn p S D ≤ worth v
+  unfolding valueBy
+  worth-least v l = omega (arith, F .triangle S v D (g .source .node) l (g .target .node))
+
   module _ (k len : ℕ) (el : len ≡ farIn p S D) (best : LeastOf (nodeCount s) (numberIn w s a t fa fd to at) k) where
     -- No via's number is below it.
     each : (v : ℕ) → v < nodeCount (shapeOf p) → k ≤ number v
     each v l = omega (arith, best .each v (omega (arith, count-is)), number-is v l)
 
-    -- Numbers of equal vias and values in the same order.
-    not-above : (v : ℕ) → v < nodeCount (shapeOf p) → isClear p Deterministic S v ≡ true → isClear p Deterministic v D ≡ true → k < unclear → 4096 * (k / 16384) + k % 8192 / 2 ≤ 4096 * worth v + v
-    not-above v l o b low = ?
+    record Of : Type 0 where
+      u : ℕ
+      below : u < nodeCount (shapeOf p)
+      out : isClear p Deterministic S u ≡ true
+      back : isClear p Deterministic u D ≡ true
+      is : k ≡ number u
+
+    of : k < unclear → Of
+    of low = ⊎-elim (λ e. absurd (omega arith))
+        (λ n.
+        let l : n .v < nodeCount (shapeOf p) = omega (arith, n .below, count-is) in
+        let is : k ≡ number (n .v) = n .is ∙ number-is (n .v) l in
+        let c = low-clear (n .v) (omega arith) in
+        record { u = n .v; below = l; out = c .0; back = c .1; is = is })
+        (best .one)
+
+    -- Numbers and notes have the same order.
+    not-above : (o : Of) (v : ℕ) → v < nodeCount (shapeOf p) → isClear p Deterministic S v ≡ true → isClear p Deterministic v D ≡ true → 4096 * worth (o .u) + o .u ≤ 4096 * worth v + v
+    not-above o v l c d =
+        let up = each v l in
+        let mine = number-flat (o .u) (o .out) (o .back) in
+        let its = number-flat v c d in
+        let f = det-of-low (isClear p Adaptive S (o .u)) in
+        let e = det-of-low (isClear p Adaptive S v) in
+        let small = node-small (shapeOf p) ok v l in
+        let low = node-small (shapeOf p) ok (o .u) (o .below) in
+        let is = o .is in
+        by-order (worth (o .u)) (worth v) (λ q. omega arith) (λ q. omega arith) (λ q. absurd (omega arith))
 
     pub least-note : (r : ℕ) → r ≡ noteOf k len → NoteTo p S D r
-    least-note r e = ?
+    unfolding noteOf
+    least-note r e = by-le unclear k
+        (λ high.
+        let q : r ≡ unclear = rw (e, le-leb unclear k high) refl in
+        record {
+          real = λ low. absurd (omega arith);
+          least = λ v l o b. absurd (omega (arith, each v l, number-flat v o b, worth-small v l, node-small (shapeOf p) ok v l, det-of-low (isClear p Adaptive S v)));
+        })
+        (λ low.
+        let o = of low in
+        let back = read-back (o .u) k (o .below) (o .out) (o .back) (o .is) in
+        let up = worth-least (o .u) (o .below) in
+        let over : 4 * len ≤ k / 16384 = omega (arith, back .0) in
+        let q : r ≡ 4096 * (k / 16384 - 4 * len) + k % 8192 / 2 = rw (e, lt-leb unclear k low, le-ltb (k / 16384) (4 * len) over) refl in
+        let is : r + 4096 * (4 * farIn p S D) ≡ 4096 * worth (o .u) + o .u = omega (arith, back .0, back .1) in
+        record {
+          real = λ _. record { v = o .u; below = o .below; out = o .out; back = o .back; is = is };
+          least = λ v l c d. inl (omega (arith, is, not-above o v l c d));
+        })

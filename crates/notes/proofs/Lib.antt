@@ -3,3 +3,4 @@ pub mod OnWays
 pub mod Values
 pub mod ShortStep
 pub mod LastStep
+pub mod Destination

@@ -23,7 +23,7 @@ use Rattle.search.specs.Number.{unclear, detOf}
 use Rattle.choice_number.specs.Note.{detBy, valueBy}
 use Rattle.choice_number.proofs.ThirdLeg.{det-of-low, node-small}
 use Rattle.notes.specs.Known.{isClear, NoteTo, OnWay, LowestVia}
-use Rattle.notes.proofs.Knowing.{shape-ok}
+use Rattle.notes.proofs.Knowing.{shape-ok, nodes-few}
 
 module _ (p : List ℕ) (S D : ℕ) (h : planError large p ≡ 0) (hS : S < nodeCount (shapeOf p)) (hD : D < nodeCount (shapeOf p)) where
   ok : shapeError (shapeOf p) ≡ 0
@@ -105,7 +105,7 @@ module _ (p : List ℕ) (S D : ℕ) (h : planError large p ≡ 0) (hS : S < node
   }
 
   pub few : nodeCount (shapeOf p) ≤ 4096
-  few = by-le (nodeCount (shapeOf p)) 4096 (λ k. k) (λ k. absurd (omega (arith, node-small (shapeOf p) ok 4096 k)))
+  few = nodes-few (shapeOf p) ok
 
   pub not-below : (m n : Mode) (via u : ℕ) → LowestVia p m n S D via → u < nodeCount (shapeOf p) → OnWay p m n S D u → via ≤ u
   not-below m n via u low l w = by-le via u (λ k. k) (λ k. absurd (low .before u l k w))

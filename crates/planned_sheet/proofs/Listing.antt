@@ -6,7 +6,9 @@ use mathlib.Core.Path.{_≡_, sym, ap, _∙_}
 use mathlib.Core.Bool.{true, false, cond}
 use mathlib.Core.List.{List, [], _∷_, _++_, append-assoc, append-nil}
 use lib.ListN.{length, length-append}
+use Rattle.numbers.specs.Numbers.{deadEnd, noClearChoice}
 use Rattle.machine.specs.Number.{nodeCount}
+use Rattle.machine.specs.Node.{isNode}
 use Rattle.machine.proofs.Nodes.{node-of}
 use Rattle.plan.specs.Layout.{shapeOf}
 use Rattle.plan.specs.Checks.{large}
@@ -18,10 +20,16 @@ use Rattle.choice.specs.Pair.{farIn, pair}
 use Rattle.routes.specs.declared.layout.Entry.{Entry}
 use Rattle.routes.specs.Layout.{mostEntries}
 use Rattle.routes.specs.Said.{entryFor, heard}
-use Rattle.routes.proofs.Saying.{entry-told}
+use Rattle.routes.proofs.Saying.{entry-told, refusal-told}
 use Rattle.planned_sheet.specs.Sheet.{lists, entriesFrom}
-use Rattle.planned_sheet.proofs.Planning.{Source, sheet-few}
+use Rattle.planned_sheet.proofs.Planning.{Source, answer-is, sheet-few}
 use Rattle.planned_sheet.proofs.Unlisted.{directClear, unclear-listed, clear-unlisted}
+
+-- The entry of a destination, from the code's enum of its answer.
+pub entry-is : (p : List ℕ) (S : ℕ) → Source large p S → (D : ℕ) → isNode (shapeOf p) D ≡ true → entryFor D (heard D (told (farIn p) S (pair large p S D))) ≡ entryFor D (pair large p S D)
+entry-is p S s D node =
+    answer-is large p S s D node (λ x. entryFor D (heard D (told (farIn p) S x)) ≡ entryFor D x)
+    (refusal-told (farIn p) S D deadEnd) (refusal-told (farIn p) S D noClearChoice) (λ c a. entry-told (farIn p) (shapeOf p) S D c a)
 
 -- ---- the entries es are those of the destinations before d
 pub record Listing (p : List ℕ) (S : ℕ) (es : List Entry) (d : ℕ) : Type 0 where
@@ -69,7 +77,7 @@ module _ (p : List ℕ) (S : ℕ) where
       entered c o e eo ee =
           let node = is-node (shapeOf p) d (record { sound = node-of (shapeOf p) S (s .node) .sound; below = l }) in
           let h = unclear-listed p S s d node c in
-          let made : e ≡ entryFor d x = ee ∙ ap (λ y. entryFor d (heard d y)) eo ∙ entry-told (farIn p) S d x in
+          let made : e ≡ entryFor d x = ee ∙ ap (λ y. entryFor d (heard d y)) eo ∙ entry-is p S s d node in
           (room h, rw made (next-listed h))
 
   -- Destinations that are not listed are passed over.

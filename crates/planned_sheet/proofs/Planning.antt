@@ -28,13 +28,13 @@ use Rattle.choice.specs.Pair.{soundIn, farIn, routeIn, pairError, chosen, pair}
 use Rattle.choice.proofs.AtTorus.{far-lengths, empty-adaptive, direct-first}
 use Rattle.choice.proofs.Demand.{pair-chosen, found-planned, demand}
 use Rattle.routes.specs.declared.layout.Entry.{Entry}
-use Rattle.routes.specs.Layout.{written, mostEntries}
+use Rattle.routes.specs.Layout.{mostEntries}
 use Rattle.routes.specs.Said.{saidBy, entryFor}
 use Rattle.routes.specs.Checks.{entryGood, entriesGood, routesGood, sheetError}
 use Rattle.routes.specs.Says.{saysOf, says}
 use Rattle.routes.proofs.Rising.{routed}
 use Rattle.routes.proofs.Entries.{passed}
-use Rattle.routes.proofs.Saying.{admitted-legs, says-choice, says-refused, choice-good, dead-good, none-good}
+use Rattle.routes.proofs.Saying.{admitted-legs, says-choice, says-dead, says-none, choice-good, dead-good, none-good}
 use Rattle.route_value.specs.Reading.{reading}
 use Rattle.route_value.specs.Value.{routesWith}
 use Rattle.route_value.proofs.Written.{written-accepted, written-says}
@@ -77,6 +77,10 @@ lists-refused : (D e : ℕ) → lists (Refused e) ≡ false → Refused e ≡ Gi
 unfolding lists
 lists-refused D e h = absurd (true≢false h)
 
+lists-vias : (D v u : ℕ) (m n o : Mode) → lists (Given (leg v m ∷ leg u n ∷ leg D o ∷ [])) ≡ false → Given (leg v m ∷ leg u n ∷ leg D o ∷ []) ≡ Given (leg D Adaptive ∷ [])
+unfolding lists
+lists-vias D v u m n o h = absurd (true≢false h)
+
 lists-via : (D v : ℕ) (m n : Mode) → lists (Given (leg v m ∷ leg D n ∷ [])) ≡ false → Given (leg v m ∷ leg D n ∷ []) ≡ Given (leg D Adaptive ∷ [])
 unfolding lists
 lists-via D v m n h = absurd (true≢false h)
@@ -110,16 +114,16 @@ module _ (L : Limits) (p : List ℕ) (S : ℕ) (s : Source L p S) where
     pub unlisted : lists (pair L p S D) ≡ false → pair L p S D ≡ Given (leg D Adaptive ∷ [])
     unlisted =
         answer-is (λ x. lists x ≡ false → x ≡ Given (leg D Adaptive ∷ [])) (lists-refused D deadEnd) (lists-refused D noClearChoice)
-        (admitted-legs (λ c. lists (Given c) ≡ false → Given c ≡ Given (leg D Adaptive ∷ [])) (shapeOf p) S D (unlisted-direct D) (λ v m n _. lists-via D v m n))
+        (admitted-legs (λ c. lists (Given c) ≡ false → Given c ≡ Given (leg D Adaptive ∷ [])) (shapeOf p) S D (unlisted-direct D) (λ v m n _. lists-via D v m n) (λ v u m n o _. lists-vias D v u m n o))
 
     -- An entry says what it was made for.
     entry-says : saidBy (entryFor D (pair L p S D)) ≡ pair L p S D
     entry-says =
-        answer-is (λ x. saidBy (entryFor D x) ≡ x) (says-refused D deadEnd (omega arith)) (says-refused D noClearChoice (omega arith)) (λ c a. says-choice (shapeOf p) S D c a)
+        answer-is (λ x. saidBy (entryFor D x) ≡ x) (says-dead D) (says-none D) (λ c a. says-choice D (shapeOf p) S c a)
 
-    entry-good : (D ≡ S → ⊥) → lists (pair L p S D) ≡ true → entryGood written (shapeOf p) S (entryFor D (pair L p S D)) ≡ true
+    entry-good : (D ≡ S → ⊥) → lists (pair L p S D) ≡ true → entryGood (shapeOf p) S (entryFor D (pair L p S D)) ≡ true
     entry-good ne =
-        answer-is (λ x. lists x ≡ true → entryGood written (shapeOf p) S (entryFor D x) ≡ true)
+        answer-is (λ x. lists x ≡ true → entryGood (shapeOf p) S (entryFor D x) ≡ true)
         (λ _. dead-good (shapeOf p) S D node ne)
         (λ _. none-good (shapeOf p) S D node ne)
         (λ c a l. choice-good (shapeOf p) S D node ne c a (lists-not D c l))
@@ -140,7 +144,7 @@ module _ (L : Limits) (p : List ℕ) (S : ℕ) (s : Source L p S) where
   in-plan D l = is-node (shapeOf p) D (record { sound = node-of (shapeOf p) S (s .node) .sound; below = l })
 
   -- ---- the entries, from a destination on
-  entries-good : (n D least : ℕ) → least ≤ D → D + n ≤ nodeCount (shapeOf p) → entriesGood written (shapeOf p) S least (entriesFrom L p S D n) ≡ true
+  entries-good : (n D least : ℕ) → least ≤ D → D + n ≤ nodeCount (shapeOf p) → entriesGood (shapeOf p) S least (entriesFrom L p S D n) ≡ true
   unfolding entriesFrom entriesGood
   entries-good zero D least h k = refl
   entries-good (suc n) D least h k =
@@ -148,7 +152,7 @@ module _ (L : Limits) (p : List ℕ) (S : ℕ) (s : Source L p S) where
       let at = entry-dest D x in
       test (lists x)
       (λ l. rw l
-      (passed written (shapeOf p) S least (entryFor D x) (entriesFrom L p S (suc D) n) (omega arith) (entry-good D (in-plan D (omega arith)) (listed-other D l) l)
+      (passed (shapeOf p) S least (entryFor D x) (entriesFrom L p S (suc D) n) (omega arith) (entry-good D (in-plan D (omega arith)) (listed-other D l) l)
       ∙ rw at (entries-good n (suc D) (D + 1) (omega arith) (omega arith))))
       (λ l. rw l (entries-good n (suc D) least (omega arith) (omega arith)))
 
@@ -180,12 +184,12 @@ module _ (L : Limits) (p : List ℕ) (S : ℕ) (s : Source L p S) where
   abbrev all : List Entry
   all = entriesFrom L p S 0 (nodeCount (shapeOf p))
 
-  routes-good : routesGood written (shapeOf p) S all ≡ true
+  routes-good : routesGood (shapeOf p) S all ≡ true
   unfolding routesGood
   routes-good = rw (s .node) (entries-good (nodeCount (shapeOf p)) 0 0 (omega arith) (omega arith))
 
   pub sheet-few : length all ≤ mostEntries
-  sheet-few = routed written (shapeOf p) S all routes-good .few
+  sheet-few = routed (shapeOf p) S all routes-good .few
 
   pub sheet-accepted : sheetError L p (plannedSheet L p S) ≡ 0
   unfolding plannedSheet

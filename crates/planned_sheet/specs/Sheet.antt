@@ -14,7 +14,6 @@ use Rattle.choice.specs.Choice.{det}
 use Rattle.choice.specs.Answer.{Answer, Given, Refused}
 use Rattle.choice.specs.Pair.{pair}
 use Rattle.routes.specs.declared.layout.Entry.{Entry}
-use Rattle.routes.specs.Layout.{written}
 use Rattle.routes.specs.Said.{entryFor}
 use Rattle.route_value.specs.Writing.{sheetBytes}
 
@@ -44,4 +43,4 @@ entriesFrom L p S D (suc n) =
 
 -- The sheet of every destination, in the format that is written.
 unfoldable pub plannedSheet : Limits → List ℕ → ℕ → List ℕ
-plannedSheet L p S = sheetBytes written S (entriesFrom L p S 0 (nodeCount (shapeOf p)))
+plannedSheet L p S = sheetBytes S (entriesFrom L p S 0 (nodeCount (shapeOf p)))

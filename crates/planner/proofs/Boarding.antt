@@ -25,13 +25,12 @@ use Rattle.losses.specs.OfPlan.{AreLosses}
 use Rattle.masks.specs.Masks.{gatherAt, Ended, Masked}
 use Rattle.planner.specs.declared.boards.Step.{Step}
 use Rattle.planned_sheet.specs.Sheet.{sourceError, plannedSheet}
-use Rattle.first_clear.specs.Known.{OfPlan, IsAt}
+use Rattle.notes.specs.Known.{OfPlan, IsAt}
 use Rattle.planner.specs.Known.{Work, Prepared, Listed}
 use Rattle.planner.specs.Steps.{stepOf, Boarded}
-use Rattle.first_clear.proofs.Knowing.{shape-ok}
+use Rattle.notes.proofs.Knowing.{shape-ok, nodes-few}
 use Rattle.planner.proofs.Destination.{dead-byte}
-use Rattle.first_clear.proofs.FirstSteps.{nodes-few}
-use Rattle.first_clear.proofs.Destination.{gathered-at}
+use Rattle.notes.proofs.Destination.{gathered-at}
 use Rattle.planner.proofs.Filling.{at-coords}
 use Rattle.planned_sheet.proofs.Planning.{Source, source-of, no-error}
 use Rattle.planned_sheet.proofs.Written.{put-is}

@@ -1,15 +1,16 @@
 -- Planning one destination: what is known of it.
-use Prim.Native.Nat.{ℕ, _<_}
+use Prim.Native.Nat.{ℕ, _≤_, _<_}
 use native.Mathlib.Omega.{arith}
 use mathlib.Core.Path.{_≡_, refl, sym, ap, _∙_}
-use mathlib.Core.Logic.{⊎-elim}
-use mathlib.Core.Bool.{Bool, true, false}
+use mathlib.Core.Logic.{inl, inr, ⊎-elim}
+use mathlib.Core.Bool.{Bool, true, false, true≢false}
 use mathlib.Core.List.{List}
 use lib.ListN.{length, getD}
-use borrow.Author.Tests.{eq-eqb}
-use Rattle.numbers.specs.Numbers.{deadEnd}
+use lib.Dec.{eqb}
+use borrow.Author.Tests.{eq-eqb, eqb-true, eqb-false, lt-ltb, le-ltb}
+use Rattle.numbers.specs.Numbers.{deadEnd, noClearChoice}
 use Rattle.theory.specs.Machine.{sumBy}
-use Rattle.theory.proofs.Cases.{test}
+use Rattle.theory.proofs.Cases.{test, by-le}
 use Rattle.shape.specs.declared.shape.Shape.{Shape}
 use Rattle.shape.specs.declared.shape.Coords.{Coords}
 use Rattle.machine.specs.declared.leg.Mode.the-variants.{Adaptive, Deterministic}
@@ -26,11 +27,15 @@ use Rattle.choice.specs.declared.outcome.Outcome.{Outcome}
 use Rattle.choice.specs.Outcome.{told, toldAs}
 use Rattle.choice.specs.Pair.{farIn, pair}
 use Rattle.rows.specs.Rows.{inRows}
-use Rattle.first_clear.specs.Known.{isClear, IsAt, NearLosses, routeTold, BySets, ByLosses}
-use Rattle.first_clear.proofs.Knowing.{shape-ok}
-use Rattle.first_clear.proofs.FirstSteps.{nodes-few}
-use Rattle.first_clear.proofs.Destination.{length-is, has-is}
-use Rattle.planner.specs.Known.{Work, Ready, Sifting}
+use Rattle.losses.proofs.DeadTarget.{dead-target}
+use Rattle.search.specs.Number.{unclear}
+use Rattle.notes.specs.Known as Notes
+use Rattle.notes.specs.Known.{isClear, IsAt, NearLosses, NoteTo}
+use Rattle.first_clear.specs.Known.{routeTold, isGiven, viaRoute, Noted, Apart, BySets, NearLost, FarLost}
+use Rattle.first_clear.proofs.Own.{by-own}
+use Rattle.notes.proofs.Knowing.{shape-ok, nodes-few}
+use Rattle.notes.proofs.Destination.{length-is, has-is, small-at}
+use Rattle.planner.specs.Known.{Work, Ready, Sifting, ByLosses}
 use Rattle.planned_sheet.proofs.Planning.{Source, pair-dead, pair-alive}
 use Rattle.planned_sheet.proofs.Unlisted.{pair-direct}
 
@@ -82,9 +87,35 @@ module _ (p : List ℕ) (s : Shape) (words : List ℕ) (count : ℕ) (dead ta td
   pub not-direct : (b : Bool) → b ≡ inRows fa 0 t → b ≡ false → isClear p Adaptive S D ≡ false
   not-direct b e n = sym (has-is p Adaptive fa S D t (g .adaptive) to b e) ∙ n
 
+  -- What a test of a set says of D.
+  pub bit-at : (rows : List ℕ) (b : Bool) → (t .x < 16 → t .y < 16 → t .z < 16 → b ≡ inRows rows 0 t) → b ≡ inRows rows 0 t
+  bit-at rows b e = let k = small-at p D t h to in e (k .0) (k .1) (k .2)
+
+  -- ---- its note
+  -- It needs none where the direct adaptive leg is clear, and a dead node has none.
+  pub direct-note : (b : Bool) → b ≡ inRows fa 0 t → b ≡ true → NoteTo p S D unclear
+  direct-note b e y = record { real = λ k. absurd (omega arith); least = λ v l o k. inr (inl (sym (has-is p Adaptive fa S D t (g .adaptive) to b e) ∙ y)) }
+
+  source-apart : deadNode (faultsOf p) D ≡ true → S ≡ D → ⊥
+  source-apart d e = true≢false (sym d ∙ ap (deadNode (faultsOf p)) (sym e) ∙ g .alive)
+
+  pub dead-note : (getD dead D 0 ≡ 0 → ⊥) → NoteTo p S D unclear
+  dead-note ne =
+      test (deadNode (faultsOf p) D)
+      (λ d. record {
+        real = λ k. absurd (omega arith);
+        least = λ v l o k. test (eqb v D)
+            (λ q. let e = eqb-true v D q in let c : isClear p Deterministic S D ≡ true = rw (← e) o in absurd (true≢false (sym c ∙ dead-target p h S D (g .source .node) (to .node) d (source-apart d) Deterministic)))
+            (λ q. absurd (true≢false (sym k ∙ dead-target p h v D l (to .node) d (eqb-false v D q) Deterministic)));
+      })
+      (λ d. absurd (ne (dead-is ∙ ap bitOf d)))
+
   module _ (w : Weights) (ew : w ≡ weightsOf p) (direct : isClear p Adaptive S D ≡ false) (straight : Bool) (es : straight ≡ inRows fd 0 t) where
-    pub by-losses : (near : List ℕ) (n : ℕ) → NearLosses p S D words count near n → ByLosses p w s words count near n ta td S D a t fa fd straight
-    by-losses near n some = record {
+    one : straight ≡ isClear p Deterministic S D
+    one = has-is p Deterministic fd S D t (g .deterministic) to straight es
+
+    pub note-losses : (near : List ℕ) (n : ℕ) → NearLosses p S D words count near n → Notes.ByLosses p w s words count near n ta td S D a t fa fd straight
+    note-losses near n some = record {
       of-plan = g .prepared .of-plan;
       weights = ew;
       standing = some;
@@ -95,11 +126,11 @@ module _ (p : List ℕ) (s : Shape) (words : List ℕ) (count : ℕ) (dead ta td
       adaptive = g .adaptive;
       deterministic = g .deterministic;
       direct = direct;
-      one = has-is p Deterministic fd S D t (g .deterministic) to straight es;
+      one = one;
     }
 
-    pub by-sets : Work p work → (length work ≡ 0 → ⊥) → BySets p w s work S D a t fa fd straight
-    by-sets sets ne = record {
+    pub note-sets : Work p work → (length work ≡ 0 → ⊥) → Notes.BySets p w s work S D a t fa fd straight
+    note-sets sets ne = record {
       plan = h;
       weights = ew;
       shape = g .prepared .of-plan .shape;
@@ -109,5 +140,101 @@ module _ (p : List ℕ) (s : Shape) (words : List ℕ) (count : ℕ) (dead ta td
       deterministic = g .deterministic;
       both = ⊎-elim (λ z. absurd (ne z)) (λ f. f .each D (to .node)) sets;
       direct = direct;
-      one = has-is p Deterministic fd S D t (g .deterministic) to straight es;
+      one = one;
     }
+
+    -- ---- its route, by the notes
+    module _ (note : ℕ) (own : NoteTo p S D note) where
+      pub via-told : (len : ℕ) → len ≡ distanceWord w s a t → (o : Outcome) → o ≡ viaRoute note len → (b : Bool) → b ≡ isGiven o → b ≡ true → o ≡ routeTold p S D
+      unfolding viaRoute
+      via-told len el o eo b eb y =
+          by-le 4096 note
+          (λ k. let z : viaRoute note len ≡ Outcome.Refused noClearChoice = rw (le-ltb note 4096 k) refl in absurd (true≢false (sym (sym eb ∙ y) ∙ ap isGiven (eo ∙ z))))
+          (λ k.
+          let apart : Apart p s S D len = record {
+            plan = h;
+            shape = g .prepared .of-plan .shape;
+            source = g .source .node;
+            target = to .node;
+            distance = length-is p w s S D a t len h ew (g .prepared .of-plan .shape) (g .source) to el;
+            direct = direct;
+          } in
+          eo ∙ rw (lt-ltb note 4096 k) (by-own p s S D len apart note own k))
+
+      pub not-via : (len : ℕ) (o : Outcome) → o ≡ viaRoute note len → (b : Bool) → b ≡ isGiven o → b ≡ false → 4096 ≤ note
+      unfolding viaRoute
+      not-via len o eo b eb n =
+          by-le 4096 note (λ k. k)
+          (λ k. let z : viaRoute note len ≡ Outcome.Given (Route.Via note Adaptive Adaptive) len = rw (lt-ltb note 4096 k) refl in absurd (true≢false (sym (ap isGiven (eo ∙ z)) ∙ sym eb ∙ n)))
+
+    module _ (notes : List ℕ) (noted : Noted p S notes) (note : ℕ) (own : note ≡ getD notes D 0) where
+      pub by-losses : (near : List ℕ) (n : ℕ) → NearLosses p S D words count near n → 4096 ≤ note → ByLosses p w s words count near n ta td S D a t fa straight note notes
+      by-losses near n some over = record {
+        of-plan = g .prepared .of-plan;
+        weights = ew;
+        standing = some;
+        masks = g .prepared .adaptive;
+        others = g .prepared .deterministic;
+        source = g .source;
+        target = to;
+        adaptive = g .adaptive;
+        direct = direct;
+        one = one;
+        own = own;
+        over = over;
+        noted = noted;
+      }
+
+      pub by-sets : Work p work → (length work ≡ 0 → ⊥) → 4096 ≤ note → BySets p w s work S D a t fa straight note notes
+      by-sets sets ne over = record {
+        plan = h;
+        weights = ew;
+        shape = g .prepared .of-plan .shape;
+        source = g .source;
+        target = to;
+        adaptive = g .adaptive;
+        both = ⊎-elim (λ z. absurd (ne z)) (λ f. f .each D (to .node)) sets;
+        direct = direct;
+        one = one;
+        own = own;
+        over = over;
+        noted = noted;
+      }
+
+-- By the losses: what both steps rest on.
+pub near-lost :
+    (p : List ℕ) (w : Weights) (s : Shape) (words : List ℕ) (count : ℕ) (near : List ℕ) (n : ℕ) (ta td : List ℕ) (S D : ℕ) (a t : Coords) (fa : List ℕ) (straight : Bool) (note : ℕ) (notes : List ℕ) →
+    ByLosses p w s words count near n ta td S D a t fa straight note notes → NearLost p w s near n ta S D a t fa straight note notes
+near-lost p w s words count near n ta td S D a t fa straight note notes g = record {
+  words = words;
+  count = count;
+  of-plan = g .of-plan;
+  weights = g .weights;
+  standing = g .standing;
+  masks = g .masks;
+  source = g .source;
+  target = g .target;
+  adaptive = g .adaptive;
+  direct = g .direct;
+  one = g .one;
+  own = rw (g .own) (g .noted D (g .target .node));
+  over = g .over;
+  noted = λ v l _. g .noted v l;
+}
+
+pub far-lost :
+    (p : List ℕ) (w : Weights) (s : Shape) (words : List ℕ) (count : ℕ) (near : List ℕ) (n : ℕ) (ta td : List ℕ) (S D : ℕ) (a t : Coords) (fa : List ℕ) (straight : Bool) (note : ℕ) (notes : List ℕ) →
+    ByLosses p w s words count near n ta td S D a t fa straight note notes → isClear p Deterministic S D ≡ false → FarLost p w s words count ta td S D a t fa note notes
+far-lost p w s words count near n ta td S D a t fa straight note notes g blocked = record {
+  of-plan = g .of-plan;
+  weights = g .weights;
+  masks = g .masks;
+  others = g .others;
+  source = g .source;
+  target = g .target;
+  adaptive = g .adaptive;
+  direct = g .direct;
+  blocked = blocked;
+  own = g .own;
+  noted = g .noted;
+}

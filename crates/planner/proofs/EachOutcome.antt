@@ -22,13 +22,12 @@ use Rattle.choice.specs.Outcome.{told}
 use Rattle.choice.specs.Pair.{farIn, pair}
 use Rattle.planner.specs.declared.outside.At.{At}
 use Rattle.planner.specs.Outside.{placeOf, Stands, Following}
-use Rattle.choice_number.specs.KeyNumber.{pickOutcome}
-use Rattle.first_clear.specs.Known.{IsAt}
+use Rattle.choice_number.specs.Told.{pickOutcome}
+use Rattle.notes.specs.Known.{IsAt}
 use Rattle.planner.specs.Known.{Ready}
 use Rattle.planned_sheet.specs.Sheet.{sourceError}
 use Rattle.planner.specs.Outcomes.{noOutcome, outcomeAt}
-use Rattle.first_clear.proofs.Knowing.{shape-ok}
-use Rattle.first_clear.proofs.FirstSteps.{nodes-few}
+use Rattle.notes.proofs.Knowing.{shape-ok, nodes-few}
 use Rattle.planned_sheet.proofs.Planning.{no-error}
 use Rattle.planner.proofs.Standing.{starts, stands-end, node-small}
 use Rattle.planner.proofs.Writing.{node-known}

@@ -16,11 +16,11 @@ use Rattle.plan.specs.Layout.{shapeOf}
 use Rattle.plan.specs.Checks.{large, planError}
 use Rattle.dead.proofs.Table.{is-node}
 use Rattle.masks.specs.Masks.{gatherAt, Masked}
-use Rattle.first_clear.specs.Known.{OfPlan, IsAt, BothTo, ToEnd}
+use Rattle.notes.specs.Known.{OfPlan, IsAt, BothTo, ToEnd}
 use Rattle.planner.specs.Known.{Filled}
-use Rattle.first_clear.specs.Rows.{Elsewhere}
-use Rattle.first_clear.proofs.Knowing.{shape-ok, other-set}
-use Rattle.first_clear.proofs.Destination.{gathered-at}
+use Rattle.notes.specs.Rows.{Elsewhere}
+use Rattle.notes.proofs.Knowing.{shape-ok, other-set}
+use Rattle.notes.proofs.Destination.{gathered-at}
 
 -- The sets to the nodes before n stand in the run.
 pub record Filling (p : List ℕ) (n : ℕ) (old work : List ℕ) : Type 0 where

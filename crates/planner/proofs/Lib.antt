@@ -4,6 +4,7 @@ pub mod Destination
 pub mod NearRows
 pub mod Pairs
 pub mod Writing
+pub mod EachNote
 pub mod EachOutcome
 pub mod Filling
 pub mod FirstError

@@ -29,10 +29,10 @@ use Rattle.losses.proofs.Modes.{more-met}
 use Rattle.sets.specs.Sift.{reaches, Sifted}
 use Rattle.sets.proofs.Sets.{loss-bit}
 use Rattle.sets.proofs.Sifting.{missed}
-use Rattle.first_clear.specs.Known.{OfPlan, IsAt, NearLosses}
+use Rattle.notes.specs.Known.{OfPlan, IsAt, NearLosses}
 use Rattle.planner.specs.Known.{NearRow}
-use Rattle.first_clear.proofs.Knowing.{shape-ok}
-use Rattle.first_clear.proofs.Destination.{is-box, small-at}
+use Rattle.notes.proofs.Knowing.{shape-ok}
+use Rattle.notes.proofs.Destination.{is-box, small-at}
 
 -- The masks of two ends in one row are the same in Y and Z.
 row-masks : (m : Mode) (from : Bool) (s : Shape) (t u : Coords) → t .y ≡ u .y → t .z ≡ u .z → (i : ℕ) → 96 ≤ i → i < 288 → endsAt m from s t i ≡ endsAt m from s u i

@@ -1,10 +1,12 @@
 -- Planning a pair: its checks, and the answer.
-use Prim.Native.Nat.{ℕ, zero, suc, _≤_, min}
+use Prim.Native.Nat.{ℕ, zero, suc, _+_, _*_, _/_, _%_, _≤_, _<_, min}
 use native.Mathlib.Omega.{arith}
 use mathlib.Core.Path.{_≡_, refl, sym, ap, _∙_}
-use mathlib.Core.Bool.{Bool, true, false, not, _||_}
+use mathlib.Core.Bool.{Bool, true, false, not, _&&_, _||_}
 use mathlib.Core.List.{List}
-use lib.ListN.{length}
+use lib.ListN.{length, getD}
+use borrow.Author.Tests.{lt-ltb}
+use Rattle.theory.proofs.Cases.{test}
 use Rattle.numbers.specs.Numbers.{nodeOutside, deadEnd}
 use Rattle.theory.specs.Checks.{declined, _then_}
 use Rattle.shape.specs.declared.shape.Shape.{Shape}
@@ -17,7 +19,9 @@ use Rattle.weights.specs.Steps.{distanceWord}
 use Rattle.machine.specs.declared.leg.Mode.{Mode}
 use Rattle.machine.specs.declared.leg.Mode.the-variants.{Adaptive, Deterministic}
 use Rattle.machine.specs.Node.{isNode, coordsAnswer}
+use Rattle.machine.specs.Number.{nodeCount, coordsOf}
 use Rattle.machine.proofs.Nodes.{node-of}
+use Rattle.machine.proofs.Laws.{hops-self}
 use Rattle.plan.specs.Layout.{shapeOf, weightsOf, faultsOf}
 use Rattle.plan.specs.Checks.{large, planError}
 use Rattle.dead.specs.Dead.{deadNode}
@@ -29,10 +33,19 @@ use Rattle.choice.proofs.AtTorus.{far-lengths, direct-first}
 use Rattle.losses.specs.Loss.{onLeg}
 use Rattle.losses.specs.OfPlan.{AreLosses}
 use Rattle.losses.proofs.AtPlan.{clear-is}
+use Rattle.rows.specs.Bits.{bit}
+use Rattle.rows.specs.Rows.{inRows, inSet, inProduct}
+use Rattle.rows.specs.Product.{nodeAt, Less, product}
+use Rattle.masks.specs.declared.span.Box.{Box}
+use Rattle.masks.specs.Span.{boxOf}
 use Rattle.masks.specs.Masks.{Ended}
-use Rattle.first_clear.specs.Known.{isClear, OfPlan, IsAt, FromSet, routeTold, isGiven, NearMasks, NearDone, FarMasks}
-use Rattle.first_clear.proofs.Knowing.{shape-ok}
-use Rattle.first_clear.proofs.Destination.{length-is, none-given, all-near}
+use Rattle.search.specs.FirstVia.{isVia, FirstOf}
+use Rattle.notes.specs.Known.{isClear, OfPlan, IsAt, FromSet, NoteTo, Between, BetweenMade}
+use Rattle.first_clear.specs.Known.{routeTold, viaRoute, Noted, NotedBetween, Apart, NearLost, FarLost}
+use Rattle.notes.proofs.Knowing.{shape-ok, row-small}
+use Rattle.notes.proofs.Destination.{is-box, length-is, small-at, has-is, all-near, here-near}
+use Rattle.first_clear.proofs.Own.{by-own}
+use Rattle.planner.specs.Known.{Ready, NotesMade, Ends, Beside}
 
 -- ---- the checks of a pair
 -- None of them declines.
@@ -40,18 +53,21 @@ pub record Accepted (p : List ℕ) (S D : ℕ) : Type 0 where
   pub plan : planError large p ≡ 0
   pub source : isNode (shapeOf p) S ≡ true
   pub target : isNode (shapeOf p) D ≡ true
+  pub alive : deadNode (faultsOf p) S ≡ false
 
-accepts : (p : List ℕ) (S D e : ℕ) (a b c : Bool) → (e then declined (not a || not b) nodeOutside then declined c deadEnd then 0) ≡ 0 → (e ≡ 0) × (a ≡ true) × (b ≡ true)
-accepts p S D zero true true c h = (refl, refl, refl)
-accepts p S D zero true false c h = absurd (omega arith)
-accepts p S D zero false b c h = absurd (omega arith)
-accepts p S D (suc e) a b c h = absurd (omega arith)
+accepts :
+    (p : List ℕ) (S D e : ℕ) (a b c d : Bool) → (e then declined (not a || not b) nodeOutside then declined (c || d) deadEnd then 0) ≡ 0 → (e ≡ 0) × (a ≡ true) × (b ≡ true) × (c ≡ false)
+accepts p S D zero true true false d h = (refl, refl, refl, refl)
+accepts p S D zero true true true d h = absurd (omega arith)
+accepts p S D zero true false c d h = absurd (omega arith)
+accepts p S D zero false b c d h = absurd (omega arith)
+accepts p S D (suc e) a b c d h = absurd (omega arith)
 
 pub accepted : (p : List ℕ) (S D : ℕ) → pairError large p S D ≡ 0 → Accepted p S D
 unfolding pairError
 accepted p S D h =
-    let k = accepts p S D (planError large p) (isNode (shapeOf p) S) (isNode (shapeOf p) D) (deadNode (faultsOf p) S || deadNode (faultsOf p) D) h in
-    record { plan = k .0; source = k .1; target = k .2 }
+    let k = accepts p S D (planError large p) (isNode (shapeOf p) S) (isNode (shapeOf p) D) (deadNode (faultsOf p) S) (deadNode (faultsOf p) D) h in
+    record { plan = k .0; source = k .1; target = k .2; alive = k .3 }
 
 -- ---- the answer
 pub refused-pair : (p : List ℕ) (S D e : ℕ) → e ≡ pairError large p S D → (e ≡ 0 → ⊥) → Outcome.Refused e ≡ told (farIn p) S (pair large p S D)
@@ -80,6 +96,9 @@ module _ (p : List ℕ) (s : Shape) (S D e : ℕ) (es : s ≡ shapeOf p) (ee : e
   pub to-at : (c : Coords) → c ≡ coordsAnswer s D → IsAt p D c
   to-at c q = node-at p s D c es (A .target) q
 
+  pub source-alive : deadNode (faultsOf p) S ≡ false
+  source-alive = A .alive
+
   pub paired : (r : Outcome) → r ≡ routeTold p S D → r ≡ told (farIn p) S (pair large p S D)
   paired r q = q ∙ chosen-pair p S D (sym ee ∙ zero)
 
@@ -99,33 +118,98 @@ module _ (p : List ℕ) (w : Weights) (ew : w ≡ weightsOf p) (s : Shape) (word
       let d = length-is p w s S D a t len (k .plan) ew (k .shape) from to q in
       rw route (ap (Outcome.Given (Route.Direct Adaptive)) (omega arith))
 
-  -- What the first steps rest on, and then the last ones.
-  pub near-known : (masks fa : List ℕ) (direct straight : Bool) (run : List ℕ) → Ended Adaptive false s t masks → FromSet p Adaptive S fa → direct ≡ not (onLeg rule Adaptive s words (min count 256) a t) → direct ≡ false →
-      straight ≡ not (onLeg rule Deterministic s words (min count 256) a t) → 512 ≤ length run → NearMasks p w s S D a t words count masks fa straight run
-  near-known masks fa direct straight run ended out ed left es room = record {
+-- ---- the nodes between the ends of a pair
+pub beside-is :
+    (p : List ℕ) (s : Shape) (S D : ℕ) (a t : Coords) → Ends p s S D a t → (b : Box) → b ≡ boxOf s a t → (old new : List ℕ) → length old ≡ 256 → Less (product (b .x) (b .y) (b .z)) old new → Beside p S D new
+unfolding inSet inRows product
+beside-is p s S D a t g b eb old new long less w l way =
+    let c = coordsOf (shapeOf p) w in
+    let r = c .y + 16 * c .z in
+    let k = small-at p w c (g .plan) (record { node = l; at = refl }) in
+    let box = is-box p s S D a t (g .plan) (g .shape) (g .source) (g .target) b eb w l .1 way in
+    let ey : r % 16 ≡ c .y = low-place (c .y) (c .z) (k .1) in
+    let ez : r / 16 ≡ c .z = high-place (c .y) (c .z) (k .1) in
+    let same : nodeAt r (c .x) ≡ c = rw (ey, ez) refl in
+    let in-box : inProduct (b .x) (b .y) (b .z) (nodeAt r (c .x)) ≡ true = rw same box in
+    let z : 0 + r ≡ r = omega arith in
+    rw z (less .bits long r (c .x) (omega (arith, row-small (shapeOf p) (shape-ok p (g .plan)) w l)) (k .0) ∙ rw in-box (and-false (bit (getD old r 0) (c .x))))
+  where
+    low-place : (y z : ℕ) → y < 16 → (y + 16 * z) % 16 ≡ y
+    low-place y z h = omega arith
+
+    high-place : (y z : ℕ) → y < 16 → (y + 16 * z) / 16 ≡ z
+    high-place y z h = omega arith
+
+    and-false : (x : Bool) → (x && false) ≡ false
+    and-false true = refl
+    and-false false = refl
+
+-- The notes of the nodes between are made, D's among them; and the notes of all.
+module _ (p : List ℕ) (S : ℕ) (notes : List ℕ) where
+  pub between-noted : (D : ℕ) (skip : List ℕ) → NotesMade p S skip notes → Beside p S D skip → NotedBetween p S D notes
+  between-noted D skip made beside w l way = made .outside w l (beside w l way)
+
+  pub own-noted : (D : ℕ) → D < nodeCount (shapeOf p) → NotedBetween p S D notes → NoteTo p S D (getD notes D 0)
+  own-noted D l noted = noted D l (omega (arith, hops-self (shapeOf p) D))
+
+  pub all-noted : (fa : List ℕ) → FromSet p Adaptive S fa → NotesMade p S fa notes → Noted p S notes
+  all-noted fa out made w l = test (inSet (shapeOf p) fa 0 w) (λ y. made .direct w l (sym (out w l) ∙ y)) (λ n. made .outside w l n)
+
+-- ---- what the steps of a pair rest on
+module _ (p : List ℕ) (s : Shape) (words : List ℕ) (count : ℕ) (dead ta td work : List ℕ) (S : ℕ) (a : Coords) (fa fd : List ℕ) (g : Ready p s words count dead ta td work S a fa fd) (D : ℕ) (t : Coords) (to : IsAt p D t)
+    (w : Weights) (ew : w ≡ weightsOf p) (direct : isClear p Adaptive S D ≡ false) where
+  pub pair-near :
+      (straight : Bool) → straight ≡ inRows fd 0 t → (notes : List ℕ) → NotedBetween p S D notes → (note : ℕ) → NoteTo p S D note → 4096 ≤ note → NearLost p w s words count ta S D a t fa straight note notes
+  pair-near straight es notes noted note own over = record {
     words = words;
     count = count;
+    of-plan = g .prepared .of-plan;
     weights = ew;
-    of-plan = k;
-    standing = all-near p s words count k S D;
-    source = from;
+    standing = all-near p s words count (g .prepared .of-plan) S D;
+    masks = g .prepared .adaptive;
+    source = g .source;
     target = to;
-    ended = ended;
-    out = out;
-    direct = sym (leg-is Adaptive direct ed) ∙ left;
-    one = leg-is Deterministic straight es;
-    room = room;
+    adaptive = g .adaptive;
+    direct = direct;
+    one = has-is p Deterministic fd S D t (g .deterministic) to straight es;
+    own = own;
+    over = over;
+    noted = noted;
   }
 
-  pub far-known : (masks others fa fd : List ℕ) (r : Outcome) (b : Bool) (run : List ℕ) → Ended Adaptive false s t masks → Ended Deterministic false s t others → FromSet p Adaptive S fa → FromSet p Deterministic S fd →
-      NearDone p S D r run → b ≡ isGiven r → b ≡ false → FarMasks p w s words count S D a t words count masks others fa fd run
-  far-known masks others fa fd r b run ea ed out straight done e left = record {
+  pub pair-far : (notes : List ℕ) → Noted p S notes → (note : ℕ) → note ≡ getD notes D 0 → isClear p Deterministic S D ≡ false → FarLost p w s words count ta td S D a t fa note notes
+  pair-far notes noted note own blocked = record {
+    of-plan = g .prepared .of-plan;
     weights = ew;
-    ends = record { of-plan = k; node = to; adaptive = ea; deterministic = ed };
-    standing = all-near p s words count k S D;
-    source = from;
-    out = out;
-    straight = straight;
-    set = done .set (sym e ∙ left);
-    blocked = none-given p S D r b (done .near) e left;
+    masks = g .prepared .adaptive;
+    others = g .prepared .deterministic;
+    source = g .source;
+    target = to;
+    adaptive = g .adaptive;
+    direct = direct;
+    blocked = blocked;
+    own = own;
+    noted = noted;
   }
+
+-- ---- the lowest via between the ends
+module _ (p : List ℕ) (w : Weights) (ew : w ≡ weightsOf p) (s : Shape) (words : List ℕ) (count : ℕ) (k : OfPlan p s words count) (S D : ℕ) (a t : Coords) (from : IsAt p S a) (to : IsAt p D t) where
+  pub pair-between : (masks run : List ℕ) → Ended Adaptive false s t masks → 256 ≤ length run → Between p Adaptive s S D a t words count masks run 0
+  pair-between masks run ended room = record { words = words; count = count; of-plan = k; standing = all-near p s words count k S D; source = from; target = to; ended = ended; room = omega arith }
+
+  pub pair-via :
+      (fa run new : List ℕ) → FromSet p Adaptive S fa → 256 ≤ length run → BetweenMade p Adaptive S D 0 run new → (b : Box) → b ≡ boxOf s a t →
+      (via : ℕ) → FirstOf (nodeCount s) (isVia s (b .x) (b .y) (b .z) fa new 0) via → via < 4096 → isClear p Adaptive S D ≡ false →
+      (len : ℕ) → len ≡ distanceWord w s a t → (o : Outcome) → o ≡ viaRoute via len → o ≡ routeTold p S D
+  unfolding viaRoute
+  pair-via fa run new out room made b eb via first low direct len el o eo =
+      let note = here-near p s S D a t (k .plan) (k .shape) from to fa new 0 out (made .set) (omega (arith, made .rest .long)) b eb via first low in
+      let apart : Apart p s S D len = record {
+        plan = k .plan;
+        shape = k .shape;
+        source = from .node;
+        target = to .node;
+        distance = length-is p w s S D a t len (k .plan) ew (k .shape) from to el;
+        direct = direct;
+      } in
+      eo ∙ rw (lt-ltb via 4096 low) (by-own p s S D len apart via note low)

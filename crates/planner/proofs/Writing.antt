@@ -24,7 +24,7 @@ use Rattle.choice.specs.declared.outcome.Outcome.{Outcome}
 use Rattle.choice.specs.Outcome.{told}
 use Rattle.choice.specs.Pair.{farIn, pair}
 use Rattle.routes.specs.declared.layout.Entry.{Entry}
-use Rattle.routes.specs.Layout.{mostEntries}
+use Rattle.routes.specs.Layout.{mostEntries, mostBytes}
 use Rattle.routes.specs.Said.{entryFor, heard}
 use Rattle.planner.specs.declared.outside.At.{At}
 use Rattle.planner.specs.Outside.{placeOf, Stands, NextOutside}
@@ -32,11 +32,10 @@ use Rattle.route_value.specs.Making.{Holds, Added}
 use Rattle.route_value.proofs.InPlace.{none-held}
 use Rattle.losses.specs.OfPlan.{AreLosses}
 use Rattle.masks.specs.Masks.{Masked}
-use Rattle.first_clear.specs.Known.{isClear, IsAt}
+use Rattle.notes.specs.Known.{isClear, IsAt}
 use Rattle.planner.specs.Known.{Work, Prepared, Ready, Listed}
 use Rattle.planned_sheet.specs.Sheet.{sourceError}
-use Rattle.first_clear.proofs.Knowing.{shape-ok}
-use Rattle.first_clear.proofs.FirstSteps.{nodes-few}
+use Rattle.notes.proofs.Knowing.{shape-ok, nodes-few}
 use Rattle.planner.proofs.Standing.{starts, stands-end, stands-below, stands-node, stands-at}
 use Rattle.planned_sheet.proofs.Planning.{Source, source-of}
 use Rattle.planned_sheet.proofs.Listing as Lists
@@ -129,7 +128,7 @@ module _ (p : List ℕ) (s : Shape) (words : List ℕ) (count : ℕ) (dead ta td
         let all = ended p S (g .entries) (at .node) (g .listing) (omega arith) in
         record { held = λ w. rw (← all) (g .held w); many = sym (g .long) ∙ ap length all }
 
-  pub begun : (bytes : List ℕ) → 20482 ≤ length bytes → (r : At) → NextOutside s fa (record { node = 0; x = 0; y = 0; z = 0 }) r → Going p s words count dead ta td work S a fa fd bytes 0 r
+  pub begun : (bytes : List ℕ) → mostBytes ≤ length bytes → (r : At) → NextOutside s fa (record { node = 0; x = 0; y = 0; z = 0 }) r → Going p s words count dead ta td work S a fa fd bytes 0 r
   begun bytes b r next = found bytes 0 _ r (starts s ok) next [] (begin p S) (λ _. none-held bytes b) refl
 
 -- What is made of a plan for its sound source S, with no sets to its nodes.

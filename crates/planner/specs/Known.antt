@@ -2,20 +2,24 @@
 use Prim.Native.Nat.{ℕ, _+_, _*_, _≤_, _<_}
 use mathlib.Core.Path.{_≡_}
 use mathlib.Core.Logic.{_⊎_}
-use mathlib.Core.Bool.{false}
+use mathlib.Core.Bool.{Bool, true, false}
 use mathlib.Core.List.{List}
 use lib.ListN.{length, getD}
 use Rattle.shape.specs.declared.shape.Shape.{Shape}
 use Rattle.shape.specs.declared.shape.Coords.{Coords}
 use Rattle.machine.specs.declared.leg.Mode.the-variants.{Adaptive, Deterministic}
 use Rattle.machine.specs.Number.{nodeCount, coordsOf}
-use Rattle.plan.specs.Layout.{shapeOf, faultsOf}
-use Rattle.plan.specs.Checks.{large}
+use Rattle.machine.specs.Hop.{hops}
+use Rattle.weights.specs.declared.weights.Weights.{Weights}
+use Rattle.plan.specs.Layout.{shapeOf, weightsOf, faultsOf}
+use Rattle.plan.specs.Checks.{large, planError}
 use Rattle.dead.specs.Dead.{deadNode, bitOf, nodeAnswer}
+use Rattle.rows.specs.Rows.{inSet}
 use Rattle.masks.specs.Masks.{Masked}
 use Rattle.route_value.specs.Making.{Holds}
 use Rattle.planned_sheet.specs.Sheet.{entriesFrom}
-use Rattle.first_clear.specs.Known.{OfPlan, IsAt, FromSet, BothTo, NearLosses}
+use Rattle.notes.specs.Known.{isClear, OfPlan, IsAt, FromSet, BothTo, NearLosses, NoteTo}
+use Rattle.first_clear.specs.Known.{Noted}
 
 -- A run with both sets to each node, 512 rows a node.
 pub record Filled (p work : List ℕ) : Type 0 where
@@ -55,6 +59,37 @@ pub record Ready (p : List ℕ) (s : Shape) (words : List ℕ) (count : ℕ) (de
   pub alive : deadNode (faultsOf p) S ≡ false
   pub adaptive : FromSet p Adaptive S fa
   pub deterministic : FromSet p Deterministic S fd
+
+-- The notes of the nodes that are not in the set `skip`, and of those to which the direct adaptive leg is clear.
+pub record NotesMade (p : List ℕ) (S : ℕ) (skip notes : List ℕ) : Type 0 where
+  pub outside : (w : ℕ) → w < nodeCount (shapeOf p) → inSet (shapeOf p) skip 0 w ≡ false → NoteTo p S w (getD notes w 0)
+  pub direct : (w : ℕ) → w < nodeCount (shapeOf p) → isClear p Adaptive S w ≡ true → NoteTo p S w (getD notes w 0)
+
+-- The ends of a pair, and the nodes that do not lie between them.
+pub record Ends (p : List ℕ) (s : Shape) (S D : ℕ) (a t : Coords) : Type 0 where
+  pub plan : planError large p ≡ 0
+  pub shape : s ≡ shapeOf p
+  pub source : IsAt p S a
+  pub target : IsAt p D t
+
+abbrev pub Beside : List ℕ → ℕ → ℕ → List ℕ → Type 0
+Beside p S D rows = (w : ℕ) → w < nodeCount (shapeOf p) → hops (shapeOf p) S w + hops (shapeOf p) w D ≡ hops (shapeOf p) S D → inSet (shapeOf p) rows 0 w ≡ false
+
+-- One destination, by the losses and the masks of all targets.
+pub record ByLosses (p : List ℕ) (w : Weights) (s : Shape) (words : List ℕ) (count : ℕ) (near : List ℕ) (n : ℕ) (ta td : List ℕ) (S D : ℕ) (a t : Coords) (fa : List ℕ) (straight : Bool) (note : ℕ) (notes : List ℕ) : Type 0 where
+  pub of-plan : OfPlan p s words count
+  pub weights : w ≡ weightsOf p
+  pub standing : NearLosses p S D words count near n
+  pub masks : Masked Adaptive false s ta
+  pub others : Masked Deterministic false s td
+  pub source : IsAt p S a
+  pub target : IsAt p D t
+  pub adaptive : FromSet p Adaptive S fa
+  pub direct : isClear p Adaptive S D ≡ false
+  pub one : straight ≡ isClear p Deterministic S D
+  pub own : note ≡ getD notes D 0
+  pub over : 4096 ≤ note
+  pub noted : Noted p S notes
 
 -- The entries of the sheet from S are so many; and the bytes hold them, if the run `work` is empty or has the sets to all nodes.
 pub record Listed (p work : List ℕ) (S : ℕ) (bytes : List ℕ) (count : ℕ) : Type 0 where

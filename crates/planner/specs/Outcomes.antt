@@ -11,7 +11,7 @@ use Rattle.packet.specs.declared.route.Route.{Route}
 use Rattle.choice.specs.declared.outcome.Outcome.{Outcome}
 use Rattle.choice.specs.Outcome.{told}
 use Rattle.choice.specs.Pair.{farIn, pair}
-use Rattle.choice_number.specs.KeyNumber.{pickOutcome}
+use Rattle.choice_number.specs.Told.{pickOutcome}
 use Rattle.planned_sheet.specs.Sheet.{sourceError}
 
 -- What an array of outcomes holds of no destination.

@@ -11,6 +11,7 @@ use masks::table::table;
 use numbers::OUTPUT_SHORT;
 use plan::layout::shape_in;
 use route_value::put_made;
+use routes::layout::SHEET_BYTES;
 use shape::Shape;
 use sheet::output::Written;
 ghost use mathlib.Core.Path.{_≡_};
@@ -22,7 +23,7 @@ ghost use Rattle.machine.specs.Number.{nodeCount};
 ghost use Rattle.plan.specs.Layout.{shapeOf};
 ghost use Rattle.plan.specs.Checks.{large, planError};
 ghost use Rattle.masks.specs.Masks.{Masked};
-ghost use Rattle.first_clear.specs.Known.{OfPlan};
+ghost use Rattle.notes.specs.Known.{OfPlan};
 ghost use Rattle.planner.specs.Run.{RunMade};
 ghost use Rattle.planner.specs.Known.{Filled, Work, Prepared};
 ghost use Rattle.planner.specs.Steps.{stepOf, Boarded};
@@ -79,7 +80,7 @@ fn write_board(
     let a = coords(shape, source);
     let adaptive = gather(sa, a);
     let deterministic = gather(sd, a);
-    let mut bytes = [0u8; 20482];
+    let mut bytes = [0u8; SHEET_BYTES];
     let entries = routes_from(
         plan,
         shape,

@@ -1,35 +1,69 @@
 // What planning answers for one destination.
 use choice::Outcome;
-use first_clear::dest::by_losses;
 use first_clear::dest::by_sets;
+use first_clear::dest::far_by_losses;
+use first_clear::dest::near_by_losses;
+use first_clear::near::is_given;
+use first_clear::near::via_outcome;
 use machine::leg::Mode;
 use numbers::DEAD_END;
 use packet::Route;
+use rows::member::has;
 use shape::Coords;
 use shape::Shape;
 use weights::Weights;
 use weights::distance::distance_at;
 ghost use mathlib.Core.Path.{_≡_};
-ghost use Prim.Native.Nat.{_<_};
+ghost use mathlib.Core.List.{List};
+ghost use Prim.Native.Nat.{ℕ};
 ghost use lib.ListN.{length};
 ghost use Rattle.plan.specs.Layout.{weightsOf};
 ghost use Rattle.plan.specs.Checks.{large};
 ghost use Rattle.choice.specs.Outcome.{told};
 ghost use Rattle.choice.specs.Pair.{farIn, pair};
-ghost use Rattle.rows.specs.Rows.{inRows};
-ghost use Rattle.first_clear.specs.Known.{IsAt, NearLosses};
-ghost use Rattle.planner.specs.Known.{Work, Ready};
+ghost use Rattle.notes.specs.Known.{IsAt, NearLosses};
+ghost use Rattle.first_clear.specs.Known.{routeTold, Noted};
+ghost use Rattle.planner.specs.Known.{Work, Ready, ByLosses};
 
-fn has(rows: &[u16; 256], c: Coords) -> bool
-    requires { ⌜ (c .x < 16) × (c .y < 16) × (c .z < 16) ⌝ }
-    ensures { λ r. ⌜ r ≡ inRows (now (rows .entry)) 0 c ⌝ }
+// By the losses, for a destination whose note is not below 4096: the steps on the shortest ways, then the last one.
+fn by_losses(
+    weights: Weights,
+    shape: Shape,
+    words: &[u16; 256],
+    count: usize,
+    near: &[u16; 256],
+    nears: usize,
+    ta: &[u16; 4608],
+    td: &[u16; 4608],
+    a: Coords,
+    t: Coords,
+    fa: &[u16; 256],
+    straight: bool,
+    note: u32,
+    notes: &[u32; 4096],
+) -> Outcome
+    ensures { λ r. ⌜ ((p : List ℕ) (S D : ℕ) → ByLosses p weights shape (now (words .entry)) count (now (near .entry)) nears (now (ta .entry)) (now (td .entry)) S D a t (now (fa .entry)) straight note (now (notes .entry)) → r ≡ routeTold p S D) ⌝ }
 {
-    let r = c.y as usize + 16 * c.z as usize;
-    (rows[r] >> (c.x as u16)) % 2 == 1
+    let first = near_by_losses(
+        weights,
+        shape,
+        near,
+        nears,
+        ta,
+        a,
+        t,
+        fa,
+        straight,
+        note,
+        notes,
+    );
+    if is_given(first) {
+        return first;
+    }
+    far_by_losses(weights, shape, words, count, ta, td, a, t, fa, note, notes)
 }
 
-// For a sound destination to which the direct adaptive leg is not clear: by the sets to all nodes where the run has them, else by the losses. `near`: losses that
-// stand for all on the shortest ways.
+// Directly, dead, by its note, by the sets to all nodes where the run has them, else by the losses. `near`: losses that stand for all on the shortest ways.
 pub fn outcome_to(
     plan: &[u8],
     weights: Weights,
@@ -46,6 +80,7 @@ pub fn outcome_to(
     a: Coords,
     fa: &[u16; 256],
     fd: &[u16; 256],
+    notes: &[u32; 4096],
     dest: u16,
     t: Coords,
 ) -> Outcome
@@ -53,19 +88,22 @@ pub fn outcome_to(
     requires { ⌜ IsAt (now plan) dest t ⌝ }
     requires { ⌜ (length (now work) ≡ 0 → NearLosses (now plan) source dest (now words) count (now near) nears) ⌝ }
     requires { ⌜ weights ≡ weightsOf (now plan) ⌝ }
-    ensures { λ r. ⌜ (Work (now (plan .entry)) (now (work .entry)) → r ≡ told (farIn (now (plan .entry))) source (pair large (now (plan .entry)) source dest)) ⌝ }
+    ensures { λ r. ⌜ (Work (now (plan .entry)) (now (work .entry)) → Noted (now (plan .entry)) source (now (notes .entry)) → r ≡ told (farIn (now (plan .entry))) source (pair large (now (plan .entry)) source dest)) ⌝ }
 {
-    if has(fa, t) {
-        return Outcome::Given(
-            Route::Direct(Mode::Adaptive),
-            distance_at(weights, shape, a, t),
-        );
+    let length = distance_at(weights, shape, a, t);
+    if has(fa, 0, t) {
+        return Outcome::Given(Route::Direct(Mode::Adaptive), length);
     }
     let at = dest as usize;
     if dead[at] != 0 {
         return Outcome::Refused(DEAD_END);
     }
-    let straight = has(fd, t);
+    let note = notes[at];
+    let first = via_outcome(note, length);
+    if is_given(first) {
+        return first;
+    }
+    let straight = has(fd, 0, t);
     if work.len() == 0 {
         return by_losses(
             weights,
@@ -79,9 +117,10 @@ pub fn outcome_to(
             a,
             t,
             fa,
-            fd,
             straight,
+            note,
+            notes,
         );
     }
-    by_sets(weights, shape, work, dest, a, t, fa, fd, straight)
+    by_sets(weights, shape, work, dest, a, t, fa, straight, note, notes)
 }

@@ -1,7 +1,7 @@
 // A workspace with both sets to every node, 512 rows a node.
-use first_clear::sets_of::put_both;
 use machine::node::coords;
 use masks::table::gather;
+use notes::sets_of::put_both;
 use shape::Shape;
 ghost use mathlib.Core.Path.{_≡_};
 ghost use mathlib.Core.Bool.{false};
@@ -11,7 +11,7 @@ ghost use Rattle.machine.specs.declared.leg.Mode.the-variants.{Adaptive, Determ
 ghost use Rattle.machine.specs.Number.{nodeCount};
 ghost use Rattle.plan.specs.Layout.{shapeOf};
 ghost use Rattle.masks.specs.Masks.{Masked};
-ghost use Rattle.first_clear.specs.Known.{OfPlan};
+ghost use Rattle.notes.specs.Known.{OfPlan};
 ghost use Rattle.planner.specs.Known.{Filled};
 
 // Of an accepted plan with `all` nodes, by the masks of all targets.

@@ -4,6 +4,7 @@ mod dest;
 mod errors;
 mod fill;
 mod listed;
+mod noting;
 pub mod outcomes;
 mod outside;
 pub mod pair;

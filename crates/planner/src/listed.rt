@@ -1,11 +1,12 @@
 // What a route sheet from a source lists: the destinations to which the direct adaptive leg is not clear.
 use crate::dest::outcome_to;
+use crate::noting::notes_from;
 use crate::outside::At;
 use crate::outside::next_outside;
 use crate::sifted::NO_ROW;
 use crate::sifted::renew;
 use crate::sifted::row_at;
-use first_clear::sets_of::from_masks;
+use notes::sets_of::from_masks;
 use plan::layout::weights_in;
 use route_value::set_entry;
 use routes::kinds::entry_for;
@@ -18,9 +19,11 @@ ghost use lib.ListN.{length};
 ghost use Rattle.machine.specs.declared.leg.Mode.the-variants.{Adaptive, Deterministic};
 ghost use Rattle.plan.specs.Layout.{faultsOf};
 ghost use Rattle.dead.specs.Dead.{deadNode};
+ghost use Rattle.routes.specs.Layout.{mostBytes};
 ghost use Rattle.masks.specs.Masks.{Ended};
-ghost use Rattle.first_clear.specs.Known.{IsAt};
-ghost use Rattle.planner.specs.Known.{Prepared, Ready, Listed};
+ghost use Rattle.notes.specs.Known.{IsAt};
+ghost use Rattle.first_clear.specs.Known.{Noted};
+ghost use Rattle.planner.specs.Known.{Work, Prepared, Ready, Listed};
 
 // The sets from the source, and what is known of the plan; the entries go to their places in the bytes of a sheet. Each destination is planned once, with the losses that can lie on the shortest ways to its row.
 fn list(
@@ -36,10 +39,12 @@ fn list(
     a: Coords,
     fa: &[u16; 256],
     fd: &[u16; 256],
+    notes: &[u32; 4096],
     bytes: &mut [u8],
 ) -> u16
     requires { ⌜ Ready (now plan) shape (now words) count (now dead) (now ta) (now td) (now work) source a (now fa) (now fd) ⌝ }
-    requires { ⌜ 20482 ≤ length (now bytes) ⌝ }
+    requires { ⌜ (Work (now plan) (now work) → Noted (now plan) source (now notes)) ⌝ }
+    requires { ⌜ mostBytes ≤ length (now bytes) ⌝ }
     ensures { λ r. ⌜ Listed (now (plan .entry)) (now (work .entry)) source (now (bytes .exit)) r ⌝ }
 {
     let weights = weights_in(plan);
@@ -82,6 +87,7 @@ fn list(
             a,
             fa,
             fd,
+            notes,
             dest,
             t,
         );
@@ -122,11 +128,27 @@ pub fn routes_from(
     requires { ⌜ Ended Adaptive true shape a (now adaptive) ⌝ }
     requires { ⌜ Ended Deterministic true shape a (now deterministic) ⌝ }
     requires { ⌜ deadNode (faultsOf (now plan)) source ≡ false ⌝ }
-    requires { ⌜ 20482 ≤ length (now bytes) ⌝ }
+    requires { ⌜ mostBytes ≤ length (now bytes) ⌝ }
     ensures { λ r. ⌜ Listed (now (plan .entry)) (now (work .entry)) source (now (bytes .exit)) r ⌝ }
 {
     let fa = from_masks(words, count, adaptive);
     let fd = from_masks(words, count, deterministic);
+    let notes = notes_from(
+        plan,
+        weights_in(plan),
+        shape,
+        words,
+        count,
+        dead,
+        ta,
+        td,
+        work,
+        source,
+        a,
+        &fa,
+        &fd,
+        &fa,
+    );
     list(
         plan,
         shape,
@@ -140,6 +162,7 @@ pub fn routes_from(
         a,
         &fa,
         &fd,
+        &notes,
         bytes,
     )
 }

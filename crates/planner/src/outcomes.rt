@@ -1,5 +1,6 @@
 // What planning answers for every destination of a source.
 use crate::dest::outcome_to;
+use crate::noting::notes_from;
 use crate::outside::At;
 use crate::outside::following;
 use crate::sheets::source_error;
@@ -8,11 +9,11 @@ use crate::sifted::renew;
 use crate::sifted::row_at;
 use choice::Outcome;
 use dead::dead_nodes;
-use first_clear::sets_of::from_set;
 use losses::losses;
 use machine::leg::Mode;
 use machine::node::coords;
 use masks::table::table;
+use notes::sets_of::from_set;
 use packet::Route;
 use plan::layout::shape_in;
 use plan::layout::weights_in;
@@ -26,7 +27,8 @@ ghost use Rattle.plan.specs.Layout.{faultsOf};
 ghost use Rattle.plan.specs.Checks.{large};
 ghost use Rattle.dead.specs.Dead.{deadNode};
 ghost use Rattle.planned_sheet.specs.Sheet.{sourceError};
-ghost use Rattle.first_clear.specs.Known.{IsAt};
+ghost use Rattle.notes.specs.Known.{IsAt};
+ghost use Rattle.first_clear.specs.Known.{Noted};
 ghost use Rattle.planner.specs.Known.{Work, Prepared, Ready};
 ghost use Rattle.planner.specs.Outcomes.{noOutcome, outcomeAt};
 
@@ -44,9 +46,11 @@ fn all_outcomes(
     a: Coords,
     fa: &[u16; 256],
     fd: &[u16; 256],
+    notes: &[u32; 4096],
 ) -> [Outcome; 4096]
     requires { ⌜ Ready (now plan) shape (now words) count (now dead) (now ta) (now td) (now work) source a (now fa) (now fd) ⌝ }
     requires { ⌜ Work (now plan) (now work) ⌝ }
+    requires { ⌜ Noted (now plan) source (now notes) ⌝ }
     ensures { λ r. ⌜ ((d : ℕ) → getD r d noOutcome ≡ outcomeAt large (now (plan .entry)) source d) ⌝ }
 {
     let weights = weights_in(plan);
@@ -86,6 +90,7 @@ fn all_outcomes(
             a,
             fa,
             fd,
+            notes,
             dest,
             t,
         );
@@ -115,6 +120,22 @@ fn outcomes_by(
 {
     let fa = from_set(Mode::Adaptive, shape, words, count, a);
     let fd = from_set(Mode::Deterministic, shape, words, count, a);
+    let notes = notes_from(
+        plan,
+        weights_in(plan),
+        shape,
+        words,
+        count,
+        dead,
+        ta,
+        td,
+        work,
+        source,
+        a,
+        &fa,
+        &fd,
+        &fa,
+    );
     all_outcomes(
         plan,
         shape,
@@ -128,6 +149,7 @@ fn outcomes_by(
         a,
         &fa,
         &fd,
+        &notes,
     )
 }
 

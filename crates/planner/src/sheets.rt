@@ -12,6 +12,7 @@ use masks::table::table;
 use plan::check;
 use plan::layout::shape_in;
 use route_value::put_made;
+use routes::layout::SHEET_BYTES;
 use sheet::output::Written;
 ghost use mathlib.Core.Path.{_≡_};
 ghost use mathlib.Core.List.{[]};
@@ -19,6 +20,7 @@ ghost use Prim.Native.Nat.{_≤_};
 ghost use lib.ListN.{length};
 ghost use Rattle.sheet.specs.Output.{roomError, written, outAfter};
 ghost use Rattle.plan.specs.Checks.{large};
+ghost use Rattle.routes.specs.Layout.{mostBytes};
 ghost use Rattle.planned_sheet.specs.Sheet.{sourceError, plannedSheet};
 ghost use Rattle.planner.specs.Known.{Listed};
 
@@ -34,7 +36,7 @@ pub fn source_error(plan: &[u8], source: u16) -> u8
 // The entries of a sheet from a sound source, in their places of its bytes, by the losses: in fixed memory, with no set to any node kept.
 fn planned(plan: &[u8], source: u16, bytes: &mut [u8]) -> u16
     requires { ⌜ sourceError large (now plan) source ≡ 0 ⌝ }
-    requires { ⌜ 20482 ≤ length (now bytes) ⌝ }
+    requires { ⌜ mostBytes ≤ length (now bytes) ⌝ }
     ensures { λ r. ⌜ Listed (now (plan .entry)) [] source (now (bytes .exit)) r ⌝ }
 {
     let shape = shape_in(plan);
@@ -73,7 +75,7 @@ pub fn write_sheet(plan: &[u8], source: u16, out: &mut [u8]) -> Written
     if error != 0 {
         return Written::Refused(error);
     }
-    let mut bytes = [0u8; 20482];
+    let mut bytes = [0u8; SHEET_BYTES];
     let count = planned(plan, source, &mut bytes);
     put_made(source, count, &mut bytes, out)
 }

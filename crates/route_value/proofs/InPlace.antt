@@ -14,16 +14,16 @@ use Rattle.sheet.specs.Output as Output
 use Rattle.sheet.specs.Output.{roomError, outAfter}
 use Rattle.sheet.specs.Records.{recordsBytes}
 use Rattle.routes.specs.declared.layout.Entry.{Entry}
-use Rattle.routes.specs.Layout.{written, entryForm, entriesAt, mostEntries}
+use Rattle.routes.specs.Layout.{written, entryForm, entriesAt, entryPlace, mostEntries, mostBytes}
 use Rattle.route_value.specs.Writing.{sheetBytes}
 use Rattle.route_value.specs.Steps.{putHead, putEntry}
 use Rattle.route_value.specs.Making.{Holds, Added, PutMade}
 use Rattle.route_value.proofs.Forms.{entry-row, head-take, head-past}
 
-more : (es : List Entry) (e : Entry) → recordsBytes (entryForm written) (es ++ (e ∷ [])) ≡ recordsBytes (entryForm written) es ++ entryForm written .bytes e
+more : (es : List Entry) (e : Entry) → recordsBytes entryForm (es ++ (e ∷ [])) ≡ recordsBytes entryForm es ++ entryForm .bytes e
 unfolding recordsBytes
 more [] e = refl
-more (x ∷ es) e = ap (λ (l : List ℕ). entryForm written .bytes x ++ l) (more es e)
+more (x ∷ es) e = ap (λ (l : List ℕ). entryForm .bytes x ++ l) (more es e)
 
 -- A row of bytes that is put past the first n.
 drop-row : (vs l : List ℕ) (n i : ℕ) → drop n (sets l (n + i) vs) ≡ sets (drop n l) i vs
@@ -38,25 +38,25 @@ take-row vs l i h =
     rw (sets-eq vs l i h) (take-at (take i l ++ vs) _ (i + length vs) n)
 
 -- ---- the entries
-pub none-held : (bytes : List ℕ) → entriesAt + 5 * mostEntries ≤ length bytes → Holds [] bytes
+pub none-held : (bytes : List ℕ) → mostBytes ≤ length bytes → Holds [] bytes
 unfolding recordsBytes
 none-held bytes h = record { room = h; entries = refl }
 
 pub added : (bytes after : List ℕ) (i : ℕ) (e : Entry) → after ≡ putEntry bytes i e → Added bytes i e after
 added bytes after i e q es g n h =
-    let vs = entryForm written .bytes e in
+    let vs = entryForm .bytes e in
     let rest = drop entriesAt bytes in
-    let k : after ≡ sets bytes (entriesAt + 5 * i) vs = q ∙ entry-row bytes i e in
-    let long : length after ≡ length bytes = ap length k ∙ length-sets bytes (entriesAt + 5 * i) vs in
-    let size : 5 * length (es ++ (e ∷ [])) ≡ 5 * i + 5 = omega (arith, length-append es (e ∷ [])) in
-    let front : take (5 * i) rest ≡ recordsBytes (entryForm written) es = rw n at (g .entries) in
-    let fits : 5 * i + 5 ≤ length rest = omega (arith, length-drop entriesAt bytes, g .room) in
+    let k : after ≡ sets bytes (entryPlace written i) vs = q ∙ entry-row bytes i e in
+    let long : length after ≡ length bytes = ap length k ∙ length-sets bytes (entryPlace written i) vs in
+    let size : 7 * length (es ++ (e ∷ [])) ≡ 7 * i + 7 = omega (arith, length-append es (e ∷ [])) in
+    let front : take (7 * i) rest ≡ recordsBytes entryForm es = rw n at (g .entries) in
+    let fits : 7 * i + 7 ≤ length rest = omega (arith, length-drop entriesAt bytes, g .room) in
     record {
       room = omega (arith, g .room);
       entries =
           ap (λ (m : ℕ). take m (drop entriesAt after)) size
-          ∙ ap (take (5 * i + 5)) (ap (drop entriesAt) k ∙ drop-row vs bytes entriesAt (5 * i))
-          ∙ take-row vs rest (5 * i) fits
+          ∙ ap (take (7 * i + 7)) (ap (drop entriesAt) k ∙ drop-row vs bytes entriesAt (7 * i))
+          ∙ take-row vs rest (7 * i) fits
           ∙ ap (λ (l : List ℕ). l ++ vs) front
           ∙ sym (more es e);
     }
@@ -65,7 +65,7 @@ added bytes after i e q es g n h =
 pub no-entry : (bytes : List ℕ) (i : ℕ) (e : Entry) → mostEntries ≤ i → Added bytes i e bytes
 no-entry bytes i e m es g n h = absurd (omega arith)
 
-pub no-place : (bytes : List ℕ) (i : ℕ) (e : Entry) → length bytes < entriesAt + 5 * i + 5 → Added bytes i e bytes
+pub no-place : (bytes : List ℕ) (i : ℕ) (e : Entry) → length bytes < entryPlace written i + 7 → Added bytes i e bytes
 no-place bytes i e m es g n h = absurd (omega (arith, g .room))
 
 -- ---- the sheet
@@ -90,26 +90,26 @@ module _ (S count : ℕ) (bytes o : List ℕ) where
   pub too-many : mostEntries < count → PutMade S count bytes o (Refused wrongRouteSheet) o
   too-many h = record { many = λ _. (refl, refl); short = λ _. (refl, refl); refused = λ n r. refl; fits = λ n r. refused-bytes wrongRouteSheet n r; made = λ es g n m. absurd (omega arith) }
 
-  pub too-short : length bytes < entriesAt + 5 * count → PutMade S count bytes o (Refused wrongRouteSheet) o
+  pub too-short : length bytes < entryPlace written count → PutMade S count bytes o (Refused wrongRouteSheet) o
   too-short h = record { many = λ _. (refl, refl); short = λ _. (refl, refl); refused = λ n r. refl; fits = λ n r. refused-bytes wrongRouteSheet n r; made = λ es g n m. absurd (omega (arith, g .room)) }
 
   module _ (head : List ℕ) (q : head ≡ putHead bytes S count) where
-    front : (es : List Entry) → Holds es bytes → length es ≡ count → take (entriesAt + 5 * count) head ≡ sheetBytes written S es
+    front : (es : List Entry) → Holds es bytes → length es ≡ count → take (entryPlace written count) head ≡ sheetBytes S es
     unfolding sheetBytes
     front es g n =
-        let k : take (5 * count) (drop entriesAt bytes) ≡ recordsBytes (entryForm written) es = rw n at (g .entries) in
-        ap (take (entriesAt + 5 * count)) q
-        ∙ take-add entriesAt (5 * count) (putHead bytes S count)
+        let k : take (7 * count) (drop entriesAt bytes) ≡ recordsBytes entryForm es = rw n at (g .entries) in
+        ap (take (entryPlace written count)) q
+        ∙ take-add entriesAt (7 * count) (putHead bytes S count)
         ∙ rw (head-take bytes S count (omega (arith, g .room)), head-past bytes S count entriesAt (omega arith), k, n)
 
     pub whole-made :
-        (w : Written) (t : List ℕ) → count ≤ mostEntries → entriesAt + 5 * count ≤ length bytes →
-        (w ≡ Output.written (roomError 0 (take (entriesAt + 5 * count) head) o) (take (entriesAt + 5 * count) head)) × (t ≡ outAfter (roomError 0 (take (entriesAt + 5 * count) head) o) (take (entriesAt + 5 * count) head) o) →
+        (w : Written) (t : List ℕ) → count ≤ mostEntries → entryPlace written count ≤ length bytes →
+        (w ≡ Output.written (roomError 0 (take (entryPlace written count) head) o) (take (entryPlace written count) head)) × (t ≡ outAfter (roomError 0 (take (entryPlace written count) head) o) (take (entryPlace written count) head) o) →
         PutMade S count bytes o w t
     whole-made w t m b put = record {
       many = λ h. absurd (omega arith);
       short = λ h. absurd (omega arith);
-      refused = λ n r. left (roomError 0 (take (entriesAt + 5 * count) head) o) (take (entriesAt + 5 * count) head) o t w n put r;
-      fits = λ n r. within (take (entriesAt + 5 * count) head) o w n (put .0) r;
+      refused = λ n r. left (roomError 0 (take (entryPlace written count) head) o) (take (entryPlace written count) head) o t w n put r;
+      fits = λ n r. within (take (entryPlace written count) head) o w n (put .0) r;
       made = λ es g n _. rw (front es g n) at put;
     }

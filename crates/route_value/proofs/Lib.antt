@@ -5,4 +5,5 @@ pub mod Many
 pub mod Readings
 pub mod Rewriting
 pub mod RoundTrips
+pub mod Back
 pub mod InPlace

@@ -17,18 +17,17 @@ use Rattle.shape.specs.declared.shape.Shape.{Shape}
 use Rattle.machine.specs.Node.{isNode}
 use Rattle.plan.specs.Layout.{shapeOf}
 use Rattle.plan.specs.Checks.{Limits, planError}
-use Rattle.routes.specs.Layout.{formatBy, formatOf, written, source, entryCount, entryAt, noEntry, mostEntries}
-use Rattle.routes.specs.Kinds.{viaKind, plainKind}
+use Rattle.routes.specs.Layout.{formatOf, entriesIn, source, entryCount, entryAt, noEntry, mostEntries}
+use Rattle.routes.specs.Kinds.{viaKind, viasKind, plainKind}
 use Rattle.routes.specs.Checks.{headGood, viaGood, entryGood, entriesGood, routesGood, goodIn, sheetGood, errorIn, sheetError}
-use Rattle.routes.specs.Writing.{writeError}
 use Rattle.routes.proofs.Sheets.{checked}
 use Rattle.routes.proofs.Rising.{each-good}
 use Rattle.route_value.specs.declared.reading.Routes.{Routes}
-use Rattle.route_value.specs.Writing.{routeEntries, sheetOf}
-use Rattle.route_value.proofs.Writings.{own-format, count-read, entry-read, entries-count}
+use Rattle.route_value.specs.Writing.{routeEntries, sheetOf, writeError}
+use Rattle.route_value.proofs.Writings.{count-read, entry-read, entries-count}
 
-no-entry-bad : (m : Shape) (S : ℕ) → viaGood written m S noEntry ≡ false
-unfolding viaGood viaKind plainKind
+no-entry-bad : (m : Shape) (S : ℕ) → viaGood m S noEntry ≡ false
+unfolding viaGood viasKind viaKind plainKind
 no-entry-bad m S = refl
 
 past : (r : Routes) (k : ℕ) → length (r .entries) ≤ k → k < r .count → getD (routeEntries r) k noEntry ≡ noEntry
@@ -43,22 +42,25 @@ module _ (r : Routes) (long : length (r .entries) ≡ mostEntries) (many : mostE
   unfolding sheetOf
   no-entry =
       let z = past r mostEntries (omega arith) many in
-      entry-read (r .source) (routeEntries r) mostEntries (omega (arith, entries-count r)) (rw z (record { dest = omega arith; via = omega arith })) ∙ z
+      entry-read (r .source) (routeEntries r) mostEntries (omega (arith, entries-count r)) (rw z (record { dest = omega arith; via = omega arith; second = omega arith })) ∙ z
+
+  of-own : (s : List ℕ) (m : Shape) (S : ℕ) → entriesGood m S 0 (entriesIn (formatOf s) s) ≡ true → entriesGood m S 0 (listFrom (entryAt s) 0 (entryCount s)) ≡ true
+  unfolding entryAt
+  of-own s m S h = h
 
   bad : (m : Shape) → sheetGood m (sheetOf r) ≡ true → ⊥
-  unfolding goodIn routesGood entryAt formatBy sheetOf entryGood
+  unfolding goodIn routesGood sheetOf entryGood
   bad m h =
       let s = sheetOf r in
       let S = source s in
-      let own : formatOf s ≡ written = own-format (r .source) (routeEntries r) in
       let p = and-true (headGood (formatOf s) s) _ h in
       let q = and-true (isNode m S) _ (p .1) in
       let n : entryCount s ≡ r .count = count-read (r .source) (routeEntries r) (omega (arith, entries-count r)) ∙ entries-count r in
-      let good : entriesGood written m S 0 (listFrom (entryAt s) 0 (entryCount s)) ≡ true = rw own at (q .1) in
-      let e = each-good written m S (entryAt s) (entryCount s) 0 0 good mostEntries (omega arith) (omega arith) in
+      let good : entriesGood m S 0 (listFrom (entryAt s) 0 (entryCount s)) ≡ true = of-own s m S (q .1) in
+      let e = each-good m S (entryAt s) (entryCount s) 0 0 good mostEntries (omega arith) (omega arith) in
       let x = entryAt s mostEntries in
-      let v = and-true (isNode m (x .dest) && not (eqb (x .dest) S)) (viaGood written m S x) e .1 in
-      false≢true (sym (ap (viaGood written m S) no-entry ∙ no-entry-bad m S) ∙ v)
+      let v = and-true (isNode m (x .dest) && not (eqb (x .dest) S)) (viaGood m S x) e .1 in
+      false≢true (sym (ap (viaGood m S) no-entry ∙ no-entry-bad m S) ∙ v)
 
   pub too-many : (L : Limits) (p o : List ℕ) (e k : ℕ) → e ≡ planError L p → k ≡ cond (eqb e 0) wrongRouteSheet e → (writeError L p (sheetOf r) o ≡ k) × (k ≡ 0 → ⊥)
   unfolding sheetError errorIn

@@ -9,7 +9,7 @@ use Rattle.sheet.proofs.Outputs.{of-refusal}
 use Rattle.plan.specs.Layout.{shapeOf}
 use Rattle.plan.specs.Checks.{Limits}
 use Rattle.plan.specs.declared.reading.Answer.the-variants.{Refused}
-use Rattle.routes.specs.Layout.{formatOf, source, entryCount, entryAt, entriesOf, mostEntries}
+use Rattle.routes.specs.Layout.{source, entryCount, entryAt, entriesOf, mostEntries}
 use Rattle.routes.specs.Checks.{sheetError}
 use Rattle.routes.proofs.Sheets.{accepted}
 use Rattle.routes.proofs.Rising.{routed}
@@ -22,7 +22,7 @@ counted s = from-length (entryAt s) (entryCount s) 0
 
 -- An accepted sheet has at most 4,095 entries.
 pub few : (L : Limits) (p s : List ℕ) → sheetError L p s ≡ 0 → entryCount s ≤ mostEntries
-few L p s h = omega (arith, routed (formatOf s) (shapeOf p) (source s) (entriesOf s) (accepted L p s h .routes) .few, counted s)
+few L p s h = omega (arith, routed (shapeOf p) (source s) (entriesOf s) (accepted L p s h .routes) .few, counted s)
 
 -- What is read.
 module _ (L : Limits) (p s : List ℕ) (e : ℕ) (h : e ≡ sheetError L p s) where

@@ -1,4 +1,4 @@
-// The route sheet as a value: read from a sheet, and written to one; and a sheet made in place.
+// The route sheet as a value: read from a sheet, and written to one; a sheet written back; and a sheet made in place.
 mod encode;
 mod making;
 mod reading;
@@ -10,3 +10,4 @@ pub use reading::Reading;
 pub use reading::Routes;
 pub use reading::read;
 pub use writing::write;
+pub use writing::write_back;

@@ -35,6 +35,7 @@ fn entries_in(sheet: &[u8]) -> [Entry; MOST_ENTRIES]
         dest: 0,
         kind: 0,
         via: 0,
+        second: 0,
     }; MOST_ENTRIES];
     let mut i: usize = 0;
     while i < count {
@@ -53,6 +54,7 @@ pub fn read(plan: &[u8], sheet: &[u8]) -> Reading
             dest: 0,
             kind: 0,
             via: 0,
+            second: 0,
         }; MOST_ENTRIES];
         let routes = Routes {
             source: 0,

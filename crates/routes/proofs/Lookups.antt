@@ -1,8 +1,8 @@
 -- The part that a lookup gives, and what its companion answers.
-use Prim.Native.Nat.{ℕ, zero, suc, _+_, _*_, _≤_, _<_}
+use Prim.Native.Nat.{ℕ, zero, suc, _+_, _/_, _≤_, _<_}
 use native.Mathlib.Omega.{arith}
 use mathlib.Core.Path.{_≡_, refl, ap, _∙_}
-use mathlib.Core.Bool.{Bool, true, false, not}
+use mathlib.Core.Bool.{Bool, true, false, not, cond}
 use mathlib.Core.List.{List, [], _∷_}
 use lib.ListN.{length}
 use lib.Dec.{ltb, eqb}
@@ -14,7 +14,7 @@ use Rattle.theory.proofs.Checks.{then-zero, declined-zero}
 use Rattle.theory.proofs.Cases.{test, by-le}
 use Rattle.sheet.specs.Bytes.{listFrom}
 use Rattle.shape.specs.declared.shape.Shape.{Shape}
-use Rattle.machine.specs.declared.leg.Mode.the-variants.{Adaptive, Deterministic}
+use Rattle.machine.specs.declared.leg.Mode.the-variants.{Adaptive}
 use Rattle.machine.specs.Node.{isNode, arePair}
 use Rattle.machine.specs.Torus.{leg}
 use Rattle.machine.proofs.Nodes.{is-node}
@@ -33,14 +33,13 @@ use Rattle.routes.specs.declared.layout.Entry.{Entry}
 use Rattle.routes.specs.declared.lookup.Part.{Part}
 use Rattle.routes.specs.declared.route.Found.{Found}
 use Rattle.routes.specs.declared.route.Found.the-variants.{At, Missing}
-use Rattle.routes.specs.Layout.{Format, formatBy, formatOf, source, entryCount, entriesAt, entrySize, entryAt, entriesOf}
-use Rattle.routes.specs.Kinds.{viaKind}
+use Rattle.routes.specs.Layout.{formatOf, source, entryCount, entrySize, entryPlace, entryAt, entriesOf}
 use Rattle.routes.specs.Checks.{entryGood, routesGood, sheetError}
-use Rattle.routes.specs.Said.{saidBy}
+use Rattle.routes.specs.Said.{modeBy, saidWith, saidBy}
 use Rattle.routes.specs.Lookup.{find, lookupError, isListed, PartOf, partStart, partLength, partFor}
 use Rattle.routes.specs.Says.{saysOf, says}
-use Rattle.routes.specs.Steps.{pickFound, foundIn, orDirect, lengthBy}
-use Rattle.routes.proofs.Sheets.{Accepted, accepted}
+use Rattle.routes.specs.Steps.{pickFound, foundIn, orDirect, lengthVia, lengthVias, lengthBy}
+use Rattle.routes.proofs.Sheets.{place-fits, Accepted, accepted}
 use Rattle.routes.proofs.Rising.{good-entry, each-good}
 
 module _ (L : Limits) (p s : List ℕ) (d : ℕ) where
@@ -65,9 +64,9 @@ module _ (L : Limits) (p s : List ℕ) (d : ℕ) where
     unfolding isListed
     unlisted-part k = none (rw (eq-eqb (lookupError L p s d) 0 h, ← at, ← count, le-ltb i n k))
 
-    pub listed-part : i < n → Made (record { start = entriesAt + entrySize (formatOf s) * i; size = entrySize (formatOf s) })
-    unfolding partFor partStart partLength isListed formatBy
-    listed-part k = (rw (eq-eqb (lookupError L p s d) 0 h, ← at, ← count, lt-ltb i n k), omega (arith, looked-up h .head .sized))
+    pub listed-part : i < n → Made (record { start = entryPlace (formatOf s) i; size = entrySize (formatOf s) })
+    unfolding partFor partStart partLength isListed
+    listed-part k = (rw (eq-eqb (lookupError L p s d) 0 h, ← at, ← count, lt-ltb i n k), place-fits (formatOf s) s i (looked-up h .head) (omega arith))
 
 -- The part is those bytes of the sheet.
 pub part-of :
@@ -110,38 +109,45 @@ module _ (s : List ℕ) (d : ℕ) where
 
 -- ---- the route, with its length from the source
 module _ (w : Weights) (hw : weightError w ≡ 0) (m : Shape) (S : ℕ) (source : isNode m S ≡ true) where
-  -- To one node, and by another.
+  -- To one node, by another, and by two.
+  between : (a t : ℕ) → isNode m a ≡ true → isNode m t ≡ true → distanceAnswer w m a t ≡ distance w m a t
+  unfolding distanceAnswer arePair
+  between a t ha ht = rw (ha, ht, eq-eqb (weightError w) 0 hw)
+
   one-leg : (t : ℕ) → isNode m t ≡ true → distanceAnswer w m S t ≡ distance w m S t + 0
-  unfolding distanceAnswer arePair
-  one-leg t h = rw (source, h, eq-eqb (weightError w) 0 hw) (omega arith)
+  one-leg t h = rw (between S t source h) (omega arith)
 
-  two-legs : (v t : ℕ) → isNode m v ≡ true → isNode m t ≡ true → distanceAnswer w m S v + distanceAnswer w m v t ≡ distance w m S v + (distance w m v t + 0)
-  unfolding distanceAnswer arePair
-  two-legs v t hv ht = rw (source, hv, ht, eq-eqb (weightError w) 0 hw) (omega arith)
+  two-legs : (v t : ℕ) → isNode m v ≡ true → isNode m t ≡ true → lengthVia w m S v t ≡ distance w m S v + (distance w m v t + 0)
+  two-legs v t hv ht = rw (between S v source hv, between v t hv ht) (omega arith)
 
-  told-with : (d k v : ℕ) → isNode m d ≡ true → isNode m v ≡ true → let e : Entry = record { dest = d; kind = k; via = v } in toldAs (lengthBy w m S e) (saidBy e) ≡ told (distance w m) S (saidBy e)
-  unfolding lengthBy saidBy toldAs told viaKind sumBy
-  told-with d zero v hd hv = ap (λ n. Outcome.Given (Route.Direct Adaptive) n) (one-leg d hd)
-  told-with d (suc zero) v hd hv = ap (λ n. Outcome.Given (Route.Direct Deterministic) n) (one-leg d hd)
-  told-with d (suc (suc zero)) v hd hv = ap (λ n. Outcome.Given (Route.Via v Adaptive Adaptive) n) (two-legs v d hv hd)
-  told-with d (suc (suc (suc zero))) v hd hv = ap (λ n. Outcome.Given (Route.Via v Adaptive Deterministic) n) (two-legs v d hv hd)
-  told-with d (suc (suc (suc (suc zero)))) v hd hv = ap (λ n. Outcome.Given (Route.Via v Deterministic Adaptive) n) (two-legs v d hv hd)
-  told-with d (suc (suc (suc (suc (suc zero))))) v hd hv = ap (λ n. Outcome.Given (Route.Via v Deterministic Deterministic) n) (two-legs v d hv hd)
-  told-with d (suc (suc (suc (suc (suc (suc k)))))) v hd hv = refl
+  three-legs : (v u t : ℕ) → isNode m v ≡ true → isNode m u ≡ true → isNode m t ≡ true → lengthVias w m S v u t ≡ distance w m S v + (distance w m v u + (distance w m u t + 0))
+  three-legs v u t hv hu ht = rw (between S v source hv, between v u hv hu, between u t hu ht) (omega arith)
 
-  told-good : (F : Format) (e : Entry) → entryGood F m S e ≡ true → toldAs (lengthBy w m S e) (saidBy e) ≡ told (distance w m) S (saidBy e)
-  told-good F e h =
-      let g = good-entry F m S e h in
-      told-with (e .dest) (e .kind) (e .via) (is-node m S source (e .dest) (g .dest)) (is-node m S source (e .via) (g .via))
+  -- By how many vias the kind tells.
+  abbrev lengthWith : ℕ → Entry → ℕ
+  lengthWith n e = cond (eqb n 2) (lengthVias w m S (e .via) (e .second) (e .dest)) (cond (eqb n 1) (lengthVia w m S (e .via) (e .dest)) (distanceAnswer w m S (e .dest)))
+
+  told-with : (n k : ℕ) (e : Entry) → isNode m (e .dest) ≡ true → isNode m (e .via) ≡ true → isNode m (e .second) ≡ true → toldAs (lengthWith n e) (saidWith n k e) ≡ told (distance w m) S (saidWith n k e)
+  unfolding toldAs told sumBy
+  told-with zero k e hd hv hu = ap (λ n. Outcome.Given (Route.Direct (modeBy k)) n) (one-leg (e .dest) hd)
+  told-with (suc zero) k e hd hv hu = ap (λ n. Outcome.Given (Route.Via (e .via) (modeBy k) (modeBy (k / 2))) n) (two-legs (e .via) (e .dest) hv hd)
+  told-with (suc (suc zero)) k e hd hv hu = ap (λ n. Outcome.Given (Route.Vias (e .via) (e .second) (modeBy k) (modeBy (k / 2)) (modeBy (k / 4))) n) (three-legs (e .via) (e .second) (e .dest) hv hu hd)
+  told-with (suc (suc (suc n))) k e hd hv hu = refl
+
+  told-good : (e : Entry) → entryGood m S e ≡ true → toldAs (lengthBy w m S e) (saidBy e) ≡ told (distance w m) S (saidBy e)
+  unfolding lengthBy saidBy
+  told-good e h =
+      let g = good-entry m S e h in
+      told-with (e .kind / 16) (e .kind) e (is-node m S source (e .dest) (g .dest)) (is-node m S source (e .via) (g .via)) (is-node m S source (e .second) (g .second))
 
   told-direct : (d : ℕ) → isNode m d ≡ true → Outcome.Given (Route.Direct Adaptive) (distanceAnswer w m S d) ≡ told (distance w m) S (Given (leg d Adaptive ∷ []))
   unfolding told toldAs sumBy
   told-direct d h = ap (λ n. Outcome.Given (Route.Direct Adaptive) n) (one-leg d h)
 
 -- What is found is good.
-abbrev FoundGood : Format → Shape → ℕ → Found → Type 0
-FoundGood F m S (At e) = entryGood F m S e ≡ true
-FoundGood F m S Missing = Unit {0}
+abbrev FoundGood : Shape → ℕ → Found → Type 0
+FoundGood m S (At e) = entryGood m S e ≡ true
+FoundGood m S Missing = Unit {0}
 
 module _ (L : Limits) (p s : List ℕ) (d : ℕ) where
   pub refused : (e : ℕ) → e ≡ lookupError L p s d → (e ≡ 0 → ⊥) → Outcome.Refused e ≡ told (farIn p) (source s) (says L p s d)
@@ -173,15 +179,15 @@ module _ (L : Limits) (p s : List ℕ) (d : ℕ) where
     unfolding lookupError
     dest-node = not-false _ (declined-zero (not (isNode m d)) _ (then-zero (sheetError L p s) _ h .1))
 
-    found-good : (f : Found) → f ≡ foundIn s d → FoundGood (formatOf s) m S f
+    found-good : (f : Found) → f ≡ foundIn s d → FoundGood m S f
     unfolding foundIn routesGood entriesOf
     found-good f e = rw e (go (ltb i (entryCount s)) refl)
       where
         i : ℕ
         i = find (entriesOf s) d
 
-        go : (b : Bool) → ltb i (entryCount s) ≡ b → FoundGood (formatOf s) m S (pickFound b (At (entryAt s i)) Missing)
-        go true t = each-good (formatOf s) m S (entryAt s) (entryCount s) 0 0 (and-true (isNode m S) _ (looked-up L p s d h .routes) .1) i (omega arith) (omega (arith, ltb-true i (entryCount s) t))
+        go : (b : Bool) → ltb i (entryCount s) ≡ b → FoundGood m S (pickFound b (At (entryAt s i)) Missing)
+        go true t = each-good m S (entryAt s) (entryCount s) 0 0 (and-true (isNode m S) _ (looked-up L p s d h .routes) .1) i (omega arith) (omega (arith, ltb-true i (entryCount s) t))
         go false t = tt
 
     said : (f : Found) → f ≡ foundIn s d → orDirect d f ≡ says L p s d
@@ -190,7 +196,7 @@ module _ (L : Limits) (p s : List ℕ) (d : ℕ) where
 
     pub said-found : (e : Entry) → At e ≡ foundIn s d → toldAs (lengthBy w m S e) (saidBy e) ≡ told (distance w m) S (says L p s d)
     unfolding orDirect
-    said-found e q = told-good w weighed m S source-node (formatOf s) e (found-good (At e) q) ∙ ap (told (distance w m) S) (said (At e) q)
+    said-found e q = told-good w weighed m S source-node e (found-good (At e) q) ∙ ap (told (distance w m) S) (said (At e) q)
 
     pub said-direct : Missing ≡ foundIn s d → Outcome.Given (Route.Direct Adaptive) (distanceAnswer w m S d) ≡ told (distance w m) S (says L p s d)
     unfolding orDirect

@@ -1,5 +1,6 @@
 -- Laws of check 13: what an accepted sheet is.
-use Prim.Native.Nat.{ℕ, zero, suc, _+_, _*_, _≤_}
+use Prim.Native.Nat.{ℕ, zero, suc, _+_, _*_, _≤_, _<_}
+use native.Mathlib.Nat.{mul-suc, mul-le-mul-left, mul-le-mul-right}
 use native.Mathlib.Omega.{arith}
 use mathlib.Core.Path.{_≡_, refl}
 use mathlib.Core.Bool.{Bool, true, false, not, cond, _&&_}
@@ -14,7 +15,8 @@ use Rattle.sheet.specs.Head.{version, lengthField}
 use Rattle.sheet.proofs.Heads.{length-field, length-sheet}
 use Rattle.plan.specs.Layout.{shapeOf}
 use Rattle.plan.specs.Checks.{Limits, planError}
-use Rattle.routes.specs.Layout.{Format, formatOf, source, entryCount, entriesAt, entrySize, entryAt, entriesIn, entriesOf, sizeAfter}
+use Rattle.routes.specs.declared.layout.Format.{Format}
+use Rattle.routes.specs.Layout.{formatOf, source, entryCount, entriesAt, entrySize, entryPlace, entryAt, entriesIn, entriesOf, sizeAfter}
 use Rattle.routes.specs.Checks.{headGood, routesGood, goodIn, errorIn, sheetError}
 
 -- A check after others, as a choice.
@@ -49,17 +51,29 @@ head-of F s h =
       sized = omega (arith, length-sheet s n (p .1) (omega arith));
     }
 
+-- A size of an entry, with any number of vias in a byte, times any number in two.
+pub size-most : (v n : ℕ) → v < 256 → n < 65536 → (3 + 2 * v) * n ≤ 33619455
+size-most v n hv hn =
+    let a : (3 + 2 * v) * n ≤ 513 * n = mul-le-mul-right n (omega arith) in
+    omega (arith, a)
+
+-- The bytes of each entry are there.
+pub place-fits : (F : Format) (s : List ℕ) (i : ℕ) → Head F s → i < entryCount s → entryPlace F i + entrySize F ≤ length s
+place-fits F s i h l =
+    let most : entrySize F * suc i ≤ entrySize F * entryCount s = mul-le-mul-left (entrySize F) (omega arith) in
+    omega (arith, h .sized, mul-suc (entrySize F) i, most)
+
 -- A sheet that the plan's checks and 13 accept, in a format and in its own.
 pub record AcceptedIn (F : Format) (L : Limits) (p s : List ℕ) : Type 0 where
   pub plan : planError L p ≡ 0
   pub head-good : headGood F s ≡ true
   pub head : Head F s
-  pub routes : routesGood F (shapeOf p) (source s) (entriesIn F s) ≡ true
+  pub routes : routesGood (shapeOf p) (source s) (entriesIn F s) ≡ true
 
 pub record Accepted (L : Limits) (p s : List ℕ) : Type 0 where
   pub plan : planError L p ≡ 0
   pub head : Head (formatOf s) s
-  pub routes : routesGood (formatOf s) (shapeOf p) (source s) (entriesOf s) ≡ true
+  pub routes : routesGood (shapeOf p) (source s) (entriesOf s) ≡ true
 
 pub accepted-in : (F : Format) (L : Limits) (p s : List ℕ) → errorIn F L p s ≡ 0 → AcceptedIn F L p s
 unfolding errorIn goodIn

@@ -1,5 +1,5 @@
--- Looking up a destination gives the entry as the very five bytes of the lent sheet.
-use Prim.Native.Nat.{ℕ, _+_, _*_}
+-- Looking up a destination gives the entry as the very bytes of the lent sheet: seven of version 3, five of version 2.
+use Prim.Native.Nat.{ℕ, _+_}
 use mathlib.Core.Path.{_≡_}
 use mathlib.Core.Bool.{Bool, not, cond, _&&_}
 use mathlib.Core.List.{List, [], _∷_}
@@ -13,7 +13,7 @@ use Rattle.plan.specs.Layout.{shapeOf}
 use Rattle.plan.specs.Checks.{Limits}
 use Rattle.routes.specs.declared.layout.Entry.{Entry}
 use Rattle.routes.specs.declared.lookup.Part.{Part}
-use Rattle.routes.specs.Layout.{formatOf, entryCount, entriesAt, entrySize, entriesOf}
+use Rattle.routes.specs.Layout.{formatOf, entryCount, entrySize, entryPlace, entriesOf}
 use Rattle.routes.specs.Checks.{sheetError}
 
 -- A lookup: the plan's checks, 13, then 9.
@@ -31,7 +31,7 @@ isListed L p s d = eqb (lookupError L p s d) 0 && ltb (find (entriesOf s) d) (en
 
 -- That part is empty, at the sheet's start, if the destination is not listed or the lookup is declined.
 unfoldable pub partStart : Limits → List ℕ → List ℕ → ℕ → ℕ
-partStart L p s d = cond (isListed L p s d) (entriesAt + entrySize (formatOf s) * find (entriesOf s) d) 0
+partStart L p s d = cond (isListed L p s d) (entryPlace (formatOf s) (find (entriesOf s) d)) 0
 
 unfoldable pub partLength : Limits → List ℕ → List ℕ → ℕ → ℕ
 partLength L p s d = cond (isListed L p s d) (entrySize (formatOf s)) 0

@@ -1,16 +1,17 @@
 // The plan's checks, then 13; 0 where none declines.
 use crate::kinds::has_via;
+use crate::kinds::has_vias;
 use crate::kinds::is_plain;
 use crate::layout::ENTRIES_AT;
 use crate::layout::Entry;
-use crate::layout::VERSION;
+use crate::layout::Format;
 use crate::layout::count_in;
 use crate::layout::entry_in;
+use crate::layout::format_in;
 use crate::layout::size_after;
 use crate::layout::source_in;
 use logic::both;
 use logic::pick;
-use logic::pick_bool;
 use machine::node::is_node;
 use numbers::WRONG_ROUTE_SHEET;
 use plan::layout::shape_in;
@@ -18,31 +19,57 @@ use shape::Shape;
 use sheet::head::length_is;
 use sheet::head::version_in;
 ghost use mathlib.Core.Path.{_≡_};
+ghost use mathlib.Core.Bool.{not, _&&_};
+ghost use lib.Dec.{eqb};
 ghost use Rattle.plan.specs.Checks.{large};
-ghost use Rattle.routes.specs.Layout.{oneVia, formatOf, written, entriesOf};
-ghost use Rattle.routes.specs.Checks.{headGood, viaGood, entryGood, nextGood, entriesGood, sheetGood, sheetError};
+ghost use Rattle.routes.specs.Layout.{entriesOf};
+ghost use Rattle.routes.specs.Checks.{headGood, isVia, viaGood, entryGood, nextGood, entriesGood, sheetGood, sheetError};
 
-// The head of a sheet of version 1 or 2, by the version that it has to have.
-pub fn head_good(sheet: &[u8], version: u8) -> bool
-    ensures { λ r. ⌜ r ≡ headGood (oneVia version) (now (sheet .entry)) ⌝ }
+// The head of a sheet, in a format.
+pub fn head_good(sheet: &[u8], format: Format) -> bool
+    ensures { λ r. ⌜ r ≡ headGood format (now (sheet .entry)) ⌝ }
 {
-    let known = both(ENTRIES_AT <= sheet.len(), version_in(sheet) == version);
-    both(known, length_is(sheet, size_after(count_in(sheet))))
+    let known = both(
+        ENTRIES_AT <= sheet.len(),
+        version_in(sheet) == format.version,
+    );
+    both(known, length_is(sheet, size_after(format, count_in(sheet))))
+}
+
+// Whether v is a node that is neither end.
+fn is_via(shape: Shape, source: u16, dest: u16, v: u16) -> bool
+    ensures { λ r. ⌜ r ≡ isVia shape source dest v ⌝ }
+{
+    both(is_node(shape, v), both(v != source, v != dest))
+}
+
+fn one_good(shape: Shape, source: u16, e: Entry) -> bool
+    ensures { λ r. ⌜ r ≡ (isVia shape source (e .dest) (e .via) && eqb (e .second) 0) ⌝ }
+{
+    both(is_via(shape, source, e.dest, e.via), e.second == 0)
+}
+
+fn two_good(shape: Shape, source: u16, e: Entry) -> bool
+    ensures { λ r. ⌜ r ≡ (isVia shape source (e .dest) (e .via) && (isVia shape source (e .dest) (e .second) && not (eqb (e .via) (e .second)))) ⌝ }
+{
+    let second = both(is_via(shape, source, e.dest, e.second), e.via != e.second);
+    both(is_via(shape, source, e.dest, e.via), second)
 }
 
 fn via_good(shape: Shape, source: u16, e: Entry) -> bool
-    ensures { λ r. ⌜ r ≡ viaGood written shape source e ⌝ }
+    ensures { λ r. ⌜ r ≡ viaGood shape source e ⌝ }
 {
-    let other = both(e.via != source, e.via != e.dest);
-    pick_bool(
-        has_via(e.kind),
-        both(is_node(shape, e.via), other),
-        both(is_plain(e.kind), e.via == 0),
-    )
+    if has_vias(e.kind) {
+        return two_good(shape, source, e);
+    }
+    if has_via(e.kind) {
+        return one_good(shape, source, e);
+    }
+    both(is_plain(e.kind), both(e.via == 0, e.second == 0))
 }
 
 fn entry_good(shape: Shape, source: u16, e: Entry) -> bool
-    ensures { λ r. ⌜ r ≡ entryGood written shape source e ⌝ }
+    ensures { λ r. ⌜ r ≡ entryGood shape source e ⌝ }
 {
     let dest = both(is_node(shape, e.dest), e.dest != source);
     both(dest, via_good(shape, source, e))
@@ -50,13 +77,13 @@ fn entry_good(shape: Shape, source: u16, e: Entry) -> bool
 
 // Whether an entry may follow those before it. `least`: the least that its destination may be.
 pub fn next_good(shape: Shape, source: u16, least: u32, e: Entry) -> bool
-    ensures { λ r. ⌜ r ≡ nextGood written shape source least e ⌝ }
+    ensures { λ r. ⌜ r ≡ nextGood shape source least e ⌝ }
 {
     both(least <= (e.dest as u32), entry_good(shape, source, e))
 }
 
 fn entries_good(sheet: &[u8], shape: Shape, source: u16) -> bool
-    ensures { λ r. ⌜ r ≡ entriesGood (formatOf (now (sheet .entry))) shape source 0 (entriesOf (now (sheet .entry))) ⌝ }
+    ensures { λ r. ⌜ r ≡ entriesGood shape source 0 (entriesOf (now (sheet .entry))) ⌝ }
 {
     let count = count_in(sheet);
     let mut least: u32 = 0;
@@ -75,7 +102,7 @@ fn entries_good(sheet: &[u8], shape: Shape, source: u16) -> bool
 fn sheet_good(shape: Shape, sheet: &[u8]) -> bool
     ensures { λ r. ⌜ r ≡ sheetGood shape (now (sheet .entry)) ⌝ }
 {
-    if !head_good(sheet, VERSION) {
+    if !head_good(sheet, format_in(sheet)) {
         return false;
     }
     let source = source_in(sheet);

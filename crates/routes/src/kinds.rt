@@ -1,33 +1,83 @@
-// The kinds of an entry: 1 direct deterministic; 2, 3, 4, 5 by a via, both adaptive, adaptive then deterministic, deterministic then adaptive, both
-// deterministic; 10 dead destination; 11 no clear choice. 0, direct adaptive, is never listed.
+// The kinds of an entry: 16 × vias plus a bit for each deterministic leg, leg one lowest; 160 is a dead destination, 176 no clear choice. 0, direct
+// adaptive, is never listed.
 use crate::layout::Entry;
 use choice::Outcome;
 use logic::both;
 use logic::either;
+use logic::pick;
 use machine::leg::Mode;
 use numbers::DEAD_END;
 use numbers::NO_CLEAR_CHOICE;
 use packet::Route;
 ghost use mathlib.Core.Path.{_≡_};
-ghost use Prim.Native.Nat.{ℕ};
+ghost use Prim.Native.Nat.{ℕ, _<_};
 ghost use Rattle.packet.specs.declared.route.Route.{Route};
 ghost use Rattle.packet.specs.New.{legsTo};
 ghost use Rattle.choice.specs.Answer.{Given};
-ghost use Rattle.routes.specs.Kinds.{kindOf, viaKind, plainKind};
+ghost use Rattle.choice.specs.Choice.{det};
 ghost use Rattle.choice.specs.Outcome.{toldAs};
-ghost use Rattle.routes.specs.Said.{saidBy, entryFor, heard};
+ghost use Rattle.routes.specs.Kinds.{kindOf, refusedKind, plainKind, viaKind, viasKind, fromOld};
+ghost use Rattle.routes.specs.Said.{modeBy, saidBy, entryFor, heard};
 
+pub const DEAD_KIND: u8 = 160;
+
+pub const NONE_KIND: u8 = 176;
+
+// No kind has this number.
+pub const NO_KIND: u8 = 255;
+
+// By one via.
 pub fn has_via(kind: u8) -> bool
     ensures { λ r. ⌜ r ≡ viaKind kind ⌝ }
 {
-    both(2 <= kind, kind <= 5)
+    both(16 <= kind, kind <= 19)
 }
 
-// A kind without a via, whose via field is 0.
+// By two.
+pub fn has_vias(kind: u8) -> bool
+    ensures { λ r. ⌜ r ≡ viasKind kind ⌝ }
+{
+    both(32 <= kind, kind <= 39)
+}
+
+// By none.
 pub fn is_plain(kind: u8) -> bool
     ensures { λ r. ⌜ r ≡ plainKind kind ⌝ }
 {
-    either(kind == 1, either(kind == DEAD_END, kind == NO_CLEAR_CHOICE))
+    either(kind == 1, either(kind == DEAD_KIND, kind == NONE_KIND))
+}
+
+fn refused_kind(number: u8) -> u8
+    ensures { λ r. ⌜ r ≡ refusedKind number ⌝ }
+{
+    let other = pick(number == NO_CLEAR_CHOICE, NONE_KIND, NO_KIND);
+    pick(number == DEAD_END, DEAD_KIND, other)
+}
+
+// The kind of version 3 with the same legs, or the same refusal, as document 01's, of versions 1 and 2.
+pub fn from_old(kind: u8) -> u8
+    ensures { λ r. ⌜ r ≡ fromOld kind ⌝ }
+{
+    match kind {
+        0 => 0,
+        1 => 1,
+        2 => 16,
+        3 => 18,
+        4 => 17,
+        5 => 19,
+        _ => refused_kind(kind),
+    }
+}
+
+// The mode by the lowest bit.
+fn mode_by(bits: u8) -> Mode
+    ensures { λ r. ⌜ r ≡ modeBy bits ⌝ }
+{
+    if bits % 2 == 1 {
+        Mode::Deterministic
+    } else {
+        Mode::Adaptive
+    }
 }
 
 // What an entry says, with the length of its route.
@@ -36,22 +86,23 @@ pub fn outcome_by(entry: Entry, length: u16) -> Outcome
 {
     let kind = entry.kind;
     let via = entry.via;
-    match kind {
-        0 => Outcome::Given(Route::Direct(Mode::Adaptive), length),
-        1 => Outcome::Given(Route::Direct(Mode::Deterministic), length),
-        2 => Outcome::Given(Route::Via(via, Mode::Adaptive, Mode::Adaptive), length),
-        3 => Outcome::Given(Route::Via(via, Mode::Adaptive, Mode::Deterministic), length),
-        4 => Outcome::Given(Route::Via(via, Mode::Deterministic, Mode::Adaptive), length),
-        5 => Outcome::Given(
-            Route::Via(via, Mode::Deterministic, Mode::Deterministic),
-            length,
-        ),
-        _ => Outcome::Refused(kind),
+    let second = entry.second;
+    let one = mode_by(kind);
+    let two = mode_by(kind / 2);
+    let three = mode_by(kind / 4);
+    let vias = kind / 16;
+    match vias {
+        0 => Outcome::Given(Route::Direct(one), length),
+        1 => Outcome::Given(Route::Via(via, one, two), length),
+        2 => Outcome::Given(Route::Vias(via, second, one, two, three), length),
+        _ => Outcome::Refused(vias),
     }
 }
 
-fn kind_direct(mode: Mode) -> u8
-    ensures { λ r. ⌜ ((d : ℕ) → r ≡ kindOf (legsTo d (Route.Direct mode))) ⌝ }
+// The bit of a leg.
+fn bit(mode: Mode) -> u8
+    ensures { λ r. ⌜ r ≡ det mode ⌝ }
+    ensures { λ r. ⌜ r < 2 ⌝ }
 {
     match mode {
         Mode::Adaptive => 0,
@@ -59,19 +110,22 @@ fn kind_direct(mode: Mode) -> u8
     }
 }
 
+fn kind_direct(mode: Mode) -> u8
+    ensures { λ r. ⌜ ((d : ℕ) → r ≡ kindOf (legsTo d (Route.Direct mode))) ⌝ }
+{
+    bit(mode)
+}
+
 fn kind_via(first: Mode, second: Mode) -> u8
     ensures { λ r. ⌜ ((d v : ℕ) → r ≡ kindOf (legsTo d (Route.Via v first second))) ⌝ }
 {
-    match first {
-        Mode::Adaptive => match second {
-            Mode::Adaptive => 2,
-            Mode::Deterministic => 3,
-        },
-        Mode::Deterministic => match second {
-            Mode::Adaptive => 4,
-            Mode::Deterministic => 5,
-        },
-    }
+    16 + (bit(first) + 2 * bit(second))
+}
+
+fn kind_vias(first: Mode, second: Mode, third: Mode) -> u8
+    ensures { λ r. ⌜ ((d v u : ℕ) → r ≡ kindOf (legsTo d (Route.Vias v u first second third))) ⌝ }
+{
+    32 + (bit(first) + 2 * (bit(second) + 2 * bit(third)))
 }
 
 fn entry_with(dest: u16, route: Route) -> Entry
@@ -82,11 +136,19 @@ fn entry_with(dest: u16, route: Route) -> Entry
             dest: dest,
             kind: kind_direct(mode),
             via: 0,
+            second: 0,
         },
         Route::Via(via, first, second) => Entry {
             dest: dest,
             kind: kind_via(first, second),
             via: via,
+            second: 0,
+        },
+        Route::Vias(via, further, first, second, third) => Entry {
+            dest: dest,
+            kind: kind_vias(first, second, third),
+            via: via,
+            second: further,
         },
     }
 }
@@ -99,8 +161,9 @@ pub fn entry_for(dest: u16, outcome: Outcome) -> Entry
         Outcome::Given(route, _) => entry_with(dest, route),
         Outcome::Refused(number) => Entry {
             dest: dest,
-            kind: number,
+            kind: refused_kind(number),
             via: 0,
+            second: 0,
         },
     }
 }

@@ -1,11 +1,10 @@
-// The route sheet in its bytes: its layout, check 13, looking up a destination, and writing it back.
+// The route sheet in its bytes: its layout, check 13, and looking up a destination.
 pub mod checks;
 pub mod kinds;
 pub mod layout;
 pub mod lookup;
 pub mod route;
-mod writing;
 
 pub use checks::check;
 pub use layout::Entry;
-pub use writing::write_back;
+pub use layout::Format;

@@ -1,9 +1,10 @@
-// Looking up a destination: its entry as the very five bytes of the lent sheet.
+// Looking up a destination: its entry as the very bytes of the lent sheet, seven of version 3, five of version 2.
 use crate::checks::check;
-use crate::layout::ENTRIES_AT;
-use crate::layout::ENTRY_SIZE;
 use crate::layout::count_in;
 use crate::layout::entry_in;
+use crate::layout::entry_place;
+use crate::layout::entry_size;
+use crate::layout::format_in;
 use logic::pick;
 use machine::node::is_node;
 use numbers::NODE_OUTSIDE;
@@ -56,9 +57,10 @@ pub fn entry_part(plan: &[u8], sheet: &[u8], dest: u16) -> Part
     }
     let i = find_entry(sheet, dest);
     if i < count_in(sheet) {
+        let format = format_in(sheet);
         Part {
-            start: ENTRIES_AT + ENTRY_SIZE * (i as usize),
-            size: ENTRY_SIZE,
+            start: entry_place(format, i),
+            size: entry_size(format),
         }
     } else {
         Part { start: 0, size: 0 }

@@ -27,9 +27,15 @@ inside-within : (s : Shape) (c : Coords) → Inside s c → within s c ≡ true
 unfolding within
 inside-within s c i = rw (lt-ltb (c .x) (s .x) (i .x), lt-ltb (c .y) (s .y) (i .y), lt-ltb (c .z) (s .z) (i .z))
 
+-- A search between two nodes of an accepted plan.
+pub askable-at :
+    (w : Weights) → weightError w ≡ 0 → (s : Shape) → shapeError s ≡ 0 → (S D : ℕ) → S < nodeCount s → D < nodeCount s → (len at : ℕ) → at + 512 ≤ len → askable w s (coordsOf s S) (coordsOf s D) len at ≡ true
+unfolding askable
+askable-at w hw s h S D hS hD len at k =
+    rw (eq-eqb (weightError w) 0 hw, eq-eqb (shapeError s) 0 h, inside-within s (coordsOf s S) (inside s h S hS), inside-within s (coordsOf s D) (inside s h D hD), long-enough len at 512 k)
+
 pub number-is :
     (w : Weights) → weightError w ≡ 0 → (s : Shape) → shapeError s ≡ 0 → (S D : ℕ) → S < nodeCount s → D < nodeCount s → (fa fd to : List ℕ) (at : ℕ) → at + 512 ≤ length to →
     (v : ℕ) → numberIn w s (coordsOf s S) (coordsOf s D) fa fd to at v ≡ viaNumber (distance w s S v + distance w s v D) v (inSet s fa 0 v) (inSet s fd 0 v) (inSet s to at v) (inSet s to (at + 256) v)
-unfolding numberIn askable
-number-is w hw s h S D hS hD fa fd to at k v =
-    rw (eq-eqb (weightError w) 0 hw, eq-eqb (shapeError s) 0 h, inside-within s (coordsOf s S) (inside s h S hS), inside-within s (coordsOf s D) (inside s h D hD), long-enough (length to) at 512 k, distance-at w s S v, distance-at w s v D)
+unfolding numberIn
+number-is w hw s h S D hS hD fa fd to at k v = rw (askable-at w hw s h S D hS hD (length to) at k, distance-at w s S v, distance-at w s v D)

@@ -5,7 +5,7 @@ use mathlib.Core.Path.{_≡_}
 use mathlib.Core.Bool.{Bool, true, false, cond}
 use mathlib.Core.List.{List}
 use lib.Dec.{eqb}
-use Rattle.numbers.specs.Numbers.{noClearChoice}
+use Rattle.routes.specs.Kinds.{noneKind}
 use Rattle.sheet.specs.Bytes.{listFrom}
 use Rattle.sheet.proofs.Records.{from-cons, from-none}
 use Rattle.routes.specs.Layout.{entryCount, entryAt, entriesOf}
@@ -29,7 +29,7 @@ module _ (s : List ℕ) (count : ℕ) where
     pub next : i < count → (one : ℕ) → one ≡ isWithout (entryAt s i .kind) → (one ≤ 1) × Counting s count (without + one) (i + 1)
     unfolding withoutIn
     next l one e =
-        let small : one ≤ 1 = rw e (one-most (eqb (entryAt s i .kind) noClearChoice)) in
+        let small : one ≤ 1 = rw e (one-most (eqb (entryAt s i .kind) noneKind)) in
         let rest : withoutIn (listFrom (entryAt s) i (count - i)) ≡ one + withoutIn (listFrom (entryAt s) (i + 1) (count - (i + 1))) = rw (from-cons (entryAt s) i count l, e) in
         (small, record { few = omega (arith, g .few); sum = omega (arith, g .sum, rest) })
 

@@ -8,7 +8,6 @@ use lib.Seq.{take-append-seam, drop-append-seam, drop-drop, getD-drop}
 use Rattle.sheet.specs.Bytes.{byte, word}
 use Rattle.sheet.specs.Head.{lengthField}
 use Rattle.plan.specs.Checks.{large}
-use Rattle.routes.specs.Layout.{formatBy}
 use Rattle.routes.proofs.Sheets.{accepted}
 use Rattle.planned_sheet.specs.Sheet.{sourceError, plannedSheet}
 use Rattle.planned_sheet.proofs.Planning.{source-of, sheet-accepted}
@@ -79,7 +78,6 @@ module _ (run : List ℕ) (first : Tally) where
 
 -- The sheets of a run are such.
 planned-sized : (p : List ℕ) (S : ℕ) → sourceError large p S ≡ 0 → Sized (plannedSheet large p S)
-unfolding formatBy
 planned-sized p S ok =
     let h = accepted large p (plannedSheet large p S) (sheet-accepted large p S (source-of large p S ok)) .head in
     record { long = omega (arith, h .long); field = omega (arith, h .field, h .sized) }

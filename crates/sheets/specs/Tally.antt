@@ -5,16 +5,16 @@ use mathlib.Core.Bool.{cond}
 use mathlib.Core.List.{List, [], _∷_}
 use lib.ListN.{length}
 use lib.Dec.{eqb}
-use Rattle.numbers.specs.Numbers.{noClearChoice}
 use Rattle.program.specs.Count.{plus}
 use Rattle.sheet.specs.Head.{lengthField}
 use Rattle.routes.specs.declared.layout.Entry.{Entry}
+use Rattle.routes.specs.Kinds.{noneKind}
 use Rattle.routes.specs.Layout.{entryCount, entriesOf}
 use Rattle.sheets.specs.declared.tally.Tally.{Tally}
 
--- Kind 11 is no clear choice.
+-- The kind of no clear choice.
 abbrev pub isWithout : ℕ → ℕ
-isWithout kind = cond (eqb kind noClearChoice) 1 0
+isWithout kind = cond (eqb kind noneKind) 1 0
 
 unfoldable pub withoutIn : List Entry → ℕ
 withoutIn [] = 0

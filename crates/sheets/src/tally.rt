@@ -1,6 +1,6 @@
 // What was written: sheets, their entries, and among these the pairs without a clear choice.
-use numbers::NO_CLEAR_CHOICE;
 use program::count::sum;
+use routes::kinds::NONE_KIND;
 use routes::layout::count_in;
 use routes::layout::entry_in;
 use sheet::word_at;
@@ -33,7 +33,7 @@ pub fn none() -> Tally
 fn is_without(kind: u8) -> u32
     ensures { λ r. ⌜ r ≡ isWithout kind ⌝ }
 {
-    if kind == NO_CLEAR_CHOICE { 1 } else { 0 }
+    if kind == NONE_KIND { 1 } else { 0 }
 }
 
 fn without_in(sheet: &[u8]) -> u32

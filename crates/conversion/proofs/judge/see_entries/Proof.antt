@@ -22,14 +22,14 @@ count-in-requires c κs = tt
 loop-holds : tie.Need-loop-holds Inv-loop μ-loop
 loop-holds c = begin _ _ _ _ (c .count-in .ensures)
 
-entry-in-requires : tie.Need-entry-in-requires Inv-loop μ-loop
-entry-in-requires c κs = tt
+old-entry-requires : tie.Need-old-entry-requires Inv-loop μ-loop
+old-entry-requires c κs = tt
 
 next-good-requires : tie.Need-next-good-requires Inv-loop μ-loop
 next-good-requires c κs = tt
 
 returns : tie.Need-returns Inv-loop μ-loop
-returns c = refused _ _ _ _ _ _ _ (c .before .before .before .before .loop .inv) _ (c .before .before .entry-in .ensures) (c .before .before .before .loop-test .taken) _ (sym (c .before .next-good .ensures) ∙ not-true _ (c .if1 .taken))
+returns c = refused _ _ _ _ _ _ _ (c .before .before .before .before .loop .inv) _ (c .before .before .old-entry .ensures) (c .before .before .before .loop-test .taken) _ (sym (c .before .next-good .ensures) ∙ not-true _ (c .if1 .taken))
 
 entry-kept-requires : tie.Need-entry-kept-requires Inv-loop μ-loop
 entry-kept-requires c κs = next-nodes _ _ _ _ (c .before .before .before .before .before .before .before .before .pre) (sym (c .before .next-good .ensures) ∙ not-false _ (c .if1 .left))
@@ -50,7 +50,7 @@ loop-less : tie.Need-loop-less Inv-loop μ-loop
 loop-less c = omega arith
 
 loop-again : tie.Need-loop-again Inv-loop μ-loop
-loop-again c = onward _ _ _ _ _ _ _ (c .before .before .before .before .before .before .before .loop .inv) _ (c .before .before .before .before .before .entry-in .ensures) (c .before .before .before .before .before .before .loop-test .taken) (sym (c .before .before .before .before .next-good .ensures) ∙ not-false _ (c .before .before .before .if1 .left)) (omega arith) _ (c .before .before .entry-kept .ensures _ (coords-is _ _ (c .before .before .before .before .before .before .before .before .before .before .before .pre) _ (c .before .before .before .before .before .before .before .before .before .coords .ensures))) _ (c .before .lost-after .ensures)
+loop-again c = onward _ _ _ _ _ _ _ (c .before .before .before .before .before .before .before .loop .inv) _ (c .before .before .before .before .before .old-entry .ensures) (c .before .before .before .before .before .before .loop-test .taken) (sym (c .before .before .before .before .next-good .ensures) ∙ not-false _ (c .before .before .before .if1 .left)) (omega arith) _ (c .before .before .entry-kept .ensures _ (coords-is _ _ (c .before .before .before .before .before .before .before .before .before .before .before .pre) _ (c .before .before .before .before .before .before .before .before .before .coords .ensures))) _ (c .before .lost-after .ensures)
 
 returns-2 : tie.Need-returns-2 Inv-loop μ-loop
 returns-2 c = ended _ _ _ _ _ _ _ (c .before .loop .inv) (c .loop-test .left)
@@ -64,7 +64,7 @@ see-entries-spec =
     coords-requires
     count-in-requires
     loop-holds
-    entry-in-requires
+    old-entry-requires
     next-good-requires
     returns
     entry-kept-requires

@@ -11,7 +11,7 @@ enum-known-route : tie.Need-enum-known-route
 enum-known-route c = search needs
 
 route-kept-requires : tie.Need-route-kept-requires
-route-kept-requires c κs = (node-of _ _ (c .before .before .before .before .pre .0) .sound, given-inside _ _ _ (c .before .before .before .outcome-by .ensures) _ _ (c .before .route .given .1) (c .before .before .before .before .pre .0) (c .before .before .before .before .pre .1))
+route-kept-requires c κs = (node-of _ _ (c .before .before .before .before .pre .0) .sound, given-inside _ _ _ (c .before .before .before .outcome-by .ensures) _ _ (c .before .route .given .1) (c .before .before .before .before .pre .0) (c .before .before .before .before .pre .1 .0) (c .before .before .before .before .pre .1 .1))
 
 enum-known-number : tie.Need-enum-known-number
 enum-known-number c = search needs

@@ -1,27 +1,20 @@
+use Rattle.notes.proofs.Destination.{length-is}
+use Rattle.notes.proofs.LastStep.{least-note}
 use borrow.Author.Needs.{needs}
 use Rattle.notes.proofs.best.best_note.Statement.{statement}
 use Rattle.notes.proofs.best.best_note.Tie as tie
-use Rattle.notes.proofs.best.best_note.Reads as reads
-use Rattle.notes.proofs.best.best_note.Lts as lts
-use Rattle.notes.proofs.best.note_of.Reads as note-of-reads
-use Rattle.search.proofs.best.best_via.Reads as best-via-reads
-use Rattle.weights.proofs.distance.distance_at.Reads as distance-at-reads
 
--- src/best.rt:42:9
 best-via-requires : tie.Need-best-via-requires
 best-via-requires c κs = search needs
 
--- src/best.rt:43:9
 distance-at-requires : tie.Need-distance-at-requires
 distance-at-requires c κs = search needs
 
--- src/best.rt:41:5
 note-of-requires : tie.Need-note-of-requires
 note-of-requires c κs = search needs
 
--- src/best.rt:29:1
 returns : tie.Need-returns
-returns c = ?
+returns c = λ p S D g. least-note p _ _ S D _ _ _ _ _ _ g _ _ (length-is p _ _ S D _ _ _ (g .plan) (g .weights) (g .shape) (g .source) (g .target) (c .before .distance-at .ensures)) (c .before .before .best-via .ensures) _ (c .note-of .ensures)
 
 pub best-note-spec : {M : Type 1} → statement M
 best-note-spec =

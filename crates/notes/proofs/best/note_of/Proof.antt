@@ -1,32 +1,33 @@
+use Prim.Native.Nat.{_*_, _/_}
+use mathlib.Core.Path.{refl}
+use native.Mathlib.Omega.{arith}
+use borrow.Author.Tests.{le-leb, lt-leb, lt-ltb, le-ltb}
+use Rattle.search.specs.Number.{unclear}
+use Rattle.notes.specs.Known.{noteOf}
 use borrow.Author.Needs.{needs}
 use Rattle.notes.proofs.best.note_of.Statement.{statement}
 use Rattle.notes.proofs.best.note_of.Tie as tie
-use Rattle.notes.proofs.best.note_of.Reads as reads
-use Rattle.notes.proofs.best.note_of.Lts as lts
 
--- src/best.rt:18:9
 returns : tie.Need-returns
-returns c = ?
+unfolding noteOf
+returns c = rw (le-leb unclear (c .before .args .number) (c .if1 .taken)) refl
 
--- src/best.rt:21:17
 mul-least : tie.Need-mul-least
 mul-least c = search needs
 
--- src/best.rt:23:9
 returns-2 : tie.Need-returns-2
-returns-2 c = ?
+unfolding noteOf
+returns-2 c = rw (lt-leb unclear (c .before .before .args .number) (c .before .if1 .left), lt-ltb (c .before .before .args .number / 16384) (4 * c .before .before .args .length) (c .if2 .taken)) refl
 
--- src/best.rt:25:5
 mul-result : tie.Need-mul-result
 mul-result c = search needs
 
--- src/best.rt:25:5
 add-result : tie.Need-add-result
 add-result c = search needs
 
--- src/best.rt:14:1
 returns-3 : tie.Need-returns-3
-returns-3 c = ?
+unfolding noteOf
+returns-3 c = rw (lt-leb unclear (c .before .before .args .number) (c .before .if1 .left), le-ltb (c .before .before .args .number / 16384) (4 * c .before .before .args .length) (c .if2 .left)) refl
 
 pub note-of-spec : {M : Type 1} → statement M
 note-of-spec = tie.close (tie.spec returns mul-least returns-2 mul-result add-result returns-3)

@@ -1,65 +1,47 @@
+use native.Mathlib.Omega.{arith}
+use Rattle.notes.proofs.Destination.{losses-between, losses-near, losses-straight, losses-far}
 use borrow.Author.Needs.{needs}
 use Rattle.notes.proofs.note.note_by_losses.Statement.{statement}
 use Rattle.notes.proofs.note.note_by_losses.Tie as tie
-use Rattle.notes.proofs.note.note_by_losses.Reads as reads
-use Rattle.notes.proofs.note.note_by_losses.Lts as lts
-use Rattle.masks.proofs.span.box_of.Reads as box-of-reads
-use Rattle.masks.proofs.table.gather.Reads as gather-reads
-use Rattle.notes.proofs.note.far_by_masks.Reads as far-by-masks-reads
-use Rattle.notes.proofs.note.put_between.Reads as put-between-reads
-use Rattle.search.proofs.lowest.lowest.Reads as lowest-reads
 
--- src/note.rt:114:17
 gather-requires : tie.Need-gather-requires
 gather-requires c κs = search needs
 
--- src/note.rt:115:51
 slice-aggregate-put-between : tie.Need-slice-aggregate-put-between
 slice-aggregate-put-between c = search needs
 
--- src/note.rt:115:5
 put-between-requires : tie.Need-put-between-requires
 put-between-requires c κs = search needs
 
--- src/note.rt:116:9
 box-of-requires : tie.Need-box-of-requires
 box-of-requires c κs = search needs
 
--- src/note.rt:117:48
 slice-aggregate-lowest : tie.Need-slice-aggregate-lowest
 slice-aggregate-lowest c = search needs
 
--- src/note.rt:117:9
 lowest-requires : tie.Need-lowest-requires
 lowest-requires c κs = search needs
 
--- src/note.rt:119:16
 cast-result : tie.Need-cast-result
 cast-result c = search needs
 
--- src/note.rt:119:9
 returns : tie.Need-returns
-returns c = ?
+returns c = λ p S D g. losses-near p _ _ _ _ _ _ _ _ S D _ _ _ _ _ g (c .before .before .before .before .before .before .before .before .gather .result) (c .before .before .before .before .before .before .before .before .gather .ensures) _ _ (omega arith) (c .before .before .before .before .before .put-between .ensures p _ S D (losses-between p _ _ _ _ _ _ _ _ S D _ _ _ _ _ g _ (c .before .before .before .before .before .before .before .before .gather .ensures) _ (omega arith))) _ (c .before .before .before .box-of .ensures) _ (c .before .lowest .ensures) (c .if1 .taken)
 
--- src/note.rt:122:9
 returns-2 : tie.Need-returns-2
-returns-2 c = ?
+returns-2 c = λ p S D g. losses-straight p _ _ _ _ _ _ _ _ S D _ _ _ _ _ g (c .before .before .before .before .before .before .before .before .before .gather .result) (c .before .before .before .before .before .before .before .before .before .gather .ensures) _ _ (omega arith) (c .before .before .before .before .before .before .put-between .ensures p _ S D (losses-between p _ _ _ _ _ _ _ _ S D _ _ _ _ _ g _ (c .before .before .before .before .before .before .before .before .before .gather .ensures) _ (omega arith))) _ (c .before .before .before .before .box-of .ensures) _ (c .before .before .lowest .ensures) (c .before .if1 .left) (c .if2 .taken)
 
--- src/note.rt:124:18
 gather-requires-2 : tie.Need-gather-requires-2
 gather-requires-2 c κs = search needs
 
--- src/note.rt:138:9
 slice-aggregate-far-by-masks : tie.Need-slice-aggregate-far-by-masks
 slice-aggregate-far-by-masks c = search needs
 
--- src/note.rt:125:5
 far-by-masks-requires : tie.Need-far-by-masks-requires
 far-by-masks-requires c κs = search needs
 
--- src/note.rt:96:1
 returns-3 : tie.Need-returns-3
-returns-3 c = ?
+returns-3 c = λ p S D g. c .before .far-by-masks .ensures p S D (losses-far p _ _ _ _ _ _ _ _ S D _ _ _ _ _ g _ (c .before .before .before .before .before .before .before .before .before .before .before .before .before .before .before .gather .ensures) _ _ (omega arith) (c .before .before .before .before .before .before .before .before .before .before .before .before .put-between .ensures p _ S D (losses-between p _ _ _ _ _ _ _ _ S D _ _ _ _ _ g _ (c .before .before .before .before .before .before .before .before .before .before .before .before .before .before .before .gather .ensures) _ (omega arith))) _ (c .before .before .before .before .before .before .before .before .before .before .box-of .ensures) _ (c .before .before .before .before .before .before .before .before .lowest .ensures) (c .before .before .before .before .before .before .before .if1 .left) (c .before .before .before .before .before .before .if2 .left) _ (c .before .before .before .before .before .gather2 .ensures))
 
 pub note-by-losses-spec : {M : Type 1} → statement M
 note-by-losses-spec =

@@ -1,52 +1,38 @@
+use Rattle.notes.proofs.Destination.{sets-near, sets-straight, sets-blocked, sets-short, sets-faring}
+use borrow.Author.Tests.{not-true}
 use borrow.Author.Needs.{needs}
 use Rattle.notes.proofs.note.note_by_sets.Statement.{statement}
 use Rattle.notes.proofs.note.note_by_sets.Tie as tie
-use Rattle.notes.proofs.note.note_by_sets.Reads as reads
-use Rattle.notes.proofs.note.note_by_sets.Lts as lts
-use Rattle.masks.proofs.span.box_of.Reads as box-of-reads
-use Rattle.notes.proofs.best.best_note.Reads as best-note-reads
-use Rattle.notes.proofs.short.short_note.Reads as short-note-reads
-use Rattle.search.proofs.lowest.lowest.Reads as lowest-reads
 
--- src/note.rt:78:14
 mul-at : tie.Need-mul-at
 mul-at c = search needs
 
--- src/note.rt:79:9
 box-of-requires : tie.Need-box-of-requires
 box-of-requires c κs = search needs
 
--- src/note.rt:80:9
 lowest-requires : tie.Need-lowest-requires
 lowest-requires c κs = search needs
 
--- src/note.rt:82:16
 cast-result : tie.Need-cast-result
 cast-result c = search needs
 
--- src/note.rt:82:9
 returns : tie.Need-returns
-returns c = ?
+returns c = λ p S g. sets-near p _ _ _ S _ _ _ _ _ _ g _ (c .before .before .box-of .ensures) _ (c .before .lowest .ensures) (c .if1 .taken)
 
--- src/note.rt:85:9
 returns-2 : tie.Need-returns-2
-returns-2 c = ?
+returns-2 c = λ p S g. sets-straight p _ _ _ S _ _ _ _ _ _ g _ (c .before .before .before .box-of .ensures) _ (c .before .before .lowest .ensures) (c .before .if1 .left) (c .if2 .taken)
 
--- src/note.rt:87:9
 short-note-requires : tie.Need-short-note-requires
 short-note-requires c κs = search needs
 
--- src/note.rt:89:9
 returns-3 : tie.Need-returns-3
-returns-3 c = ?
+returns-3 c = λ p S g. c .before .short-note .ensures p S _ (sets-short p _ _ _ S _ _ _ _ _ _ g _ (c .before .before .before .before .before .box-of .ensures) (sets-blocked p _ _ _ S _ _ _ _ _ _ g _ (c .before .before .before .before .before .box-of .ensures) _ (c .before .before .before .before .lowest .ensures) (c .before .before .before .if1 .left) (c .before .before .if2 .left))) (c .if3 .taken)
 
--- src/note.rt:91:5
 best-note-requires : tie.Need-best-note-requires
 best-note-requires c κs = search needs
 
--- src/note.rt:65:1
 returns-4 : tie.Need-returns-4
-returns-4 c = ?
+returns-4 c = λ p S g. c .best-note .ensures p S _ (sets-faring p _ _ _ S _ _ _ _ _ _ g _ (c .before .before .before .before .before .before .box-of .ensures) (sets-blocked p _ _ _ S _ _ _ _ _ _ g _ (c .before .before .before .before .before .before .box-of .ensures) _ (c .before .before .before .before .before .lowest .ensures) (c .before .before .before .before .if1 .left) (c .before .before .before .if2 .left)))
 
 pub note-by-sets-spec : {M : Type 1} → statement M
 note-by-sets-spec =

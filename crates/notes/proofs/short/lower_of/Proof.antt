@@ -1,15 +1,17 @@
+use mathlib.Core.Path.{refl}
+use native.Mathlib.Omega.{arith}
+use borrow.Author.Tests.{le-leb, lt-leb}
+use Rattle.notes.specs.Known.{lower}
 use Rattle.notes.proofs.short.lower_of.Statement.{statement}
 use Rattle.notes.proofs.short.lower_of.Tie as tie
-use Rattle.notes.proofs.short.lower_of.Reads as reads
-use Rattle.notes.proofs.short.lower_of.Lts as lts
 
--- src/short.rt:13:1
 returns : tie.Need-returns
-returns c = ?
+unfolding lower
+returns c = rw (le-leb (c .before .args .first) (c .before .args .second) (c .if1 .taken)) refl
 
--- src/short.rt:13:1
 returns-2 : tie.Need-returns-2
-returns-2 c = ?
+unfolding lower
+returns-2 c = rw (lt-leb (c .before .args .first) (c .before .args .second) (c .if1 .left)) refl
 
 pub lower-of-spec : {M : Type 1} → statement M
 lower-of-spec = tie.close (tie.spec returns returns-2)

@@ -1,57 +1,71 @@
-use Rattle.first_clear.proofs.Destination.{small-at}
-use Rattle.planner.proofs.Destination.{dest-small, dead-told, alive-told, direct-told, not-direct, by-losses, by-sets}
-use Rattle.planner.proofs.dest.outcome_to.Reads as reads
-use Rattle.planner.proofs.dest.outcome_to.Lts as lts
+use native.Mathlib.Omega.{arith}
+use Rattle.planner.proofs.Destination.{dest-small, bit-at, dead-told, alive-told, direct-told, not-direct, via-told, not-via, by-losses, by-sets}
+use mathlib.Core.Path.{refl}
+use borrow.Author.Needs.{needs}
 use Rattle.planner.proofs.dest.outcome_to.Statement.{statement}
 use Rattle.planner.proofs.dest.outcome_to.Tie as tie
 
-has-requires : tie.Need-has-requires
-has-requires c κs = small-at _ _ _ (c .before .before .pre .0 .prepared .of-plan .plan) (c .before .before .pre .1 .0)
-
 distance-at-requires : tie.Need-distance-at-requires
-distance-at-requires c κs = tt
+distance-at-requires c κs = search needs
+
+has-requires : tie.Need-has-requires
+has-requires c κs = search needs
 
 returns : tie.Need-returns
-returns c = let g = c .before .before .before .before .before .pre in λ _. direct-told _ _ _ _ _ _ _ _ _ _ _ _ (g .0) _ _ (g .1 .0) _ (g .1 .1 .1) _ (c .before .before .has .ensures) (c .before .if1 .taken) _ (c .distance-at .ensures)
+returns c = λ _ _. direct-told _ _ _ _ _ _ _ _ _ _ _ _ (c .before .before .before .before .before .before .pre .0) _ _ (c .before .before .before .before .before .before .pre .1 .0) _ (c .before .before .before .before .before .before .pre .1 .1 .1) _ (bit-at _ _ _ _ _ _ _ _ _ _ _ _ (c .before .before .before .before .before .before .pre .0) _ _ (c .before .before .before .before .before .before .pre .1 .0) _ _ (c .before .has .ensures (omega arith))) (c .if1 .taken) _ (c .before .before .before .distance-at .ensures)
 
 element-copy-out-if2 : tie.Need-element-copy-out-if2
-element-copy-out-if2 c = dest-small _ _ _ _ _ _ _ _ _ _ _ _ (c .before .before .before .before .pre .0) _ _ (c .before .before .before .before .pre .1 .0)
+element-copy-out-if2 c = dest-small _ _ _ _ _ _ _ _ _ _ _ _ (c .before .before .before .before .before .before .pre .0) _ _ (c .before .before .before .before .before .before .pre .1 .0)
 
 returns-2 : tie.Need-returns-2
-returns-2 c = λ _. dead-told _ _ _ _ _ _ _ _ _ _ _ _ (c .before .before .before .before .before .before .pre .0) _ _ (c .before .before .before .before .before .before .pre .1 .0) (c .if2 .taken)
+returns-2 c = λ _ _. dead-told _ _ _ _ _ _ _ _ _ _ _ _ (c .before .before .before .before .before .before .before .before .pre .0) _ _ (c .before .before .before .before .before .before .before .before .pre .1 .0) (c .if2 .taken)
 
-has-requires-2 : tie.Need-has-requires-2
-has-requires-2 c κs = small-at _ _ _ (c .before .before .before .before .before .before .pre .0 .prepared .of-plan .plan) (c .before .before .before .before .before .before .pre .1 .0)
+mul-note : tie.Need-mul-note
+mul-note c = search needs
 
-by-losses-requires : tie.Need-by-losses-requires
-by-losses-requires c κs = tt
+element-copy-out-note : tie.Need-element-copy-out-note
+element-copy-out-note c = dest-small _ _ _ _ _ _ _ _ _ _ _ _ (c .before .before .before .before .before .before .before .before .pre .0) _ _ (c .before .before .before .before .before .before .before .before .pre .1 .0)
+
+via-outcome-requires : tie.Need-via-outcome-requires
+via-outcome-requires c κs = search needs
+
+is-given-requires : tie.Need-is-given-requires
+is-given-requires c κs = search needs
 
 returns-3 : tie.Need-returns-3
-returns-3 c =
-    let g = c .before .before .before .before .before .before .before .before .before .pre in
-    let direct = not-direct _ _ _ _ _ _ _ _ _ _ _ _ (g .0) _ _ (g .1 .0) _ (c .before .before .before .before .before .before .has .ensures) (c .before .before .before .before .before .if1 .left) in
-    λ _. alive-told _ _ _ _ _ _ _ _ _ _ _ _ (g .0) _ _ (g .1 .0) (c .before .before .before .if2 .left) _ (c .by-losses .ensures _ _ _ (by-losses _ _ _ _ _ _ _ _ _ _ _ _ (g .0) _ _ (g .1 .0) _ (g .1 .1 .1) direct _ (c .before .before .has2 .ensures) _ _ (g .1 .1 .0 (c .before .if3 .taken))))
+returns-3 c = let direct = not-direct _ _ _ _ _ _ _ _ _ _ _ _ (c .before .before .before .before .before .before .before .before .before .before .before .before .pre .0) _ _ (c .before .before .before .before .before .before .before .before .before .before .before .before .pre .1 .0) _ (bit-at _ _ _ _ _ _ _ _ _ _ _ _ (c .before .before .before .before .before .before .before .before .before .before .before .before .pre .0) _ _ (c .before .before .before .before .before .before .before .before .before .before .before .before .pre .1 .0) _ _ (c .before .before .before .before .before .before .before .has .ensures (omega arith))) (c .before .before .before .before .before .before .if1 .left) in λ _ noted. alive-told _ _ _ _ _ _ _ _ _ _ _ _ (c .before .before .before .before .before .before .before .before .before .before .before .before .pre .0) _ _ (c .before .before .before .before .before .before .before .before .before .before .before .before .pre .1 .0) (c .before .before .before .before .if2 .left) _ (via-told _ _ _ _ _ _ _ _ _ _ _ _ (c .before .before .before .before .before .before .before .before .before .before .before .before .pre .0) _ _ (c .before .before .before .before .before .before .before .before .before .before .before .before .pre .1 .0) _ (c .before .before .before .before .before .before .before .before .before .before .before .before .pre .1 .1 .1) direct _ refl _ (noted _ (c .before .before .before .before .before .before .before .before .before .before .before .before .pre .1 .0 .node)) _ (c .before .before .before .before .before .before .before .before .before .distance-at .ensures) _ (c .before .before .via-outcome .ensures) _ (c .before .is-given .ensures) (c .if3 .taken))
 
-by-sets-requires : tie.Need-by-sets-requires
-by-sets-requires c κs = tt
+has-requires-2 : tie.Need-has-requires-2
+has-requires-2 c κs = search needs
+
+by-losses-requires : tie.Need-by-losses-requires
+by-losses-requires c κs = search needs
 
 returns-4 : tie.Need-returns-4
-returns-4 c =
-    let g = c .before .before .before .before .before .before .before .before .before .pre in
-    let direct = not-direct _ _ _ _ _ _ _ _ _ _ _ _ (g .0) _ _ (g .1 .0) _ (c .before .before .before .before .before .before .has .ensures) (c .before .before .before .before .before .if1 .left) in
-    λ sets. alive-told _ _ _ _ _ _ _ _ _ _ _ _ (g .0) _ _ (g .1 .0) (c .before .before .before .if2 .left) _ (c .by-sets .ensures _ _ (by-sets _ _ _ _ _ _ _ _ _ _ _ _ (g .0) _ _ (g .1 .0) _ (g .1 .1 .1) direct _ (c .before .before .has2 .ensures) sets (c .before .if3 .left)))
+returns-4 c = let direct = not-direct _ _ _ _ _ _ _ _ _ _ _ _ (c .before .before .before .before .before .before .before .before .before .before .before .before .before .before .before .before .pre .0) _ _ (c .before .before .before .before .before .before .before .before .before .before .before .before .before .before .before .before .pre .1 .0) _ (bit-at _ _ _ _ _ _ _ _ _ _ _ _ (c .before .before .before .before .before .before .before .before .before .before .before .before .before .before .before .before .pre .0) _ _ (c .before .before .before .before .before .before .before .before .before .before .before .before .before .before .before .before .pre .1 .0) _ _ (c .before .before .before .before .before .before .before .before .before .before .before .has .ensures (omega arith))) (c .before .before .before .before .before .before .before .before .before .before .if1 .left) in λ _ noted. alive-told _ _ _ _ _ _ _ _ _ _ _ _ (c .before .before .before .before .before .before .before .before .before .before .before .before .before .before .before .before .pre .0) _ _ (c .before .before .before .before .before .before .before .before .before .before .before .before .before .before .before .before .pre .1 .0) (c .before .before .before .before .before .before .before .before .if2 .left) _ (c .by-losses .ensures _ _ _ (by-losses _ _ _ _ _ _ _ _ _ _ _ _ (c .before .before .before .before .before .before .before .before .before .before .before .before .before .before .before .before .pre .0) _ _ (c .before .before .before .before .before .before .before .before .before .before .before .before .before .before .before .before .pre .1 .0) _ (c .before .before .before .before .before .before .before .before .before .before .before .before .before .before .before .before .pre .1 .1 .1) direct _ (bit-at _ _ _ _ _ _ _ _ _ _ _ _ (c .before .before .before .before .before .before .before .before .before .before .before .before .before .before .before .before .pre .0) _ _ (c .before .before .before .before .before .before .before .before .before .before .before .before .before .before .before .before .pre .1 .0) _ _ (c .before .before .has2 .ensures (omega arith))) _ noted _ refl _ _ (c .before .before .before .before .before .before .before .before .before .before .before .before .before .before .before .before .pre .1 .1 .0 (c .before .if4 .taken)) (not-via _ _ _ _ _ _ _ _ _ _ _ _ (c .before .before .before .before .before .before .before .before .before .before .before .before .before .before .before .before .pre .0) _ _ (c .before .before .before .before .before .before .before .before .before .before .before .before .before .before .before .before .pre .1 .0) _ (c .before .before .before .before .before .before .before .before .before .before .before .before .before .before .before .before .pre .1 .1 .1) direct _ refl _ (noted _ (c .before .before .before .before .before .before .before .before .before .before .before .before .before .before .before .before .pre .1 .0 .node)) _ _ (c .before .before .before .before .before .before .via-outcome .ensures) _ (c .before .before .before .before .before .is-given .ensures) (c .before .before .before .before .if3 .left))))
+
+by-sets-requires : tie.Need-by-sets-requires
+by-sets-requires c κs = search needs
+
+returns-5 : tie.Need-returns-5
+returns-5 c = let direct = not-direct _ _ _ _ _ _ _ _ _ _ _ _ (c .before .before .before .before .before .before .before .before .before .before .before .before .before .before .before .before .pre .0) _ _ (c .before .before .before .before .before .before .before .before .before .before .before .before .before .before .before .before .pre .1 .0) _ (bit-at _ _ _ _ _ _ _ _ _ _ _ _ (c .before .before .before .before .before .before .before .before .before .before .before .before .before .before .before .before .pre .0) _ _ (c .before .before .before .before .before .before .before .before .before .before .before .before .before .before .before .before .pre .1 .0) _ _ (c .before .before .before .before .before .before .before .before .before .before .before .has .ensures (omega arith))) (c .before .before .before .before .before .before .before .before .before .before .if1 .left) in λ sets noted. alive-told _ _ _ _ _ _ _ _ _ _ _ _ (c .before .before .before .before .before .before .before .before .before .before .before .before .before .before .before .before .pre .0) _ _ (c .before .before .before .before .before .before .before .before .before .before .before .before .before .before .before .before .pre .1 .0) (c .before .before .before .before .before .before .before .before .if2 .left) _ (c .by-sets .ensures _ _ (by-sets _ _ _ _ _ _ _ _ _ _ _ _ (c .before .before .before .before .before .before .before .before .before .before .before .before .before .before .before .before .pre .0) _ _ (c .before .before .before .before .before .before .before .before .before .before .before .before .before .before .before .before .pre .1 .0) _ (c .before .before .before .before .before .before .before .before .before .before .before .before .before .before .before .before .pre .1 .1 .1) direct _ (bit-at _ _ _ _ _ _ _ _ _ _ _ _ (c .before .before .before .before .before .before .before .before .before .before .before .before .before .before .before .before .pre .0) _ _ (c .before .before .before .before .before .before .before .before .before .before .before .before .before .before .before .before .pre .1 .0) _ _ (c .before .before .has2 .ensures (omega arith))) _ noted _ refl sets (c .before .if4 .left) (not-via _ _ _ _ _ _ _ _ _ _ _ _ (c .before .before .before .before .before .before .before .before .before .before .before .before .before .before .before .before .pre .0) _ _ (c .before .before .before .before .before .before .before .before .before .before .before .before .before .before .before .before .pre .1 .0) _ (c .before .before .before .before .before .before .before .before .before .before .before .before .before .before .before .before .pre .1 .1 .1) direct _ refl _ (noted _ (c .before .before .before .before .before .before .before .before .before .before .before .before .before .before .before .before .pre .1 .0 .node)) _ _ (c .before .before .before .before .before .before .via-outcome .ensures) _ (c .before .before .before .before .before .is-given .ensures) (c .before .before .before .before .if3 .left))))
 
 pub outcome-to-spec : {M : Type 1} → statement M
 outcome-to-spec =
     tie.close
     (tie.spec
-    has-requires
     distance-at-requires
+    has-requires
     returns
     element-copy-out-if2
     returns-2
+    mul-note
+    element-copy-out-note
+    via-outcome-requires
+    is-given-requires
+    returns-3
     has-requires-2
     by-losses-requires
-    returns-3
+    returns-4
     by-sets-requires
-    returns-4)
+    returns-5)

@@ -11,10 +11,10 @@ use Rattle.planner.proofs.outcomes.all_outcomes.Statement.{statement}
 use Rattle.planner.proofs.outcomes.all_outcomes.Tie as tie
 
 abbrev Inv-loop : tie.InvT-loop
-Inv-loop plan shape words count dead ta td work source a fa fd weights outcomes₀ near₀ nears₀ row₀ at₀ outcomes near nears row at = Asking plan shape words count dead ta td work source a fa fd outcomes at × NearRow plan work source words count near nears row × (weights ≡ weightsOf plan)
+Inv-loop plan shape words count dead ta td work source a fa fd notes weights outcomes₀ near₀ nears₀ row₀ at₀ outcomes near nears row at = Asking plan shape words count dead ta td work source a fa fd outcomes at × NearRow plan work source words count near nears row × (weights ≡ weightsOf plan)
 
 abbrev μ-loop : tie.MeasureT-loop
-μ-loop plan shape words count dead ta td work source a fa fd weights outcomes₀ near₀ nears₀ row₀ at₀ outcomes near nears row at = 4097 - at .node
+μ-loop plan shape words count dead ta td work source a fa fd notes weights outcomes₀ near₀ nears₀ row₀ at₀ outcomes near nears row at = 4097 - at .node
 
 weights-in-requires : tie.Need-weights-in-requires Inv-loop μ-loop
 weights-in-requires c κs = search needs
@@ -58,7 +58,7 @@ loop-again c =
     let taken = c .before .before .before .before .before .before .if1 .taken in
     let to = is-at _ _ _ _ _ _ _ _ _ _ _ _ (inv .ready) _ _ inv taken _ refl in
     let row = c .before .before .before .before .renew .ensures _ _ _ (sifting-at _ _ _ _ _ _ _ _ _ _ _ _ (inv .ready) _ _ to) (both .1) in
-    (turn _ _ _ _ _ _ _ _ _ _ _ _ (inv .ready) _ _ inv taken _ _ (c .before .outcome-to .ensures (c .before .before .before .before .before .before .before .before .before .before .before .before .before .pre .1)) (c .following .ensures), same-row _ _ _ _ _ _ _ _ row _ (c .before .before .before .row-at .ensures), both .2)
+    (turn _ _ _ _ _ _ _ _ _ _ _ _ (inv .ready) _ _ inv taken _ _ (c .before .outcome-to .ensures (c .before .before .before .before .before .before .before .before .before .before .before .before .before .pre .1 .0) (c .before .before .before .before .before .before .before .before .before .before .before .before .before .pre .1 .1)) (c .following .ensures), same-row _ _ _ _ _ _ _ _ row _ (c .before .before .before .row-at .ensures), both .2)
 
 returns : tie.Need-returns Inv-loop μ-loop
 returns c = let inv = c .before .before .before .loop .inv .0 in done _ _ _ _ _ _ _ _ _ _ _ _ (inv .ready) _ _ inv (c .if1 .left)

@@ -1,4 +1,4 @@
-use Rattle.planner.proofs.Pairs.{refused-pair, known, from-at, to-at, paired}
+use Rattle.planner.proofs.Pairs.{refused-pair, known, from-at, to-at, source-alive, paired}
 use native.Mathlib.Omega.{arith}
 use Rattle.planner.proofs.pair.pair.Reads as reads
 use Rattle.planner.proofs.pair.pair.Lts as lts
@@ -43,7 +43,7 @@ coords-requires-2 : tie.Need-coords-requires-2
 coords-requires-2 c κs = tt
 
 route-requires : tie.Need-route-requires
-route-requires c κs = (known _ _ _ _ _ (c .before .before .before .before .before .before .before .shape-in .ensures) (c .before .before .before .before .before .before .before .before .before .pair-error .ensures) (c .before .before .before .before .before .before .before .before .if1 .left) _ _ (c .before .before .before .before .before .before .losses .ensures), (from-at _ _ _ _ _ (c .before .before .before .before .before .before .before .shape-in .ensures) (c .before .before .before .before .before .before .before .before .before .pair-error .ensures) (c .before .before .before .before .before .before .before .before .if1 .left) _ (c .before .coords .ensures), (to-at _ _ _ _ _ (c .before .before .before .before .before .before .before .shape-in .ensures) (c .before .before .before .before .before .before .before .before .before .pair-error .ensures) (c .before .before .before .before .before .before .before .before .if1 .left) _ (c .coords2 .ensures), c .before .before .before .weights-in .ensures)))
+route-requires c κs = let is = c .before .before .before .before .before .before .before .shape-in .ensures in let error = c .before .before .before .before .before .before .before .before .before .pair-error .ensures in let zero = c .before .before .before .before .before .before .before .before .if1 .left in (known _ _ _ _ _ is error zero _ _ (c .before .before .before .before .before .before .losses .ensures), (from-at _ _ _ _ _ is error zero _ (c .before .coords .ensures), (to-at _ _ _ _ _ is error zero _ (c .coords2 .ensures), (source-alive _ _ _ _ _ is error zero, c .before .before .before .weights-in .ensures))))
 
 -- src/pair.rt:102:1
 returns-2 : tie.Need-returns-2

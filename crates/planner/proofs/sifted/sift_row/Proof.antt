@@ -1,6 +1,6 @@
 use mathlib.Core.Bool.{false}
 use Rattle.machine.specs.declared.leg.Mode.the-variants.{Adaptive}
-use Rattle.first_clear.proofs.Destination.{gathered-at}
+use Rattle.notes.proofs.Destination.{gathered-at}
 use Rattle.planner.proofs.NearRows.{sifted-row}
 use Rattle.planner.proofs.sifted.sift_row.Statement.{statement}
 use Rattle.planner.proofs.sifted.sift_row.Tie as tie

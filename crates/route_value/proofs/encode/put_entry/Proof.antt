@@ -50,11 +50,29 @@ add-bytes-4 c = search needs
 slice-write-bytes-5 : tie.Need-slice-write-bytes-5
 slice-write-bytes-5 c = simp length-set (omega arith)
 
+upper-requires-3 : tie.Need-upper-requires-3
+upper-requires-3 c κs = search needs
+
+add-bytes-5 : tie.Need-add-bytes-5
+add-bytes-5 c = search needs
+
+slice-write-bytes-6 : tie.Need-slice-write-bytes-6
+slice-write-bytes-6 c = simp length-set (omega arith)
+
+lower-requires-3 : tie.Need-lower-requires-3
+lower-requires-3 c κs = search needs
+
+add-bytes-6 : tie.Need-add-bytes-6
+add-bytes-6 c = search needs
+
+slice-write-bytes-7 : tie.Need-slice-write-bytes-7
+slice-write-bytes-7 c = simp length-set (omega arith)
+
 same-length : tie.Need-same-length
 same-length c = search needs
 
 returns : tie.Need-returns
-returns c = entry-stored _ _ _ _ _ _ _ (c .before .before .before .upper .ensures) (c .before .before .lower .ensures) (c .before .upper2 .ensures) (c .lower2 .ensures)
+returns c = entry-stored _ _ _ _ _ _ _ _ _ (c .before .before .before .before .before .upper .ensures) (c .before .before .before .before .lower .ensures) (c .before .before .before .upper2 .ensures) (c .before .before .lower2 .ensures) (c .before .upper3 .ensures) (c .lower3 .ensures)
 
 pub put-entry-spec : {M : Type 1} → statement M
 put-entry-spec =
@@ -75,5 +93,11 @@ put-entry-spec =
     lower-requires-2
     add-bytes-4
     slice-write-bytes-5
+    upper-requires-3
+    add-bytes-5
+    slice-write-bytes-6
+    lower-requires-3
+    add-bytes-6
+    slice-write-bytes-7
     same-length
     returns)

@@ -6,8 +6,14 @@ use Rattle.route_value.proofs.encode.put_head.Tie as tie
 put-byte-requires : tie.Need-put-byte-requires
 put-byte-requires c κs = search needs
 
-size-after-requires : tie.Need-size-after-requires
-size-after-requires c κs = search needs
+sub-put-word : tie.Need-sub-put-word
+sub-put-word c = search needs
+
+mul-put-word : tie.Need-mul-put-word
+mul-put-word c = search needs
+
+add-put-word : tie.Need-add-put-word
+add-put-word c = search needs
 
 cast-put-word : tie.Need-cast-put-word
 cast-put-word c = search needs
@@ -26,14 +32,16 @@ same-length c = search needs
 
 returns : tie.Need-returns
 unfolding putHead
-returns c = rw (c .before .before .put-word3 .ensures, c .before .before .before .before .before .before .put-word2 .ensures, c .before .before .before .before .before .before .before .before .before .before .put-word .ensures, c .before .before .before .before .before .before .before .before .before .before .before .size-after .ensures, c .before .before .before .before .before .before .before .before .before .before .before .before .before .before .before .put-byte .ensures)
+returns c = rw (c .before .before .put-word3 .ensures, c .before .before .before .before .before .before .put-word2 .ensures, c .before .before .before .before .before .before .before .before .before .before .put-word .ensures, c .before .before .before .before .before .before .before .before .before .before .before .before .before .before .put-byte .ensures)
 
 pub put-head-spec : {M : Type 1} → statement M
 put-head-spec =
     tie.close
     (tie.spec
     put-byte-requires
-    size-after-requires
+    sub-put-word
+    mul-put-word
+    add-put-word
     cast-put-word
     put-word-requires
     put-word-requires-2

@@ -1,4 +1,4 @@
-use Rattle.routes.specs.Layout.{formatBy, written}
+use Rattle.routes.specs.Layout.{entryAt, entriesOf}
 use Rattle.routes.proofs.Entries.{Checking, begin, refused, onward, ended}
 use borrow.Author.Tests.{not-true, not-false}
 use mathlib.Core.Path.{sym, _∙_}
@@ -8,7 +8,7 @@ use Rattle.routes.proofs.checks.entries_good.Statement.{statement}
 use Rattle.routes.proofs.checks.entries_good.Tie as tie
 
 abbrev Inv-loop : tie.InvT-loop
-Inv-loop sheet shape source count least₀ i₀ least i = Checking written sheet shape source count least i
+Inv-loop sheet shape source count least₀ i₀ least i = Checking (entryAt sheet) sheet shape source count least i
 
 abbrev μ-loop : tie.MeasureT-loop
 μ-loop sheet shape source count least₀ i₀ least i = count - i
@@ -26,7 +26,7 @@ next-good-requires : tie.Need-next-good-requires Inv-loop μ-loop
 next-good-requires c κs = tt
 
 returns : tie.Need-returns Inv-loop μ-loop
-unfolding formatBy
+unfolding entriesOf
 returns c = refused _ _ _ _ _ _ _ (c .before .before .before .before .loop .inv) _ (c .before .before .entry-in .ensures) (c .before .before .before .loop-test .taken) (sym (c .before .next-good .ensures) ∙ not-true _ (c .if1 .taken))
 
 cast-least : tie.Need-cast-least Inv-loop μ-loop
@@ -45,7 +45,7 @@ loop-again : tie.Need-loop-again Inv-loop μ-loop
 loop-again c = onward _ _ _ _ _ _ _ (c .before .before .before .before .before .loop .inv) _ (c .before .before .before .entry-in .ensures) (c .before .before .before .before .loop-test .taken) (sym (c .before .before .next-good .ensures) ∙ not-false _ (c .before .if1 .left)) (omega arith)
 
 returns-2 : tie.Need-returns-2 Inv-loop μ-loop
-unfolding formatBy
+unfolding entriesOf
 returns-2 c = ended _ _ _ _ _ _ _ (c .before .loop .inv) (c .loop-test .left)
 
 pub entries-good-spec : {M : Type 1} → statement M

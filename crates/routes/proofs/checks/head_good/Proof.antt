@@ -23,7 +23,7 @@ both-requires-2 c κs = search needs
 
 returns : tie.Need-returns
 unfolding headGood
-returns c = rw (c .both2 .ensures, c .before .length-is .ensures, c .before .before .size-after .ensures, c .before .before .before .count-in .ensures, c .before .before .before .before .both .ensures, c .before .before .before .before .before .version-in .ensures)
+returns c = rw (c .both2 .ensures, c .before .length-is .ensures, c .before .before .size-after .ensures, c .before .before .before .count-in .ensures, c .before .before .before .before .both .ensures, c .before .before .before .before .before .before .version-in .ensures)
 
 pub head-good-spec : {M : Type 1} → statement M
 head-good-spec =

@@ -1,22 +1,17 @@
-use Rattle.routes.specs.Kinds.{kindOf, kindFrom, hasModes}
+use native.Mathlib.Omega.{arith}
 use Rattle.packet.specs.New.{legsTo}
+use Rattle.choice.specs.Choice.{viasOf, modesOf}
+use Rattle.routes.specs.Kinds.{bitsOf, kindOf}
 use borrow.Author.Needs.{needs}
 use Rattle.routes.proofs.kinds.kind_direct.Statement.{statement}
 use Rattle.routes.proofs.kinds.kind_direct.Tie as tie
 
-enum-told : tie.Need-enum-told
-enum-told c = search needs
-
-enum-told-2 : tie.Need-enum-told-2
-enum-told-2 c = search needs
+bit-requires : tie.Need-bit-requires
+bit-requires c κs = search needs
 
 returns : tie.Need-returns
-unfolding kindOf kindFrom hasModes legsTo
-returns c = λ d. rw (c .enum-told .given .1)
-
-returns-2 : tie.Need-returns-2
-unfolding kindOf kindFrom hasModes legsTo
-returns-2 c = λ d. rw (c .enum-told2 .given .1)
+unfolding kindOf bitsOf legsTo viasOf modesOf
+returns c = λ d. omega (arith, c .bit .ensures .0)
 
 pub kind-direct-spec : {M : Type 1} → statement M
-kind-direct-spec = tie.close (tie.spec enum-told enum-told-2 returns returns-2)
+kind-direct-spec = tie.close (tie.spec bit-requires returns)

@@ -1,5 +1,4 @@
 use mathlib.Core.Path.{sym, _∙_}
-use Rattle.routes.specs.Layout.{formatBy}
 use Rattle.routes.proofs.Lookups.{declined-part, unlisted-part, listed-part}
 use borrow.Author.Needs.{needs}
 use Rattle.routes.proofs.lookup.entry_part.Statement.{statement}
@@ -17,18 +16,17 @@ find-entry-requires c κs = search needs
 count-in-requires : tie.Need-count-in-requires
 count-in-requires c κs = search needs
 
-cast-t9 : tie.Need-cast-t9
-cast-t9 c = search needs
+format-in-requires : tie.Need-format-in-requires
+format-in-requires c κs = search needs
 
-mul-t10 : tie.Need-mul-t10
-mul-t10 c = search needs
+entry-place-requires : tie.Need-entry-place-requires
+entry-place-requires c κs = search needs
 
-add-t11 : tie.Need-add-t11
-add-t11 c = search needs
+entry-size-requires : tie.Need-entry-size-requires
+entry-size-requires c κs = search needs
 
 returns-2 : tie.Need-returns-2
-unfolding formatBy
-returns-2 c = listed-part _ _ _ _ (sym (c .before .before .before .before .lookup-error .ensures) ∙ c .before .before .before .if1 .left) _ _ (c .before .before .find-entry .ensures) (c .before .count-in .ensures) (c .if2 .taken)
+returns-2 c = rw (c .entry-size .ensures, c .before .entry-place .ensures .0, c .before .before .format-in .ensures) (listed-part _ _ _ _ (sym (c .before .before .before .before .before .before .before .lookup-error .ensures) ∙ c .before .before .before .before .before .before .if1 .left) _ _ (c .before .before .before .before .before .find-entry .ensures) (c .before .before .before .before .count-in .ensures) (c .before .before .before .if2 .taken))
 
 returns-3 : tie.Need-returns-3
 returns-3 c = unlisted-part _ _ _ _ (sym (c .before .before .before .before .lookup-error .ensures) ∙ c .before .before .before .if1 .left) _ _ (c .before .before .find-entry .ensures) (c .before .count-in .ensures) (c .if2 .left)
@@ -41,8 +39,8 @@ entry-part-spec =
     returns
     find-entry-requires
     count-in-requires
-    cast-t9
-    mul-t10
-    add-t11
+    format-in-requires
+    entry-place-requires
+    entry-size-requires
     returns-2
     returns-3)

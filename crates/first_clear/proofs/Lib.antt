@@ -1,0 +1,4 @@
+pub mod Own
+pub mod Steps
+pub mod Reaches
+pub mod Dests

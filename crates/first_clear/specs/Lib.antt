@@ -1,0 +1,2 @@
+-- The code's own steps.
+pub mod Known
