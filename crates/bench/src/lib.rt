@@ -1,7 +1,7 @@
 // The step and the walk as the bench calls them from Rust: numbers, and no struct made of them.
+use machine::leg::Leg;
 use machine::leg::Mode;
 use packet::Packet;
-use packet::Route;
 use shape::Shape;
 
 fn mode_of(bit: u8) -> Mode {
@@ -12,16 +12,19 @@ fn mode_of(bit: u8) -> Mode {
     }
 }
 
-// The new packet of a route of three legs. `modes` has a bit for each deterministic leg, leg one lowest.
+fn leg_of(target: u16, bit: u8) -> Leg {
+    Leg {
+        target: target,
+        mode: mode_of(bit),
+    }
+}
+
+// A packet of three legs. `modes` has a bit for each deterministic leg, leg one lowest.
 fn packet_of(node: u16, via: u16, further: u16, target: u16, modes: u8) -> Packet {
-    let first = mode_of(modes % 2);
-    let second = mode_of(modes / 2 % 2);
-    let third = mode_of(modes / 4 % 2);
-    Packet::new(
-        node,
-        target,
-        Route::Vias(via, further, first, second, third),
-    )
+    let first = leg_of(via, modes % 2);
+    let second = leg_of(further, modes / 2 % 2);
+    let third = leg_of(target, modes / 4 % 2);
+    Packet::with(node, [first, second, third], 3)
 }
 
 // The hops that the walk of such a packet takes, and 65,536 for each unit of the number of the node that it ends at. Fewer than 65,536 directions are told
