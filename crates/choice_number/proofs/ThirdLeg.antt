@@ -551,3 +551,18 @@ module _ (far : ℕ → ℕ → ℕ) (s : Shape) (F : Lengths s far) (h : shapeE
         let small = node-small s h u (t .below) in
         let k = whole (notes D) (noted D hD) in
         ⊎-elim (λ le. omega (arith, k .is, le, none-better w (t .behind), small)) (λ le. le) (two-least u w c t)
+
+    -- The least of what each node as second via can reach, and of the choices with fewer vias, which D's note says, is the first clear choice.
+    pub record ThirdLeg : Type 0 where
+      pub two :
+          (w : ℕ) (lw : w < nodeCount s) (better : reach w < limit) (each : (x : ℕ) → x < nodeCount s → reach x < limit → reach w ≤ reach x)
+          (first : (x : ℕ) → x < w → reach x < limit → reach w < reach x) → routeBy far s sound S D ≡ some (choice w lw better each first)
+      pub one : (none-better : (x : ℕ) → x < nodeCount s → limit ≤ reach x) (low : notes D < unclear) → routeBy far s sound S D ≡ some (single (notes D) (noted D hD) (above-two none-better) low)
+      pub none : ((x : ℕ) → x < nodeCount s → limit ≤ reach x) → unclear ≤ notes D → routeBy far s sound S D ≡ none
+
+    pub third-leg : ThirdLeg
+    third-leg = record {
+      two = by-two;
+      one = λ none-better low. by-one (notes D) (noted D hD) (above-two none-better) low;
+      none = λ none-better high. by-none (notes D) (noted D hD) (above-two none-better) high;
+    }
