@@ -50,10 +50,10 @@ extern "C" {
 
 /* Bytes of stack, held to by library/tests/test.c. */
 #define NAFTHURM_STACK 1024
-#define NAFTHURM_STACK_PAIR 32768
-#define NAFTHURM_STACK_SHEET 65536
-#define NAFTHURM_STACK_ALL 98304
-#define NAFTHURM_STACK_LISTING 131072
+#define NAFTHURM_STACK_PAIR 65536
+#define NAFTHURM_STACK_SHEET 98304
+#define NAFTHURM_STACK_ALL 131072
+#define NAFTHURM_STACK_LISTING 262144
 
 /* Extents of the dimensions X, Y, Z, each 1 to 16; wrap has bits 0, 1, 2 for X, Y, Z. */
 typedef struct {

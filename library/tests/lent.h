@@ -5,8 +5,8 @@
 #include <stddef.h>
 #include <stdint.h>
 
-/* The largest workspace, and pages more. */
-enum { LENT_MOST = 4194304 + 131072 };
+/* The largest workspace, and the bytes of a run of sheets. */
+enum { LENT_MOST = 6291456 };
 
 typedef struct {
     uint8_t *area;

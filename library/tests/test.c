@@ -6,6 +6,7 @@
 #include "nafthurm.h"
 
 #include <stdio.h>
+#include <stdlib.h>
 #include <string.h>
 #include <ucontext.h>
 
@@ -760,7 +761,9 @@ static void calls_plan_weights(void) { answer = nafthurm_plan_weights(big_plan, 
 static void calls_dead_node(void) { answer = nafthurm_dead_node(big_plan, NAFTHURM_PLAN_BYTES, 9); }
 static void calls_dead_link(void) { answer = nafthurm_dead_link(big_plan, NAFTHURM_PLAN_BYTES, 9, 3); }
 static void calls_plan_write_back(void) { answer = nafthurm_plan_write_back(big_plan, NAFTHURM_PLAN_BYTES, big_out, sizeof big_out).size; }
-static void calls_pair(void) { answer = nafthurm_pair(big_plan, NAFTHURM_PLAN_BYTES, 0, 17).length; }
+enum { CUT_OFF = 273 };
+
+static void calls_pair(void) { answer = nafthurm_pair(big_plan, NAFTHURM_PLAN_BYTES, 0, CUT_OFF).route.kind; }
 static void calls_write_sheet(void) { answer = nafthurm_write_sheet(big_plan, NAFTHURM_PLAN_BYTES, 0, big_out, sizeof big_out).size; }
 static void calls_all_sheets(void) {
     answer = nafthurm_all_sheets(big_plan, NAFTHURM_PLAN_BYTES, 4094, big_work, NAFTHURM_ALL_WORDS, big_out, sizeof big_out).size;
@@ -803,15 +806,24 @@ static void make_big_old(void) {
     HOLD(answer == sizeof big_old);
 }
 
-/* The largest plan: every fault a dead link, no two of one node. */
+static int by_place(const void *a, const void *b) { return memcmp(a, b, 3); }
+
+/* The largest plan: every fault a dead link. The first six cut off a board, so that planning a route to it comes to the last step. */
 static void make_big(void) {
     const uint8_t head[] = {2, 3, 9, 16, 16, 16, 7, 1, 1, 3, 1, 0};
+    const uint8_t cut_off[6][3] = {{0, 17, 2}, {1, 1, 1}, {1, 16, 0}, {1, 17, 0}, {1, 17, 1}, {1, 17, 2}};
+    uint8_t *faults = big_plan + sizeof head;
+    int count = 6;
     memcpy(big_plan, head, sizeof head);
-    for (int i = 0; i < 256; i++) {
-        uint8_t *fault = big_plan + sizeof head + 3 * i;
+    memcpy(faults, cut_off, sizeof cut_off);
+    for (int i = 0; count < 256; i++) {
         int node = 16 * i + i % 16;
-        fault[0] = (uint8_t)(node >> 8), fault[1] = (uint8_t)node, fault[2] = (uint8_t)(i % 3);
+        const uint8_t fault[3] = {(uint8_t)(node >> 8), (uint8_t)node, (uint8_t)(i % 3)};
+        int listed = 0;
+        for (int k = 0; k < 6; k++) listed |= memcmp(fault, cut_off[k], 3) == 0;
+        if (!listed) memcpy(faults + 3 * count++, fault, 3);
     }
+    qsort(faults, 256, 3, by_place);
     nafthurm_written w = nafthurm_write_sheet(big_plan, NAFTHURM_PLAN_BYTES, 1, big_sheet, sizeof big_sheet);
     HOLD(w.number == 0);
     big_sheet_size = w.size;
@@ -828,6 +840,8 @@ static void stack_use(void) {
         if (most < used) most = used;
     }
     size_t of_pair = stack_of(calls_pair) - without, of_sheet = stack_of(calls_write_sheet) - without;
+    calls_pair();
+    HOLD(answer == 176);
     size_t of_all = stack_of(calls_all_sheets) - without, of_listing = stack_of(calls_listing) - without;
     HOLD(most <= NAFTHURM_STACK);
     HOLD(of_pair <= NAFTHURM_STACK_PAIR);
