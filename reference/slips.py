@@ -14,7 +14,7 @@ sys.dont_write_bytecode = True
 HERE = os.path.dirname(os.path.abspath(__file__))
 STORED = os.path.join(HERE, '..', 'crates', 'conform', 'stdout')
 SLOW = 'sheet', 'listing', 'sheetrun'
-TRIED_FIRST = {'sheets': 'sheet', 'listing': 'listing', 'writing back': 'back', 'entries': 'back'}         # by what a slip's name begins with
+TRIED_FIRST = {'conversions': 'convert', 'lost': 'lost', 'sheets': 'sheet', 'listing': 'listing', 'writing back': 'back', 'entries': 'back'}         # by what a slip's name begins with
 
 SHAPE_CHECK = '    number = check_shape(extents, wrap)\n    return number or check_packet(stage, shape_of(extents, wrap), packet)'
 NAMED = '    named = [packet.node] + [target for target, _ in packet.legs]'
