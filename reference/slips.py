@@ -14,6 +14,7 @@ sys.dont_write_bytecode = True
 HERE = os.path.dirname(os.path.abspath(__file__))
 STORED = os.path.join(HERE, '..', 'crates', 'conform', 'stdout')
 SLOW = 'sheet', 'listing', 'sheetrun'
+TRIED_FIRST = {'conversions': 'convert', 'lost': 'lost', 'sheets': 'sheet', 'listing': 'listing', 'writing back': 'back', 'entries': 'back'}         # by what a slip's name begins with
 
 SHAPE_CHECK = '    number = check_shape(extents, wrap)\n    return number or check_packet(stage, shape_of(extents, wrap), packet)'
 NAMED = '    named = [packet.node] + [target for target, _ in packet.legs]'
@@ -479,6 +480,12 @@ def stored():
     return sorted(lines, key=lambda line: (line[0].split(' ')[0] in SLOW, len(line[0]) > 400))
 
 
+def in_turn(name, lines):
+    """The cases, those of the operation that the slip is in first."""
+    operation = TRIED_FIRST.get(name.split(':')[0])
+    return sorted(lines, key=lambda line: line[0].split(' ')[0] != operation) if operation else lines
+
+
 def noticed(answers, lines):
     """How many cases were answered until one was answered otherwise; 0 where none was."""
     for i, (case, wanted) in enumerate(lines, 1):
@@ -495,7 +502,7 @@ def main():
     words = ' '.join(sys.argv[1:])
     for name, old, new in SLIPS:
         if words in name:
-            found = noticed(answers_with(old, new), lines)
+            found = noticed(answers_with(old, new), in_turn(name, lines))
             missed += not found
             print('%-52s %s' % (name, found or 'NOT NOTICED'), flush=True)
     sys.exit(1 if missed else 0)
