@@ -50,8 +50,8 @@ extern "C" {
 
 /* Bytes of stack, held to by library/tests/test.c. */
 #define NAFTHURM_STACK 1024
-#define NAFTHURM_STACK_PAIR 65536
-#define NAFTHURM_STACK_SHEET 98304
+#define NAFTHURM_STACK_PAIR 98304
+#define NAFTHURM_STACK_SHEET 131072
 #define NAFTHURM_STACK_ALL 131072
 #define NAFTHURM_STACK_LISTING 262144
 

@@ -33,7 +33,7 @@ use Rattle.choice.proofs.Listed.{admits-lists, lists-admits}
 use Rattle.choice.proofs.AtTorus.{empty-adaptive}
 use Rattle.choice.proofs.Search.{adaptive-clear}
 use Rattle.search.specs.Number.{unclear, detOf}
-use Rattle.choice_number.specs.Note.{isClearBy, detBy, valueBy, NoteBy, Note, reachBy, boundOf, boundBy}
+use Rattle.choice_number.specs.Note.{isClearBy, detBy, valueBy, NoteBy, Note, reachBy, boundOf, overOf, boundBy}
 use Rattle.choice_number.specs.Told.{modeOf}
 
 pub det-low : (m : Mode) → det m ≤ 1
@@ -57,6 +57,29 @@ same-mode Deterministic false e = refl
 pub node-small : (s : Shape) → shapeError s ≡ 0 → (v : ℕ) → v < nodeCount s → v < 4096
 unfolding nodeCount
 node-small s h v lt = omega (arith, count-most s h)
+
+-- By way of a second via that reaches D below the bound the length is less than `over` above the distance.
+four-up : (n : ℕ) → n ≤ 4 * ((n + 3) / 4)
+four-up n = omega arith
+
+bound-over : (x len : ℕ) → boundOf x len ≤ 16384 * (len + overOf x)
+unfolding boundOf overOf
+bound-over x len = by-le unclear x (λ high. rw (le-leb unclear x high) (omega arith)) (λ low. rw (lt-leb unclear x low) (omega (arith, four-up (x / 4096))))
+
+pub reach-low :
+    (far : ℕ → ℕ → ℕ) (clears : Leg → ℕ → Bool) (S D x w : ℕ) → reachBy far clears S D x w < unclear →
+    (isClearBy clears w D ≡ true) × (16384 * (far S w + far w D) ≤ reachBy far clears S D x w)
+unfolding reachBy
+reach-low far clears S D x w low = test (isClearBy clears w D)
+    (λ c. by-le unclear x
+    (λ high. let z : reachBy far clears S D x w ≡ unclear = rw (c, le-ltb x unclear high) refl in absurd (omega arith))
+    (λ few. let e : reachBy far clears S D x w ≡ x + 4096 * (4 * (far S w + far w D) + detBy clears w D) = rw (c, lt-ltb x unclear few) refl in (c, omega arith)))
+    (λ c. let z : reachBy far clears S D x w ≡ unclear = rw c refl in absurd (omega arith))
+
+pub reach-near :
+    (far : ℕ → ℕ → ℕ) (clears : Leg → ℕ → Bool) (S D x w own : ℕ) → boundBy far S D own ≤ unclear → reachBy far clears S D x w < boundBy far S D own → far S w + far w D < far S D + overOf own
+reach-near far clears S D x w own most low =
+    omega (arith, reach-low far clears S D x w (omega arith) .1, bound-over own (far S D))
 
 -- ---- choices compared by the value, length and deterministic legs as one number
 module _ (far : ℕ → ℕ → ℕ) (S : ℕ) where

@@ -47,5 +47,9 @@ reachBy far clear S D x w = cond (isClearBy clear w D && ltb x unclear) (x + 409
 unfoldable pub boundOf : ℕ → ℕ → ℕ
 boundOf x len = cond (leb unclear x) unclear (4096 * (x / 4096 + 4 * len))
 
+-- By how much the length by way of a second via may be above the distance of a destination with the note x: from there on it is not below the bound.
+unfoldable pub overOf : ℕ → ℕ
+overOf x = cond (leb unclear x) 65535 ((x / 4096 + 3) / 4)
+
 abbrev pub boundBy : (ℕ → ℕ → ℕ) → ℕ → ℕ → ℕ → ℕ
 boundBy far S D x = boundOf x (far S D)

@@ -8,7 +8,7 @@ ghost use mathlib.Core.Path.{_≡_};
 ghost use Prim.Native.Nat.{_%_, _≤_};
 ghost use Rattle.search.specs.Number.{detOf};
 ghost use Rattle.choice_number.specs.Told.{modeOf, oneTold, twoTold};
-ghost use Rattle.choice_number.specs.Note.{boundOf};
+ghost use Rattle.choice_number.specs.Note.{boundOf, overOf};
 
 // Place values: of the deterministic legs, at most three,
 pub const DETS: u32 = 4096;
@@ -80,4 +80,14 @@ pub fn bound(note: u32, length: u16) -> u32
         return UNCLEAR;
     }
     DETS * (note / DETS + 4 * (length as u32))
+}
+
+// By how much the length by way of a second via may be above the distance, by the destination's note.
+pub fn over(note: u32) -> u16
+    ensures { λ r. ⌜ r ≡ overOf note ⌝ }
+{
+    if UNCLEAR <= note {
+        return 65535;
+    }
+    ((note / DETS + 3) / 4) as u16
 }

@@ -1,10 +1,10 @@
 -- What each call of a step is given, and what its answers say.
-use Prim.Native.Nat.{ℕ, _*_, _≤_, _<_, _%_}
+use Prim.Native.Nat.{ℕ, _*_, _<_, _%_}
 use native.Mathlib.Omega.{arith}
 use mathlib.Core.Path.{_≡_, refl, sym, ap, _∙_}
 use mathlib.Core.Bool.{Bool, true, false}
 use mathlib.Core.List.{List}
-use lib.ListN.{length, getD}
+use lib.ListN.{getD}
 use Rattle.shape.specs.declared.shape.Shape.{Shape}
 use Rattle.shape.specs.declared.shape.Coords.{Coords}
 use Rattle.machine.specs.declared.leg.Mode.the-variants.{Adaptive, Deterministic}
@@ -13,17 +13,19 @@ use Rattle.machine.specs.Node.{coordsAnswer}
 use Rattle.machine.proofs.Nodes.{below-node}
 use Rattle.weights.specs.declared.weights.Weights.{Weights}
 use Rattle.weights.specs.Steps.{distanceWord}
-use Rattle.plan.specs.Layout.{shapeOf}
+use Rattle.plan.specs.Layout.{shapeOf, weightsOf}
 use Rattle.plan.specs.Checks.{large, planError}
 use Rattle.choice.specs.declared.outcome.Outcome.{Outcome}
 use Rattle.rows.specs.Rows.{inRows, inSet}
-use Rattle.masks.specs.declared.span.Box.{Box}
-use Rattle.masks.specs.Span.{boxOf}
 use Rattle.masks.specs.Masks.{gatherAt}
-use Rattle.notes.specs.Known.{isClear, FromSet, Between, BetweenMade, BothTo, ToEnd}
-use Rattle.notes.proofs.Knowing.{shape-ok}
-use Rattle.notes.proofs.Destination.{is-box, length-is, gathered-at, small-at}
-use Rattle.first_clear.specs.Known.{routeTold, isGiven, Near, Apart, Nearing, Reaching, BySets, NearLost, FarLost}
+use Rattle.search.specs.BestVia.{askable}
+use Rattle.search.specs.Near.{NearWays}
+use Rattle.search.proofs.OfNodes.{askable-at}
+use Rattle.choice_number.specs.Note.{overOf}
+use Rattle.notes.specs.Known.{isClear, IsAt, FromSet, PartTo, ToEnd}
+use Rattle.notes.proofs.Knowing.{weights-ok, shape-ok, part-of}
+use Rattle.notes.proofs.Destination.{length-is, gathered-at, small-at}
+use Rattle.first_clear.specs.Known.{routeTold, isGiven, Near, Reaching, FarSets, FarLost}
 
 -- Whether a node is in a set, by its coordinates.
 pub member :
@@ -42,82 +44,40 @@ first-given p S D r b n e t = n .given (sym e ∙ t)
 pub none-given : (p : List ℕ) (S D : ℕ) (r : Outcome) (b : Bool) → Near p S D r → b ≡ isGiven r → b ≡ false → isClear p Deterministic S D ≡ false
 none-given p S D r b n e t = n .none (sym e ∙ t)
 
+-- The places of every second via that may be better than the note.
+pub near-known :
+    (p : List ℕ) (w : Weights) (s : Shape) (S D : ℕ) (a t : Coords) → planError large p ≡ 0 → w ≡ weightsOf p → s ≡ shapeOf p → IsAt p S a → IsAt p D t →
+    (note over bx by bz : ℕ) → over ≡ overOf note → (askable w s a t 512 0 ≡ true → NearWays w s a t over bx by bz) → NearWays w s a t (overOf note) bx by bz
+near-known p w s S D a t h ew es from to note over bx by bz eo near =
+    rw (← eo) (near (rw (ew, es, from .at, to .at) (askable-at (weightsOf p) (weights-ok p h) (shapeOf p) (shape-ok p h) S D (from .node) (to .node) 512 0 (omega arith))))
+
 -- ---- by the sets to all nodes
-module _ (p : List ℕ) (w : Weights) (s : Shape) (work : List ℕ) (S D : ℕ) (a t : Coords) (fa : List ℕ) (straight : Bool) (note : ℕ) (notes : List ℕ) (g : BySets p w s work S D a t fa straight note notes)
-    (len : ℕ) (el : len ≡ distanceWord w s a t) where
-  sets-apart : Apart p s S D len
-  sets-apart = record {
-    plan = g .plan;
-    shape = g .shape;
-    source = g .source .node;
-    target = g .target .node;
-    distance = length-is p w s S D a t len (g .plan) (g .weights) (g .shape) (g .source) (g .target) el;
-    direct = g .direct;
-  }
-
-  pub sets-nearing : (b : Box) → b ≡ boxOf s a t → Nearing p s S D len (b .x) (b .y) (b .z) fa straight note work (512 * D) notes
-  sets-nearing b eb = record {
-    apart = sets-apart;
-    one = g .one;
-    box = is-box p s S D a t (g .plan) (g .shape) (g .source) (g .target) b eb;
-    out = g .adaptive;
-    back = λ v l _. g .both .adaptive v l;
-    room = omega (arith, g .both .room);
-    own = rw (g .own) (g .noted D (g .target .node));
-    over = g .over;
-    noted = λ v l _. g .noted v l;
-  }
-
-  pub sets-reaching : isClear p Deterministic S D ≡ false → Reaching p w s S D len a t fa note work (512 * D) notes
-  sets-reaching blocked = record {
-    apart = sets-apart;
+module _ (p : List ℕ) (w : Weights) (s : Shape) (work : List ℕ) (S D : ℕ) (a t : Coords) (fa : List ℕ) (note : ℕ) (notes : List ℕ)
+    (g : FarSets p w s work S D a t fa note notes) where
+  pub sets-reaching :
+      (over bx by bz : ℕ) → over ≡ overOf note → (askable w s a t 512 0 ≡ true → NearWays w s a t over bx by bz) → (len : ℕ) → len ≡ distanceWord w s a t →
+      Reaching p w s S D len a t bx by bz fa note work (512 * D) notes
+  sets-reaching over bx by bz eo near len el = record {
+    apart = record {
+      plan = g .plan;
+      shape = g .shape;
+      source = g .source .node;
+      target = g .target .node;
+      distance = length-is p w s S D a t len (g .plan) (g .weights) (g .shape) (g .source) (g .target) el;
+      direct = g .direct;
+    };
     weights = g .weights;
     source = g .source;
     target = g .target;
-    blocked = blocked;
+    blocked = g .blocked;
+    near = near-known p w s S D a t (g .plan) (g .weights) (g .shape) (g .source) (g .target) note over bx by bz eo near;
     out = g .adaptive;
-    both = g .both;
+    both = part-of p D bx by bz work (512 * D) (g .both);
     own = g .own;
     noted = g .noted;
   }
 
 -- ---- by the losses
-module _ (p : List ℕ) (w : Weights) (s : Shape) (near : List ℕ) (n : ℕ) (ta : List ℕ) (S D : ℕ) (a t : Coords) (fa : List ℕ) (straight : Bool) (note : ℕ) (notes : List ℕ)
-    (g : NearLost p w s near n ta S D a t fa straight note notes) (masks : List ℕ) (gathered : (i : ℕ) → i < 288 → getD masks i 0 ≡ gatherAt ta t i) where
-  pub near-between : (run : List ℕ) → 256 ≤ length run → Between p Adaptive s S D a t near n masks run 0
-  near-between run room = record {
-    words = g .words;
-    count = g .count;
-    of-plan = g .of-plan;
-    standing = g .standing;
-    source = g .source;
-    target = g .target;
-    ended = gathered-at p s D t ta masks (g .of-plan .plan) (g .target) Adaptive false (g .masks) gathered;
-    room = omega arith;
-  }
-
-  pub near-nearing :
-      (run new : List ℕ) → 256 ≤ length run → BetweenMade p Adaptive S D 0 run new → (b : Box) → b ≡ boxOf s a t → (len : ℕ) → len ≡ distanceWord w s a t →
-      Nearing p s S D len (b .x) (b .y) (b .z) fa straight note new 0 notes
-  near-nearing run new room made b eb len el = record {
-    apart = record {
-      plan = g .of-plan .plan;
-      shape = g .of-plan .shape;
-      source = g .source .node;
-      target = g .target .node;
-      distance = length-is p w s S D a t len (g .of-plan .plan) (g .weights) (g .of-plan .shape) (g .source) (g .target) el;
-      direct = g .direct;
-    };
-    one = g .one;
-    box = is-box p s S D a t (g .of-plan .plan) (g .of-plan .shape) (g .source) (g .target) b eb;
-    out = g .adaptive;
-    back = made .set;
-    room = omega (arith, made .rest .long);
-    own = g .own;
-    over = g .over;
-    noted = g .noted;
-  }
-
 module _ (p : List ℕ) (w : Weights) (s : Shape) (words : List ℕ) (count : ℕ) (ta td : List ℕ) (S D : ℕ) (a t : Coords) (fa : List ℕ) (note : ℕ) (notes : List ℕ)
     (g : FarLost p w s words count ta td S D a t fa note notes) where
   pub far-ends :
@@ -129,8 +89,10 @@ module _ (p : List ℕ) (w : Weights) (s : Shape) (words : List ℕ) (count : �
     deterministic = gathered-at p s D t td others (g .of-plan .plan) (g .target) Deterministic false (g .others) gd;
   }
 
-  pub far-reaching : (run : List ℕ) → BothTo p D run 0 → (len : ℕ) → len ≡ distanceWord w s a t → Reaching p w s S D len a t fa note run 0 notes
-  far-reaching run both len el = record {
+  pub far-reaching :
+      (over bx by bz : ℕ) → over ≡ overOf note → (askable w s a t 512 0 ≡ true → NearWays w s a t over bx by bz) → (run : List ℕ) → PartTo p D bx by bz run 0 →
+      (len : ℕ) → len ≡ distanceWord w s a t → Reaching p w s S D len a t bx by bz fa note run 0 notes
+  far-reaching over bx by bz eo near run both len el = record {
     apart = record {
       plan = g .of-plan .plan;
       shape = g .of-plan .shape;
@@ -143,6 +105,7 @@ module _ (p : List ℕ) (w : Weights) (s : Shape) (words : List ℕ) (count : �
     source = g .source;
     target = g .target;
     blocked = g .blocked;
+    near = near-known p w s S D a t (g .of-plan .plan) (g .weights) (g .of-plan .shape) (g .source) (g .target) note over bx by bz eo near;
     out = g .adaptive;
     both = both;
     own = g .own;

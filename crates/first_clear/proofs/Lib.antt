@@ -1,4 +1,5 @@
 pub mod Own
+pub mod Twos
 pub mod Steps
 pub mod Reaches
 pub mod Dests

@@ -7,7 +7,7 @@ use mathlib.Core.List.{List}
 use lib.ListN.{length, getD, replicate}
 use borrow.Author.Tests.{lt-ltb}
 use Rattle.theory.specs.Clear.{clear}
-use Rattle.theory.proofs.Cases.{test, by-le}
+use Rattle.theory.proofs.Cases.{by-le}
 use Rattle.shape.specs.declared.shape.Shape.{Shape}
 use Rattle.shape.specs.declared.shape.Coords.{Coords}
 use Rattle.shape.specs.Shape.{shapeError}
@@ -24,19 +24,21 @@ use Rattle.choice.specs.Pair.{soundIn, farIn}
 use Rattle.choice.specs.Search.{Lengths}
 use Rattle.choice.proofs.AtTorus.{far-lengths}
 use Rattle.search.specs.Number.{unclear}
+use Rattle.rows.specs.Rows.{inProduct}
 use Rattle.search.specs.FirstVia.{isVia}
+use Rattle.search.specs.Near.{NearWays}
 use Rattle.search.proofs.OfNodes.{askable-at}
 use Rattle.second_via.specs.Least.{LeastAt}
 use Rattle.second_via.specs.Reach.{reaches, reachIn}
-use Rattle.choice_number.specs.Note.{reachBy, boundOf, boundBy}
+use Rattle.choice_number.specs.Note.{reachBy, boundOf, overOf, boundBy}
 use Rattle.choice_number.specs.Told.{oneTold, twoTold}
 use Rattle.choice_number.proofs.ThirdLeg as Third
 use Rattle.choice_number.proofs.Answers.{one-answer, two-answer}
 use Rattle.notes.specs.Known.{isClear, NoteTo}
-use Rattle.notes.proofs.Knowing.{weights-ok, shape-ok, in-all}
-use Rattle.notes.proofs.OnWays.{is-passes}
+use Rattle.notes.proofs.Knowing.{weights-ok, shape-ok}
+use Rattle.notes.proofs.OnWays.{passes-is, is-passes}
 use Rattle.first_clear.specs.Known.{routeTold, Reaching}
-use Rattle.first_clear.proofs.Steps.{in-every}
+use Rattle.first_clear.proofs.Twos.{in-every}
 
 low-place : (x k v : ℕ) → x ≡ 4096 * k + v → v < 4096 → x % 4096 ≡ v
 low-place x k v e l = omega arith
@@ -48,7 +50,8 @@ note-via p S D note h own low =
     let e : note % 4096 ≡ r .v = omega (arith, r .is, Third.node-small (shapeOf p) (shape-ok p h) (r .v) (r .below)) in
     omega (arith, r .below)
 
-module _ (p : List ℕ) (w : Weights) (s : Shape) (S D len : ℕ) (a t : Coords) (fa : List ℕ) (note : ℕ) (to : List ℕ) (at : ℕ) (notes : List ℕ) (g : Reaching p w s S D len a t fa note to at notes) where
+module _ (p : List ℕ) (w : Weights) (s : Shape) (S D len : ℕ) (a t : Coords) (bx by bz : ℕ) (fa : List ℕ) (note : ℕ) (to : List ℕ) (at : ℕ) (notes : List ℕ)
+    (g : Reaching p w s S D len a t bx by bz fa note to at notes) where
   ok : shapeError (shapeOf p) ≡ 0
   ok = shape-ok p (g .apart .plan)
 
@@ -73,17 +76,20 @@ module _ (p : List ℕ) (w : Weights) (s : Shape) (S D len : ℕ) (a t : Coords)
   abbrev reach : ℕ → ℕ
   reach x = reachBy (farIn p) (clear (torus (shapeOf p)) (soundIn p)) S D (noteAt x) x
 
-  -- The element of a node.
-  reach-is : (x : ℕ) → x < nodeCount (shapeOf p) → reachIn w s a t every notes to at x ≡ reach x
+  abbrev inside-it : ℕ → Type 0
+  inside-it x = inProduct bx by bz (coordsOf (shapeOf p) x) ≡ true
+
+  -- The element of a node of the product.
+  reach-is : (x : ℕ) → x < nodeCount (shapeOf p) → inside-it x → reachIn w s a t bx by bz notes to at x ≡ reach x
   unfolding reachIn reaches reachBy
-  reach-is x l =
+  reach-is x l i =
       rw (g .weights, g .apart .shape, g .source .at, g .target .at)
       (rw (
         askable-at (weightsOf p) (weights-ok p (g .apart .plan)) (shapeOf p) ok S D hS hD (length to) at (g .both .room),
         lt-ltb x (nodeCount (shapeOf p)) l,
-        in-every (shapeOf p) ok x l,
-        g .both .deterministic x l,
-        g .both .adaptive x l,
+        i,
+        g .both .deterministic x l i,
+        g .both .adaptive x l i,
         distance-at (weightsOf p) (shapeOf p) S x,
         distance-at (weightsOf p) (shapeOf p) x D,
       ) refl)
@@ -94,51 +100,68 @@ module _ (p : List ℕ) (w : Weights) (s : Shape) (S D len : ℕ) (a t : Coords)
   bound-is : boundOf note len ≡ boundBy (farIn p) S D (noteAt D)
   bound-is = ap (λ x. boundOf x len) (g .own) ∙ ap (boundOf (noteAt D)) (g .apart .distance)
 
-  module _ (reached : List ℕ) (are : (x : ℕ) → x < 4096 → getD reached x 0 ≡ reachIn w s a t every notes to at x) (bound : ℕ) (eb : bound ≡ boundOf note len)
-      (second : ℕ) (least : LeastAt (nodeCount s) (isVia s 65535 65535 65535 every to (at + 256)) reached bound second) where
-    element : (x : ℕ) → x < nodeCount (shapeOf p) → getD reached x 0 ≡ reach x
-    element x l = are x (Third.node-small (shapeOf p) ok x l) ∙ reach-is x l
+  -- A node below the bound is in the product, and has a clear leg to D.
+  bound-low : boundBy (farIn p) S D (noteAt D) ≤ unclear
+  bound-low = Third.bound-most (farIn p) (shapeOf p) F ok (soundIn p) S D hS hD (g .blocked) (noteAt D) (g .noted D hD)
+
+  here : NearWays (weightsOf p) (shapeOf p) (coordsOf (shapeOf p) S) (coordsOf (shapeOf p) D) (overOf (noteAt D)) bx by bz
+  here = rw (g .weights, g .apart .shape, g .source .at, g .target .at, g .own) at (g .near)
+
+  within : (x : ℕ) → x < nodeCount (shapeOf p) → reach x < boundBy (farIn p) S D (noteAt D) → inside-it x
+  within x l low = here .each (coordsOf (shapeOf p) x) (inside (shapeOf p) ok x l)
+      (rw (distance-at (weightsOf p) (shapeOf p) S x, distance-at (weightsOf p) (shapeOf p) x D, distance-at (weightsOf p) (shapeOf p) S D)
+      (Third.reach-near (farIn p) (clear (torus (shapeOf p)) (soundIn p)) S D (noteAt x) x (noteAt D) bound-low low))
+
+  back-clear : (x : ℕ) → x < nodeCount (shapeOf p) → reach x < boundBy (farIn p) S D (noteAt D) → isClear p Deterministic x D ≡ true
+  back-clear x l low = Third.reach-low (farIn p) (clear (torus (shapeOf p)) (soundIn p)) S D (noteAt x) x (omega (arith, bound-low)) .0
+
+  module _ (reached : List ℕ) (are : (x : ℕ) → x < 4096 → getD reached x 0 ≡ reachIn w s a t bx by bz notes to at x) (bound : ℕ) (eb : bound ≡ boundOf note len)
+      (second : ℕ) (least : LeastAt (nodeCount s) (isVia s bx by bz every to (at + 256)) reached bound second) where
+    element : (x : ℕ) → x < nodeCount (shapeOf p) → inside-it x → getD reached x 0 ≡ reach x
+    element x l i = are x (Third.node-small (shapeOf p) ok x l) ∙ reach-is x l i
 
     bound-here : bound ≡ boundBy (farIn p) S D (noteAt D)
     bound-here = eb ∙ bound-is
 
-    -- A node below the bound has a clear leg to D, and passes.
-    passing : (x : ℕ) → x < nodeCount (shapeOf p) → reach x < boundBy (farIn p) S D (noteAt D) → isVia s 65535 65535 65535 every to (at + 256) x ≡ true
-    unfolding reachBy
+    passing : (x : ℕ) → x < nodeCount (shapeOf p) → reach x < boundBy (farIn p) S D (noteAt D) → isVia s bx by bz every to (at + 256) x ≡ true
     passing x l low =
-        let most = Third.bound-most (farIn p) (shapeOf p) F ok (soundIn p) S D hS hD (g .blocked) (noteAt D) (g .noted D hD) in
-        let back : isClear p Deterministic x D ≡ true = test (isClear p Deterministic x D) (λ c. c) (λ c. let z : reach x ≡ unclear = rw c refl in absurd (omega arith)) in
-        is-passes p s 65535 65535 65535 every to (at + 256) (g .apart .shape) (g .apart .plan) (omega (arith, g .both .room)) x
-        (record { box = in-all (shapeOf p) ok (coordsOf (shapeOf p) x) (inside (shapeOf p) ok x l); out = in-every (shapeOf p) ok x l; back = g .both .deterministic x l ∙ back })
+        is-passes p s bx by bz every to (at + 256) (g .apart .shape) (g .apart .plan) (omega (arith, g .both .room)) x
+        (record { box = within x l low; out = in-every (shapeOf p) ok x l; back = g .both .deterministic x l (within x l low) ∙ back-clear x l low })
 
     module _ (found : second < 4096) where
       pub node-here : second < nodeCount (shapeOf p)
       node-here = omega (arith, least .found found .0, count-is)
 
+      pub second-inside : inside-it second
+      second-inside = passes-is p s bx by bz every to (at + 256) (g .apart .shape) (g .apart .plan) (omega (arith, g .both .room)) second (least .found found .1) .box
+
+      second-is : getD reached second 0 ≡ reach second
+      second-is = element second node-here second-inside
+
       better : reach second < boundBy (farIn p) S D (noteAt D)
-      better = omega (arith, element second node-here, least .found found .2, bound-here)
+      better = omega (arith, second-is, least .found found .2, bound-here)
 
       each-here : (x : ℕ) → x < nodeCount (shapeOf p) → reach x < boundBy (farIn p) S D (noteAt D) → reach second ≤ reach x
-      each-here x l low = omega (arith, element x l, element second node-here, least .each x (omega (arith, count-is)) (passing x l low) (omega (arith, element x l, bound-here)) .1)
+      each-here x l low = omega (arith, element x l (within x l low), second-is, least .each x (omega (arith, count-is)) (passing x l low) (omega (arith, element x l (within x l low), bound-here)) .1)
 
       first-here : (x : ℕ) → x < second → reach x < boundBy (farIn p) S D (noteAt D) → reach second < reach x
-      first-here x q low = let l : x < nodeCount (shapeOf p) = omega (arith, node-here) in omega (arith, element x l, element second node-here, least .first x (omega (arith, count-is)) q found (passing x l low))
+      first-here x q low = let l : x < nodeCount (shapeOf p) = omega (arith, node-here) in omega (arith, element x l (within x l low), second-is, least .first x (omega (arith, count-is)) q found (passing x l low))
 
       pub by-second : (first third : Bool) → first ≡ isClear p Adaptive S (getD reached second 0 % 4096) → third ≡ isClear p Adaptive second D → (r : Outcome) → r ≡ twoTold (getD reached second 0) second first third → r ≡ routeTold p S D
       by-second first third e1 e3 r er =
           er ∙ two-answer (farIn p) (shapeOf p) F ok (soundIn p) S D hS hD (g .blocked) noteAt (g .noted) second node-here better each-here first-here
-          (getD reached second 0) (element second node-here) first third e1 e3
+          (getD reached second 0) second-is first third e1 e3
 
       pub via-known : getD reached second 0 % 4096 < nodeCount (shapeOf p)
       via-known =
           let r = Third.reached (farIn p) (shapeOf p) F ok (soundIn p) S D hS hD (g .blocked) noteAt (g .noted) second node-here better each-here first-here in
-          let e : getD reached second 0 % 4096 ≡ r .v = low-place (getD reached second 0) _ (r .v) (element second node-here ∙ r .number) (Third.node-small (shapeOf p) ok (r .v) (r .below)) in
+          let e : getD reached second 0 % 4096 ≡ r .v = low-place (getD reached second 0) _ (r .v) (second-is ∙ r .number) (Third.node-small (shapeOf p) ok (r .v) (r .below)) in
           omega (arith, r .below)
 
     module _ (none : 4096 ≤ second) where
       none-better : (x : ℕ) → x < nodeCount (shapeOf p) → boundBy (farIn p) S D (noteAt D) ≤ reach x
       none-better x l = by-le (boundBy (farIn p) S D (noteAt D)) (reach x) (λ k. k)
-          (λ low. absurd (omega (arith, least .each x (omega (arith, count-is)) (passing x l low) (omega (arith, element x l, bound-here)) .0)))
+          (λ low. absurd (omega (arith, least .each x (omega (arith, count-is)) (passing x l low) (omega (arith, element x l (within x l low), bound-here)) .0)))
 
       pub by-first : (first : Bool) → (note < unclear → first ≡ isClear p Adaptive S (note % 4096)) → (r : Outcome) → r ≡ oneTold note len first → r ≡ routeTold p S D
       by-first first ef r er =

@@ -18,34 +18,34 @@ ghost use mathlib.Core.List.{List};
 ghost use Prim.Native.Nat.{ℕ};
 ghost use Rattle.first_clear.specs.Known.{routeTold, Reaching};
 
-// Every place of a dimension.
-const ALL: u16 = 65535;
-
-// `fa`: the nodes with a clear adaptive leg from the source. `to`: both sets to the destination, from place `at` on. `note`: the destination's.
+// `bx`, `by`, `bz`: the places of every second via that may be better than the note. `fa`: the nodes with a clear adaptive leg from the source. `to`: both sets to the destination, from place `at` on. `note`: the destination's.
 pub fn far_outcome(
     weights: Weights,
     shape: Shape,
     length: u16,
     a: Coords,
     t: Coords,
+    bx: u16,
+    by: u16,
+    bz: u16,
     fa: &[u16; 256],
     note: u32,
     to: &[u16],
     at: usize,
     notes: &[u32; 4096],
 ) -> Outcome
-    ensures { λ r. ⌜ ((p : List ℕ) (S D : ℕ) → Reaching p weights shape S D length a t (now (fa .entry)) note (now (to .entry)) at (now (notes .entry)) → r ≡ routeTold p S D) ⌝ }
+    ensures { λ r. ⌜ ((p : List ℕ) (S D : ℕ) → Reaching p weights shape S D length a t bx by bz (now (fa .entry)) note (now (to .entry)) at (now (notes .entry)) → r ≡ routeTold p S D) ⌝ }
 {
     if !has_rows(to.len(), at, 512) {
         return Outcome::Refused(NO_CLEAR_CHOICE);
     }
-    let all = [ALL; 256];
-    let reached = reach(weights, shape, a, t, &all, notes, to, at);
+    let reached = reach(weights, shape, a, t, bx, by, bz, notes, to, at);
+    let all = [65535u16; 256];
     let second = least(
         shape,
-        ALL,
-        ALL,
-        ALL,
+        bx,
+        by,
+        bz,
         &all,
         to,
         at + 256,

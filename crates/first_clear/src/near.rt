@@ -8,12 +8,13 @@ use machine::node::coords;
 use numbers::NO_CLEAR_CHOICE;
 use packet::Route;
 use rows::member::has;
+use search::best::UNCLEAR;
 use second_via::least::least;
 use shape::Shape;
 ghost use mathlib.Core.Path.{_≡_};
 ghost use mathlib.Core.List.{List};
 ghost use Prim.Native.Nat.{ℕ};
-ghost use Rattle.first_clear.specs.Known.{isGiven, viaRoute, Near, Nearing};
+ghost use Rattle.first_clear.specs.Known.{isGiven, viaRoute, Near, TwoTo, Pairing, Nearing};
 
 // A route, or none yet: a refusal.
 pub fn is_given(outcome: Outcome) -> bool
@@ -38,30 +39,49 @@ pub fn via_outcome(note: u32, length: u16) -> Outcome
     Outcome::Refused(NO_CLEAR_CHOICE)
 }
 
-// The others, where it is not. `bx`, `by`, `bz`: the places between the two ends. `fa`: the nodes with a clear adaptive leg from the source. `to`: those with one to
-// the destination, from place `at` on. `straight`: the direct deterministic leg is clear.
-pub fn near_outcome(
+// Where it is not: the two vias, 4,096 times the first and the second; `UNCLEAR` where there are none. `bx`, `by`, `bz`: the places between the two ends. `to`:
+// the nodes there with a clear adaptive leg to the destination, from place `at` on.
+pub fn two_vias(
     shape: Shape,
-    length: u16,
     bx: u16,
     by: u16,
     bz: u16,
-    fa: &[u16; 256],
-    straight: bool,
-    note: u32,
     to: &[u16],
     at: usize,
     notes: &[u32; 4096],
-) -> Outcome
-    ensures { λ r. ⌜ ((p : List ℕ) (S D : ℕ) → Nearing p shape S D length bx by bz (now (fa .entry)) straight note (now (to .entry)) at (now (notes .entry)) → Near p S D r) ⌝ }
+) -> u32
+    ensures { λ r. ⌜ ((p : List ℕ) (S D : ℕ) → Pairing p shape S D bx by bz (now (to .entry)) at (now (notes .entry)) → TwoTo p S D r) ⌝ }
 {
     let all = [65535u16; 256];
     let second = least(shape, bx, by, bz, &all, to, at, notes, 4096);
     if second < 4096 {
         let i = second as usize;
-        let via = notes[i] as u16;
+        return 4096 * notes[i] + second as u32;
+    }
+    UNCLEAR
+}
+
+// The steps behind the first. `fa`: the nodes with a clear adaptive leg from the source. `straight`: the direct deterministic leg is clear. `note`, `two`: the
+// destination's.
+pub fn near_outcome(
+    shape: Shape,
+    length: u16,
+    fa: &[u16; 256],
+    straight: bool,
+    note: u32,
+    two: u32,
+) -> Outcome
+    ensures { λ r. ⌜ ((p : List ℕ) (S D : ℕ) → Nearing p shape S D length (now (fa .entry)) straight note two → Near p S D r) ⌝ }
+{
+    if two < UNCLEAR {
         return Outcome::Given(
-            Route::Vias(via, second, Mode::Adaptive, Mode::Adaptive, Mode::Adaptive),
+            Route::Vias(
+                (two / 4096 % 4096) as u16,
+                (two % 4096) as u16,
+                Mode::Adaptive,
+                Mode::Adaptive,
+                Mode::Adaptive,
+            ),
             length,
         );
     }

@@ -35,7 +35,7 @@ use Rattle.masks.specs.Masks.{gatherAt, Ended, Masked}
 use Rattle.masks.proofs.Spans.{box-inside}
 use Rattle.masks.proofs.Tables.{gathered}
 use Rattle.search.specs.FirstVia.{isVia, FirstOf}
-use Rattle.notes.specs.Rows.{Put}
+use Rattle.notes.specs.Rows.{Elsewhere, Put}
 use Rattle.notes.specs.Known.{isClear, OfPlan, IsAt, FromSet, ToBetween, BothTo, NoteTo, IsBox, NearLosses, LowestVia, Blocked, lower, viaNote, Between, BetweenMade, Short, Faring, FarMasks, BySets, ByLosses}
 use Rattle.search.specs.Number.{unclear}
 use Rattle.notes.proofs.Knowing.{weights-ok, shape-ok, to-within, put-set, other-set}
@@ -151,6 +151,13 @@ module _ (p : List ℕ) (w : Weights) (s : Shape) (words : List ℕ) (count S D 
   pub masks-between : Between p Deterministic s S D a t near n deterministic run 256
   masks-between = record { words = words; count = count; of-plan = k; standing = g .standing; source = g .source; target = g .ends .node; ended = g .ends .deterministic; room = omega (arith, g .set .0) }
 
+  -- The set at the front stays where others are put.
+  pub masks-front : (new : List ℕ) → BetweenMade p Deterministic S D 256 run new → ToBetween p Adaptive S D new 0
+  masks-front new made v l e = other-set (shapeOf p) (shape-ok p (k .plan)) 256 256 0 run new (made .rest) (inl (omega arith)) v l ∙ g .set .1 v l e
+
+  pub masks-behind : (new last : List ℕ) → BetweenMade p Deterministic S D 256 run new → Elsewhere 512 512 new last → ToBetween p Adaptive S D last 0
+  masks-behind new last made rest v l e = other-set (shapeOf p) (shape-ok p (k .plan)) 512 512 0 new last rest (inl (omega arith)) v l ∙ masks-front new made v l e
+
   pub masks-short : (new : List ℕ) → BetweenMade p Deterministic S D 256 run new → (b : Box) → b ≡ boxOf s a t → Short p s S D (b .x) (b .y) (b .z) fa fd new 0
   masks-short new made b eb = record {
     plan = k .plan;
@@ -162,14 +169,14 @@ module _ (p : List ℕ) (w : Weights) (s : Shape) (words : List ℕ) (count S D 
     deterministic = g .straight;
     both = record {
       room = omega (arith, g .set .0, made .rest .long);
-      adaptive = λ v l e. other-set (shapeOf p) (shape-ok p (k .plan)) 256 256 0 run new (made .rest) (inl (omega arith)) v l ∙ g .set .1 v l e;
+      adaptive = masks-front new made;
       deterministic = made .set;
     };
     blocked = g .blocked;
   }
 
-  pub masks-faring : (new : List ℕ) → BothTo p D new 0 → Faring p w s S D a t fa fd new 0
-  masks-faring new both = record { plan = k .plan; weights = g .weights; shape = k .shape; source = g .source; target = g .ends .node; adaptive = g .out; deterministic = g .straight; both = both; blocked = g .blocked .straight }
+  pub masks-faring : (new : List ℕ) (at : ℕ) → BothTo p D new at → Faring p w s S D a t fa fd new at
+  masks-faring new at both = record { plan = k .plan; weights = g .weights; shape = k .shape; source = g .source; target = g .ends .node; adaptive = g .out; deterministic = g .straight; both = both; blocked = g .blocked .straight }
 
 -- ---- by the sets to all nodes
 module _ (p : List ℕ) (w : Weights) (s : Shape) (work : List ℕ) (S D : ℕ) (a t : Coords) (fa fd : List ℕ) (straight : Bool) (g : BySets p w s work S D a t fa fd straight) (b : Box) (eb : b ≡ boxOf s a t) where
@@ -205,12 +212,12 @@ module _ (p : List ℕ) (w : Weights) (s : Shape) (words : List ℕ) (count : �
   ended : Ended Adaptive false s t masks
   ended = gathered-at p s D t ta masks (g .of-plan .plan) (g .target) Adaptive false (g .masks) gathered
 
-  pub losses-between : (run : List ℕ) → 512 ≤ length run → Between p Adaptive s S D a t near n masks run 0
+  pub losses-between : (run : List ℕ) → 1024 ≤ length run → Between p Adaptive s S D a t near n masks run 0
   losses-between run room = record { words = words; count = count; of-plan = g .of-plan; standing = g .standing; source = g .source; target = g .target; ended = ended; room = omega arith }
 
-  module _ (run new : List ℕ) (room : 512 ≤ length run) (made : BetweenMade p Adaptive S D 0 run new) (b : Box) (eb : b ≡ boxOf s a t)
+  module _ (run new : List ℕ) (room : 1024 ≤ length run) (made : BetweenMade p Adaptive S D 0 run new) (b : Box) (eb : b ≡ boxOf s a t)
       (via : ℕ) (first : FirstOf (nodeCount s) (isVia s (b .x) (b .y) (b .z) fa new 0) via) where
-    long : 512 ≤ length new
+    long : 1024 ≤ length new
     long = omega (arith, made .rest .long)
 
     pub losses-near : via < 4096 → NoteTo p S D via

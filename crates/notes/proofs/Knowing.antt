@@ -1,5 +1,5 @@
 -- The sets that losses give are those of the clear legs.
-use Prim.Native.Nat.{ℕ, _+_, _-_, _*_, _≤_, _<_}
+use Prim.Native.Nat.{ℕ, _+_, _*_, _≤_, _<_}
 use native.Mathlib.Omega.{arith}
 use mathlib.Core.Path.{_≡_, refl, sym, ap, _∙_}
 use mathlib.Core.Logic.{_⊎_, inl, inr, ⊎-elim}
@@ -33,7 +33,7 @@ use Rattle.masks.specs.Masks.{Ended}
 use Rattle.sets.specs.Clear.{clearIn}
 use Rattle.sets.proofs.Sets.{clear-in}
 use Rattle.search.specs.FirstVia.{hasRows}
-use Rattle.notes.specs.Known.{isClear, OfPlan, IsAt, FromSet, ToSet, ToBetween, BothTo, BothBetween}
+use Rattle.notes.specs.Known.{isClear, OfPlan, IsAt, FromSet, ToPart, ToBetween, BothTo, PartTo, BothBetween}
 use Rattle.notes.specs.Rows.{Elsewhere, Put}
 
 pub weights-ok : (p : List ℕ) → planError large p ≡ 0 → weightError (weightsOf p) ≡ 0
@@ -72,12 +72,6 @@ module _ (p : List ℕ) (s : Shape) (words : List ℕ) (count : ℕ) (k : OfPlan
       ∙ ap (λ (t : Coords). not (onLeg rule m (shapeOf p) words count t (coordsOf (shapeOf p) v))) (a .at)
       ∙ sym (clear-is p (k .plan) words count (k .losses) n v (a .node) l m)
 
-  pub to-known : Ended m false s c ends → Are (clearIn 65535 65535 65535 ends words count) rows → ToSet p m n rows 0
-  to-known e r v l =
-      clear-in m false (shapeOf p) ok c here 65535 65535 65535 ends words rows count few (rw (k .shape) at e) r v l (in-all (shapeOf p) ok (coordsOf (shapeOf p) v) (inside (shapeOf p) ok v l))
-      ∙ ap (λ (t : Coords). not (onLeg rule m (shapeOf p) words count (coordsOf (shapeOf p) v) t)) (a .at)
-      ∙ sym (clear-is p (k .plan) words count (k .losses) v n l (a .node) m)
-
   -- Within a product, by losses that stand for all there.
   pub to-within :
       (bx by bz : ℕ) (near : List ℕ) (some : ℕ) → some ≤ 256 → Ended m false s c ends → Are (clearIn bx by bz ends near some) rows → (v : ℕ) → v < nodeCount (shapeOf p) →
@@ -89,6 +83,9 @@ module _ (p : List ℕ) (s : Shape) (words : List ℕ) (count : ℕ) (k : OfPlan
       ∙ ap (λ (t : Coords). not (onLeg rule m (shapeOf p) near some (coordsOf (shapeOf p) v) t)) (a .at)
       ∙ ap not same
       ∙ sym (clear-is p (k .plan) words count (k .losses) v n l (a .node) m)
+
+  pub to-part : (bx by bz : ℕ) → Ended m false s c ends → Are (clearIn bx by bz ends words count) rows → ToPart p m n bx by bz rows 0
+  to-part bx by bz e r v l i = to-within bx by bz words count few e r v l i refl
 
 -- ---- rows put into a run
 pub put-none : (at : ℕ) (rows old : List ℕ) → Put at rows 0 old old
@@ -131,14 +128,25 @@ put-twice at first second old mid new f g = record {
   other = λ i h. g .rest .other i (⊎-elim (λ a. inl (omega arith)) (λ a. inr (omega arith)) h) ∙ f .rest .other i (⊎-elim (λ a. inl a) (λ a. inr (omega arith)) h);
 }
 
-pub both-to :
-    (p : List ℕ) → planError large p ≡ 0 → (D at : ℕ) (first second old mid new : List ℕ) → at + 512 ≤ length old → Put at first 256 old mid → Put (at + 256) second 256 mid new →
-    ToSet p Adaptive D first 0 → ToSet p Deterministic D second 0 → BothTo p D new at
-both-to p h D at first second old mid new room f g a d = record {
+pub part-to :
+    (p : List ℕ) → planError large p ≡ 0 → (D bx by bz at : ℕ) (first second old mid new : List ℕ) → at + 512 ≤ length old → Put at first 256 old mid → Put (at + 256) second 256 mid new →
+    ToPart p Adaptive D bx by bz first 0 → ToPart p Deterministic D bx by bz second 0 → PartTo p D bx by bz new at
+part-to p h D bx by bz at first second old mid new room f g a d = record {
   room = omega (arith, f .rest .long, g .rest .long);
-  adaptive = λ v l. other-set (shapeOf p) (shape-ok p h) (at + 256) 256 at mid new (g .rest) (inl (omega arith)) v l ∙ put-set (shapeOf p) (shape-ok p h) at first old mid f v l ∙ a v l;
-  deterministic = λ v l. put-set (shapeOf p) (shape-ok p h) (at + 256) second mid new g v l ∙ d v l;
+  adaptive = λ v l i. other-set (shapeOf p) (shape-ok p h) (at + 256) 256 at mid new (g .rest) (inl (omega arith)) v l ∙ put-set (shapeOf p) (shape-ok p h) at first old mid f v l ∙ a v l i;
+  deterministic = λ v l i. put-set (shapeOf p) (shape-ok p h) (at + 256) second mid new g v l ∙ d v l i;
 }
+
+-- The product of all places has every node.
+pub whole-part : (p : List ℕ) → planError large p ≡ 0 → (D : ℕ) (rows : List ℕ) (at : ℕ) → PartTo p D 65535 65535 65535 rows at → BothTo p D rows at
+whole-part p h D rows at g =
+    let here : (v : ℕ) → v < nodeCount (shapeOf p) → inProduct 65535 65535 65535 (coordsOf (shapeOf p) v) ≡ true =
+    λ v l. in-all (shapeOf p) (shape-ok p h) (coordsOf (shapeOf p) v) (inside (shapeOf p) (shape-ok p h) v l) in
+    record { room = g .room; adaptive = λ v l. g .adaptive v l (here v l); deterministic = λ v l. g .deterministic v l (here v l) }
+
+-- Both sets of all nodes hold those of any product.
+pub part-of : (p : List ℕ) (D bx by bz : ℕ) (rows : List ℕ) (at : ℕ) → BothTo p D rows at → PartTo p D bx by bz rows at
+part-of p D bx by bz rows at g = record { room = g .room; adaptive = λ v l i. g .adaptive v l; deterministic = λ v l i. g .deterministic v l }
 
 -- The adaptive set stands at the front of the run; the deterministic one is put behind it.
 pub both-between :

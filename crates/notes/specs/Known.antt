@@ -54,11 +54,22 @@ abbrev pub ToBetween : List ℕ → Mode → ℕ → ℕ → List ℕ → ℕ �
 ToBetween p m S D rows at =
     (v : ℕ) → v < nodeCount (shapeOf p) → hops (shapeOf p) S v + hops (shapeOf p) v D ≡ hops (shapeOf p) S D → inSet (shapeOf p) rows at v ≡ isClear p m v D
 
+-- The same of the nodes in the product of the masks alone.
+abbrev pub ToPart : List ℕ → Mode → ℕ → ℕ → ℕ → ℕ → List ℕ → ℕ → Type 0
+ToPart p m D bx by bz rows at =
+    (v : ℕ) → v < nodeCount (shapeOf p) → inProduct bx by bz (coordsOf (shapeOf p) v) ≡ true → inSet (shapeOf p) rows at v ≡ isClear p m v D
+
 -- Both sets to D, the adaptive one first.
 pub record BothTo (p : List ℕ) (D : ℕ) (rows : List ℕ) (at : ℕ) : Type 0 where
   pub room : at + 512 ≤ length rows
   pub adaptive : ToSet p Adaptive D rows at
   pub deterministic : ToSet p Deterministic D rows (at + 256)
+
+-- Both sets of the nodes in the product, the adaptive one first.
+pub record PartTo (p : List ℕ) (D bx by bz : ℕ) (rows : List ℕ) (at : ℕ) : Type 0 where
+  pub room : at + 512 ≤ length rows
+  pub adaptive : ToPart p Adaptive D bx by bz rows at
+  pub deterministic : ToPart p Deterministic D bx by bz rows (at + 256)
 
 -- Both sets of the nodes on the shortest ways from S, the adaptive one first.
 pub record BothBetween (p : List ℕ) (S D : ℕ) (rows : List ℕ) (at : ℕ) : Type 0 where
@@ -164,7 +175,7 @@ pub record FarMasks (p : List ℕ) (w : Weights) (s : Shape) (words : List ℕ) 
   pub source : IsAt p S a
   pub out : FromSet p Adaptive S fa
   pub straight : FromSet p Deterministic S fd
-  pub set : (512 ≤ length run) × ToBetween p Adaptive S D run 0
+  pub set : (1024 ≤ length run) × ToBetween p Adaptive S D run 0
   pub blocked : Blocked p S D
 
 -- One destination, by the sets to all nodes, or by the losses and the masks of all targets.

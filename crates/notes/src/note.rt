@@ -12,9 +12,11 @@ use shape::Coords;
 use shape::Shape;
 use weights::Weights;
 ghost use mathlib.Core.List.{List};
-ghost use Prim.Native.Nat.{ℕ};
+ghost use Prim.Native.Nat.{ℕ, _≤_};
+ghost use lib.ListN.{length};
 ghost use Rattle.machine.specs.declared.leg.Mode.{Mode};
-ghost use Rattle.notes.specs.Known.{NoteTo, Between, BetweenMade, FarMasks, BySets, ByLosses};
+ghost use Rattle.machine.specs.declared.leg.Mode.the-variants.{Adaptive};
+ghost use Rattle.notes.specs.Known.{ToBetween, NoteTo, Between, BetweenMade, FarMasks, BySets, ByLosses};
 
 // The nodes on the shortest ways with a clear leg to the node whose masks they are, from a place of a run on. `near`: losses that stand for all there.
 pub fn put_between(
@@ -34,7 +36,7 @@ pub fn put_between(
     put_rows(run, at, &set);
 }
 
-// By the masks, where the set for adaptive legs stands at the front of `run`, no via in it will do, and neither direct leg is clear.
+// By the masks, where the set for adaptive legs stands at the front of `run`, no via in it will do, and neither direct leg is clear. That set stays.
 fn far_by_masks(
     weights: Weights,
     shape: Shape,
@@ -50,7 +52,7 @@ fn far_by_masks(
     fd: &[u16; 256],
     run: &mut [u16],
 ) -> u32
-    ensures { λ r. ⌜ ((p : List ℕ) (S D : ℕ) → FarMasks p weights shape (now (words .entry)) count S D a t (now (near .entry)) nears (now (adaptive .entry)) (now (deterministic .entry)) (now (fa .entry)) (now (fd .entry)) (now (run .entry)) → NoteTo p S D r) ⌝ }
+    ensures { λ r. ⌜ ((p : List ℕ) (S D : ℕ) → FarMasks p weights shape (now (words .entry)) count S D a t (now (near .entry)) nears (now (adaptive .entry)) (now (deterministic .entry)) (now (fa .entry)) (now (fd .entry)) (now (run .entry)) → NoteTo p S D r × ToBetween p Adaptive S D (now (run .exit)) 0) ⌝ }
 {
     put_between(shape, near, nears, a, t, deterministic, run, 256);
     let b = box_of(shape, a, t);
@@ -58,8 +60,8 @@ fn far_by_masks(
     if short < UNCLEAR {
         return short;
     }
-    put_both(words, count, adaptive, deterministic, run, 0);
-    best_note(weights, shape, a, t, fa, fd, run, 0)
+    put_both(words, count, adaptive, deterministic, run, 512);
+    best_note(weights, shape, a, t, fa, fd, run, 512)
 }
 
 // By the sets to all nodes. `straight`: the direct deterministic leg is clear.
@@ -92,7 +94,7 @@ pub fn note_by_sets(
     best_note(weights, shape, a, t, fa, fd, work, at)
 }
 
-// By the losses, with the masks of all targets.
+// By the losses, with the masks of all targets. At the front of `run`, which has 1,024 rows, the nodes on the shortest ways with a clear adaptive leg to the node are left.
 pub fn note_by_losses(
     weights: Weights,
     shape: Shape,
@@ -107,14 +109,14 @@ pub fn note_by_losses(
     fa: &[u16; 256],
     fd: &[u16; 256],
     straight: bool,
+    run: &mut [u16],
 ) -> u32
-    ensures { λ r. ⌜ ((p : List ℕ) (S D : ℕ) → ByLosses p weights shape (now (words .entry)) count (now (near .entry)) nears (now (ta .entry)) (now (td .entry)) S D a t (now (fa .entry)) (now (fd .entry)) straight → NoteTo p S D r) ⌝ }
+    ensures { λ r. ⌜ ((p : List ℕ) (S D : ℕ) → ByLosses p weights shape (now (words .entry)) count (now (near .entry)) nears (now (ta .entry)) (now (td .entry)) S D a t (now (fa .entry)) (now (fd .entry)) straight → 1024 ≤ length (now (run .entry)) → NoteTo p S D r × ToBetween p Adaptive S D (now (run .exit)) 0) ⌝ }
 {
-    let mut run = [0u16; 512];
     let masks = gather(ta, t);
-    put_between(shape, near, nears, a, t, &masks, &mut run, 0);
+    put_between(shape, near, nears, a, t, &masks, run, 0);
     let b = box_of(shape, a, t);
-    let via = lowest(shape, b.x, b.y, b.z, fa, &run, 0);
+    let via = lowest(shape, b.x, b.y, b.z, fa, run, 0);
     if via < 4096 {
         return via as u32;
     }
@@ -135,6 +137,6 @@ pub fn note_by_losses(
         &others,
         fa,
         fd,
-        &mut run,
+        run,
     )
 }

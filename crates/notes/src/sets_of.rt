@@ -13,7 +13,7 @@ ghost use Rattle.shape.specs.declared.shape.Shape.{Shape};
 ghost use Rattle.shape.specs.declared.shape.Coords.{Coords};
 ghost use Rattle.machine.specs.declared.leg.Mode.{Mode};
 ghost use Rattle.masks.specs.Masks.{Ended};
-ghost use Rattle.notes.specs.Known.{OfPlan, IsAt, FromSet, ToEnd, BothTo};
+ghost use Rattle.notes.specs.Known.{OfPlan, IsAt, FromSet, ToEnd, BothTo, PartTo};
 ghost use Rattle.notes.specs.Rows.{Put, Elsewhere};
 
 // Every place of a dimension.
@@ -47,7 +47,31 @@ pub fn put_rows(run: &mut [u16], at: usize, rows: &[u16; 256])
     }
 }
 
-// Both sets to the node whose masks they are, from a place of a run on, where the run has them.
+// Both sets to the node whose masks they are, of the nodes in the product of the places, from a place of a run on, where the run has them.
+pub fn put_part(
+    bx: u16,
+    by: u16,
+    bz: u16,
+    words: &[u16; 256],
+    count: usize,
+    adaptive: &[u16; 288],
+    deterministic: &[u16; 288],
+    run: &mut [u16],
+    at: usize,
+)
+    ensures { λ _. ⌜ ((p : List ℕ) (s : Shape) (n : ℕ) (c : Coords) → ToEnd p s (now (words .entry)) count n c (now (adaptive .entry)) (now (deterministic .entry)) → at + 512 ≤ length (now (run .entry)) → PartTo p n bx by bz (now (run .exit)) at) ⌝ }
+    ensures { λ _. ⌜ (at + 512 ≤ length (now (run .entry)) → Elsewhere at 512 (now (run .entry)) (now (run .exit))) ⌝ }
+{
+    if !has_rows(run.len(), at, 512) {
+        return;
+    }
+    let first = clear_in(bx, by, bz, adaptive, words, count);
+    let second = clear_in(bx, by, bz, deterministic, words, count);
+    put_rows(run, at, &first);
+    put_rows(run, at + 256, &second);
+}
+
+// Of all nodes.
 pub fn put_both(
     words: &[u16; 256],
     count: usize,
@@ -59,11 +83,15 @@ pub fn put_both(
     ensures { λ _. ⌜ ((p : List ℕ) (s : Shape) (n : ℕ) (c : Coords) → ToEnd p s (now (words .entry)) count n c (now (adaptive .entry)) (now (deterministic .entry)) → at + 512 ≤ length (now (run .entry)) → BothTo p n (now (run .exit)) at) ⌝ }
     ensures { λ _. ⌜ (at + 512 ≤ length (now (run .entry)) → Elsewhere at 512 (now (run .entry)) (now (run .exit))) ⌝ }
 {
-    if !has_rows(run.len(), at, 512) {
-        return;
-    }
-    let first = clear_in(ALL, ALL, ALL, adaptive, words, count);
-    let second = clear_in(ALL, ALL, ALL, deterministic, words, count);
-    put_rows(run, at, &first);
-    put_rows(run, at + 256, &second);
+    put_part(
+        ALL,
+        ALL,
+        ALL,
+        words,
+        count,
+        adaptive,
+        deterministic,
+        run,
+        at,
+    );
 }

@@ -1,5 +1,5 @@
 -- Planning one destination: what is known of it.
-use Prim.Native.Nat.{ℕ, _≤_, _<_}
+use Prim.Native.Nat.{ℕ, _+_, _*_, _≤_, _<_}
 use native.Mathlib.Omega.{arith}
 use mathlib.Core.Path.{_≡_, refl, sym, ap, _∙_}
 use mathlib.Core.Logic.{inl, inr, ⊎-elim}
@@ -15,6 +15,7 @@ use Rattle.shape.specs.declared.shape.Shape.{Shape}
 use Rattle.shape.specs.declared.shape.Coords.{Coords}
 use Rattle.machine.specs.declared.leg.Mode.the-variants.{Adaptive, Deterministic}
 use Rattle.machine.specs.Node.{isNode}
+use Rattle.machine.specs.Number.{nodeCount}
 use Rattle.weights.specs.declared.weights.Weights.{Weights}
 use Rattle.weights.specs.Steps.{distanceWord}
 use Rattle.plan.specs.Layout.{shapeOf, weightsOf, faultsOf}
@@ -27,15 +28,17 @@ use Rattle.choice.specs.declared.outcome.Outcome.{Outcome}
 use Rattle.choice.specs.Outcome.{told, toldAs}
 use Rattle.choice.specs.Pair.{farIn, pair}
 use Rattle.rows.specs.Rows.{inRows}
+use Rattle.masks.specs.declared.span.Box.{Box}
+use Rattle.masks.specs.Span.{boxOf}
 use Rattle.losses.proofs.DeadTarget.{dead-target}
 use Rattle.search.specs.Number.{unclear}
 use Rattle.notes.specs.Known as Notes
-use Rattle.notes.specs.Known.{isClear, IsAt, NearLosses, NoteTo}
-use Rattle.first_clear.specs.Known.{routeTold, isGiven, viaRoute, Noted, Apart, BySets, NearLost, FarLost}
+use Rattle.notes.specs.Known.{isClear, IsAt, ToBetween, BothTo, NearLosses, NoteTo}
+use Rattle.first_clear.specs.Known.{routeTold, isGiven, viaRoute, Noted, NotedBetween, TwoTo, Apart, Pairing, Nearing, FarSets, FarLost}
 use Rattle.first_clear.proofs.Own.{by-own}
 use Rattle.notes.proofs.Knowing.{shape-ok, nodes-few}
-use Rattle.notes.proofs.Destination.{length-is, has-is, small-at}
-use Rattle.planner.specs.Known.{Work, Ready, Sifting, ByLosses}
+use Rattle.notes.proofs.Destination.{is-box, length-is, has-is, small-at}
+use Rattle.planner.specs.Known.{Work, Ready, Sifting, Last}
 use Rattle.planned_sheet.proofs.Planning.{Source, pair-dead, pair-alive}
 use Rattle.planned_sheet.proofs.Unlisted.{pair-direct}
 
@@ -110,6 +113,53 @@ module _ (p : List ℕ) (s : Shape) (words : List ℕ) (count : ℕ) (dead ta td
       })
       (λ d. absurd (ne (dead-is ∙ ap bitOf d)))
 
+  -- ---- its two vias
+  -- It has none where the direct adaptive leg is clear, and where it is dead.
+  pub clear-apart : (b : Bool) → b ≡ inRows fa 0 t → b ≡ true → isClear p Adaptive S D ≡ false → ⊥
+  clear-apart b e y c = true≢false (sym (sym (has-is p Adaptive fa S D t (g .adaptive) to b e) ∙ y) ∙ c)
+
+  pub dead-apart : (getD dead D 0 ≡ 0 → ⊥) → deadNode (faultsOf p) D ≡ false → ⊥
+  dead-apart ne d = ne (dead-is ∙ ap bitOf d)
+
+  pub alive : getD dead D 0 ≡ 0 → deadNode (faultsOf p) D ≡ false
+  alive z = test (deadNode (faultsOf p) D) (λ d. let q : _≡_ {A = ℕ} 1 0 = sym (dead-is ∙ ap bitOf d) ∙ z in absurd (omega arith)) (λ d. d)
+
+  pub dead-two : (getD dead D 0 ≡ 0 → ⊥) → isClear p Adaptive S D ≡ false → TwoTo p S D unclear
+  dead-two ne direct = test (deadNode (faultsOf p) D)
+      (λ d.
+      let none : (v : ℕ) → v < nodeCount (shapeOf p) → isClear p Adaptive v D ≡ true → v ≡ D =
+      λ v l c. test (eqb v D) (λ q. eqb-true v D q) (λ q. absurd (true≢false (sym c ∙ dead-target p h v D l (to .node) d (eqb-false v D q) Adaptive))) in
+      record {
+        given = λ k. absurd (omega arith);
+        none = λ _ u x o.
+            let ex = none x (o .behind) (o .three) in
+            let eu = none u (o .below) (rw ex at (o .two)) in
+            absurd (true≢false (sym (rw eu at (o .one)) ∙ direct));
+      })
+      (λ d. absurd (dead-apart ne d))
+
+  pub pairing :
+      isClear p Adaptive S D ≡ false → (b : Box) → b ≡ boxOf s a t → (set : List ℕ) (from : ℕ) → from + 256 ≤ length set → ToBetween p Adaptive S D set from →
+      (notes : List ℕ) → NotedBetween p S D notes → 4096 ≤ getD notes D 0 → Pairing p s S D (b .x) (b .y) (b .z) set from notes
+  pairing direct b eb set from room back notes noted over = record {
+    plan = h;
+    shape = g .prepared .of-plan .shape;
+    source = g .source .node;
+    target = to .node;
+    direct = direct;
+    box = is-box p s S D a t h (g .prepared .of-plan .shape) (g .source) to b eb;
+    back = back;
+    room = room;
+    over = over;
+    noted = noted;
+  }
+
+  pub sets-to : Work p work → (length work ≡ 0 → ⊥) → BothTo p D work (512 * D)
+  sets-to sets ne = ⊎-elim (λ z. absurd (ne z)) (λ f. f .each D (to .node)) sets
+
+  pub between-in : (set : List ℕ) (from : ℕ) → BothTo p D set from → ToBetween p Adaptive S D set from
+  between-in set from both v l _ = both .adaptive v l
+
   module _ (w : Weights) (ew : w ≡ weightsOf p) (direct : isClear p Adaptive S D ≡ false) (straight : Bool) (es : straight ≡ inRows fd 0 t) where
     one : straight ≡ isClear p Deterministic S D
     one = has-is p Deterministic fd S D t (g .deterministic) to straight es
@@ -138,28 +188,32 @@ module _ (p : List ℕ) (s : Shape) (words : List ℕ) (count : ℕ) (dead ta td
       target = to;
       adaptive = g .adaptive;
       deterministic = g .deterministic;
-      both = ⊎-elim (λ z. absurd (ne z)) (λ f. f .each D (to .node)) sets;
+      both = sets-to sets ne;
       direct = direct;
       one = one;
     }
 
     -- ---- its route, by the notes
     module _ (note : ℕ) (own : NoteTo p S D note) where
+      apart : (len : ℕ) → len ≡ distanceWord w s a t → Apart p s S D len
+      apart len el = record {
+        plan = h;
+        shape = g .prepared .of-plan .shape;
+        source = g .source .node;
+        target = to .node;
+        distance = length-is p w s S D a t len h ew (g .prepared .of-plan .shape) (g .source) to el;
+        direct = direct;
+      }
+
+      pub nearing : (len : ℕ) → len ≡ distanceWord w s a t → 4096 ≤ note → (n : ℕ) → TwoTo p S D n → Nearing p s S D len fa straight note n
+      nearing len el over n two = record { apart = apart len el; one = one; out = g .adaptive; own = own; over = over; two = two }
+
       pub via-told : (len : ℕ) → len ≡ distanceWord w s a t → (o : Outcome) → o ≡ viaRoute note len → (b : Bool) → b ≡ isGiven o → b ≡ true → o ≡ routeTold p S D
       unfolding viaRoute
       via-told len el o eo b eb y =
           by-le 4096 note
           (λ k. let z : viaRoute note len ≡ Outcome.Refused noClearChoice = rw (le-ltb note 4096 k) refl in absurd (true≢false (sym (sym eb ∙ y) ∙ ap isGiven (eo ∙ z))))
-          (λ k.
-          let apart : Apart p s S D len = record {
-            plan = h;
-            shape = g .prepared .of-plan .shape;
-            source = g .source .node;
-            target = to .node;
-            distance = length-is p w s S D a t len h ew (g .prepared .of-plan .shape) (g .source) to el;
-            direct = direct;
-          } in
-          eo ∙ rw (lt-ltb note 4096 k) (by-own p s S D len apart note own k))
+          (λ k. eo ∙ rw (lt-ltb note 4096 k) (by-own p s S D len (apart len el) note own k))
 
       pub not-via : (len : ℕ) (o : Outcome) → o ≡ viaRoute note len → (b : Bool) → b ≡ isGiven o → b ≡ false → 4096 ≤ note
       unfolding viaRoute
@@ -167,74 +221,51 @@ module _ (p : List ℕ) (s : Shape) (words : List ℕ) (count : ℕ) (dead ta td
           by-le 4096 note (λ k. k)
           (λ k. let z : viaRoute note len ≡ Outcome.Given (Route.Via note Adaptive Adaptive) len = rw (lt-ltb note 4096 k) refl in absurd (true≢false (sym (ap isGiven (eo ∙ z)) ∙ sym eb ∙ n)))
 
-    module _ (notes : List ℕ) (noted : Noted p S notes) (note : ℕ) (own : note ≡ getD notes D 0) where
-      pub by-losses : (near : List ℕ) (n : ℕ) → NearLosses p S D words count near n → 4096 ≤ note → ByLosses p w s words count near n ta td S D a t fa straight note notes
-      by-losses near n some over = record {
-        of-plan = g .prepared .of-plan;
-        weights = ew;
-        standing = some;
-        masks = g .prepared .adaptive;
-        others = g .prepared .deterministic;
-        source = g .source;
-        target = to;
-        adaptive = g .adaptive;
-        direct = direct;
-        one = one;
-        own = own;
-        over = over;
-        noted = noted;
-      }
+    pub last : Work p work → (notes : List ℕ) → Noted p S notes → (note : ℕ) → note ≡ getD notes D 0 → isClear p Deterministic S D ≡ false → Last p w s words count ta td work S D a t fa notes note
+    last sets notes noted note own blocked = record {
+      of-plan = g .prepared .of-plan;
+      weights = ew;
+      masks = g .prepared .adaptive;
+      others = g .prepared .deterministic;
+      sets = sets;
+      source = g .source;
+      target = to;
+      adaptive = g .adaptive;
+      direct = direct;
+      blocked = blocked;
+      own = own;
+      noted = noted;
+    }
 
-      pub by-sets : Work p work → (length work ≡ 0 → ⊥) → 4096 ≤ note → BySets p w s work S D a t fa straight note notes
-      by-sets sets ne over = record {
-        plan = h;
-        weights = ew;
-        shape = g .prepared .of-plan .shape;
-        source = g .source;
-        target = to;
-        adaptive = g .adaptive;
-        both = ⊎-elim (λ z. absurd (ne z)) (λ f. f .each D (to .node)) sets;
-        direct = direct;
-        one = one;
-        own = own;
-        over = over;
-        noted = noted;
-      }
+-- The last step, by the losses and by the sets.
+module _ (p : List ℕ) (w : Weights) (s : Shape) (words : List ℕ) (count : ℕ) (ta td work : List ℕ) (S D : ℕ) (a t : Coords) (fa notes : List ℕ) (note : ℕ)
+    (g : Last p w s words count ta td work S D a t fa notes note) where
+  pub far-lost : FarLost p w s words count ta td S D a t fa note notes
+  far-lost = record {
+    of-plan = g .of-plan;
+    weights = g .weights;
+    masks = g .masks;
+    others = g .others;
+    source = g .source;
+    target = g .target;
+    adaptive = g .adaptive;
+    direct = g .direct;
+    blocked = g .blocked;
+    own = g .own;
+    noted = g .noted;
+  }
 
--- By the losses: what both steps rest on.
-pub near-lost :
-    (p : List ℕ) (w : Weights) (s : Shape) (words : List ℕ) (count : ℕ) (near : List ℕ) (n : ℕ) (ta td : List ℕ) (S D : ℕ) (a t : Coords) (fa : List ℕ) (straight : Bool) (note : ℕ) (notes : List ℕ) →
-    ByLosses p w s words count near n ta td S D a t fa straight note notes → NearLost p w s near n ta S D a t fa straight note notes
-near-lost p w s words count near n ta td S D a t fa straight note notes g = record {
-  words = words;
-  count = count;
-  of-plan = g .of-plan;
-  weights = g .weights;
-  standing = g .standing;
-  masks = g .masks;
-  source = g .source;
-  target = g .target;
-  adaptive = g .adaptive;
-  direct = g .direct;
-  one = g .one;
-  own = rw (g .own) (g .noted D (g .target .node));
-  over = g .over;
-  noted = λ v l _. g .noted v l;
-}
-
-pub far-lost :
-    (p : List ℕ) (w : Weights) (s : Shape) (words : List ℕ) (count : ℕ) (near : List ℕ) (n : ℕ) (ta td : List ℕ) (S D : ℕ) (a t : Coords) (fa : List ℕ) (straight : Bool) (note : ℕ) (notes : List ℕ) →
-    ByLosses p w s words count near n ta td S D a t fa straight note notes → isClear p Deterministic S D ≡ false → FarLost p w s words count ta td S D a t fa note notes
-far-lost p w s words count near n ta td S D a t fa straight note notes g blocked = record {
-  of-plan = g .of-plan;
-  weights = g .weights;
-  masks = g .masks;
-  others = g .others;
-  source = g .source;
-  target = g .target;
-  adaptive = g .adaptive;
-  direct = g .direct;
-  blocked = blocked;
-  own = g .own;
-  noted = g .noted;
-}
+  pub far-sets : (length work ≡ 0 → ⊥) → FarSets p w s work S D a t fa note notes
+  far-sets ne = record {
+    plan = g .of-plan .plan;
+    weights = g .weights;
+    shape = g .of-plan .shape;
+    source = g .source;
+    target = g .target;
+    adaptive = g .adaptive;
+    both = ⊎-elim (λ z. absurd (ne z)) (λ f. f .each D (g .target .node)) (g .sets);
+    direct = g .direct;
+    blocked = g .blocked;
+    own = g .own;
+    noted = g .noted;
+  }

@@ -1,109 +1,306 @@
--- The notes of the nodes one after the other: what is true at each turn.
-use Prim.Native.Nat.{ℕ, _+_, _≤_, _<_}
+-- The notes of the nodes outward from the source: what is true at each turn.
+use Prim.Native.Nat.{ℕ, _+_, _-_, _*_, _/_, _%_, _≤_, _<_}
 use native.Mathlib.Omega.{arith}
 use mathlib.Core.Path.{_≡_, refl, sym, ap, _∙_}
-use mathlib.Core.Logic.{inl, inr}
-use mathlib.Core.Bool.{true, false, true≢false}
+use mathlib.Core.Logic.{inl, inr, ⊎-elim}
+use mathlib.Core.Bool.{Bool, true, false, not, _&&_, true≢false}
 use mathlib.Core.List.{List}
+use lib.Bits.{bitAnd}
+use lib.Dec.{ltb, eqb}
 use lib.ListN.{length, getD, set, length-set, replicate, length-replicate, getD-replicate}
 use lib.Seq.{getD-set-same, getD-set-other}
-use Rattle.theory.proofs.Cases.{test, by-order}
+use borrow.Author.Tests.{lt-ltb, ltb-true, le-ltb, eq-eqb, eqb-true}
+use Rattle.theory.proofs.Bools.{and-true}
+use Rattle.theory.proofs.Cases.{test, by-le, by-order}
 use Rattle.shape.specs.declared.shape.Shape.{Shape}
 use Rattle.shape.specs.declared.shape.Coords.{Coords}
-use Rattle.shape.specs.declared.shape.Dim.the-variants.{X}
-use Rattle.shape.specs.Shape.{shapeError}
+use Rattle.shape.specs.declared.shape.Dim.the-variants.{X, Y, Z}
+use Rattle.shape.specs.Shape.{shapeError, wrappedIn}
 use Rattle.shape.proofs.Shapes.{sound}
-use Rattle.machine.specs.Number.{nodeCount, numberOf}
+use Rattle.machine.specs.declared.leg.Mode.the-variants.{Adaptive}
+use Rattle.machine.specs.Number.{nodeCount, coordsOf, numberOf, Inside}
+use Rattle.machine.specs.Hop.{hops}
+use Rattle.machine.proofs.Numbers.{number-below, coords-number, number-fits, inside}
 use Rattle.plan.specs.Layout.{shapeOf}
 use Rattle.plan.specs.Checks.{large, planError}
-use Rattle.rows.specs.Rows.{inSet}
+use Rattle.rows.specs.Bits.{bit}
+use Rattle.rows.specs.NextSet.{NextSet}
+use Rattle.rows.specs.Rows.{inRows, inSet}
+use Rattle.rows.proofs.Bits.{bit-and, bit-not, row-bit, row-past}
 use Rattle.search.specs.Number.{unclear}
-use Rattle.notes.specs.Known.{IsAt, NoteTo}
+use Rattle.search.specs.Outward.{hopsRow, rankAt, rowHops, placeHops, rankOf}
+use Rattle.search.proofs.Outwards.{Places, places, onward, same-rank}
+use Rattle.notes.specs.Known.{isClear, IsAt, NoteTo}
 use Rattle.notes.proofs.Knowing.{shape-ok, nodes-few}
-use Rattle.planner.specs.declared.outside.At.{At}
-use Rattle.planner.specs.Outside.{placeOf, Stands, NextOutside}
-use Rattle.planner.specs.Known.{Work, Ready, NotesMade}
-use Rattle.planner.proofs.Standing.{stands-end}
-use Rattle.planner.proofs.Writing.{node-known}
+use Rattle.first_clear.specs.Known.{NotedBetween, TwoTo}
+use Rattle.planner.specs.Known.{Work, Ready, Unskipped, NotesMade, TwosMade}
+use Rattle.planner.specs.Ranked.{rank, Noting, LevelWord}
 
-pub record Noting (p : List ℕ) (s : Shape) (words : List ℕ) (count : ℕ) (dead ta td work : List ℕ) (S : ℕ) (a : Coords) (fa fd skip notes : List ℕ) (at : At) : Type 0 where
-  pub ready : Ready p s words count dead ta td work S a fa fd
-  pub stands : Stands s at
-  pub out : at .z < s .z → (at .x < s .x) × (inSet s skip 0 (at .node) ≡ false)
-  pub long : length notes ≡ 4096
-  pub made : Work p work → (w : ℕ) → w < nodeCount s → w < at .node → inSet s skip 0 w ≡ false → NoteTo p S w (getD notes w 0)
-  pub left : (w : ℕ) → w < nodeCount s → at .node ≤ w → getD notes w 0 ≡ unclear
-  pub skipped : (w : ℕ) → w < nodeCount s → inSet s skip 0 w ≡ true → getD notes w 0 ≡ unclear
+-- A node needs no note where the direct adaptive leg to it is clear.
+no-need : (p : List ℕ) (S w x : ℕ) → x ≡ unclear → isClear p Adaptive S w ≡ true → NoteTo p S w x
+no-need p S w x e c = record { real = λ q. absurd (omega arith); least = λ v lv o b. inr (inl c) }
 
-module _ (p : List ℕ) (s : Shape) (words : List ℕ) (count : ℕ) (dead ta td work : List ℕ) (S : ℕ) (a : Coords) (fa fd skip : List ℕ) (ready : Ready p s words count dead ta td work S a fa fd) where
-  same : s ≡ shapeOf p
-  same = ready .prepared .of-plan .shape
+pub goes-on : (word x x' : ℕ) → NextSet word (x + 1) x' → x < 16 → x < x'
+goes-on word x x' n l = by-le 16 x' (λ q. omega arith) (λ q. omega (arith, n .set q .0))
 
+pub same-noting : (p work : List ℕ) (S : ℕ) (skip notes twos : List ℕ) (K L : ℕ) → K ≡ L → Noting p work S skip notes twos K → Noting p work S skip notes twos L
+same-noting p work S skip notes twos K L e g = rw (← e) g
+
+-- The places of a rank that lies between two of one level.
+record Digits (R Q P W r q k x x' : ℕ) : Type 0 where
+  hops : R ≡ r
+  row : Q ≡ q
+  level : P ≡ k
+  from : x ≤ W
+  below : W < x'
+
+digits :
+    (R Q P W r q k x x' : ℕ) → Q < 256 → P < 16 → W < 16 → q < 256 → k < 16 → x' ≤ 16 → 65536 * r + 256 * q + 16 * k + x ≤ 65536 * R + 256 * Q + 16 * P + W →
+    65536 * R + 256 * Q + 16 * P + W < 65536 * r + 256 * q + 16 * k + x' → Digits R Q P W r q k x x'
+digits R Q P W r q k x x' hQ hP hW hq hk hx low high =
+    let up : r ≤ R = omega arith in
+    let down : R ≤ r = omega arith in
+    let e : R ≡ r = omega arith in
+    let up' : q ≤ Q = omega arith in
+    let down' : Q ≤ q = omega arith in
+    let e' : Q ≡ q = omega arith in
+    let up'' : k ≤ P = omega arith in
+    let down'' : P ≤ k = omega arith in
+    let e'' : P ≡ k = omega arith in
+    record { hops = e; row = e'; level = e''; from = omega arith; below = omega arith }
+
+whole-row :
+    (R Q P W r q : ℕ) → Q < 256 → P < 16 → W < 16 → q < 256 → 65536 * r + 256 * q ≤ 65536 * R + 256 * Q + 16 * P + W → 65536 * R + 256 * Q + 16 * P + W < 65536 * r + 256 * (q + 1) → (R ≡ r) × (Q ≡ q)
+whole-row R Q P W r q hQ hP hW hq low high =
+    let up : r ≤ R = omega arith in
+    let down : R ≤ r = omega arith in
+    let e : R ≡ r = omega arith in
+    (e, omega arith)
+
+place-y : (y z y' z' : ℕ) → y + 16 * z ≡ y' + 16 * z' → y < 16 → y' < 16 → (y ≡ y') × (z ≡ z')
+place-y y z y' z' e h h' = let up : z ≤ z' = omega arith in let down : z' ≤ z = omega arith in (omega arith, omega arith)
+
+module _ (p : List ℕ) (s : Shape) (words : List ℕ) (count : ℕ) (dead ta td work : List ℕ) (S : ℕ) (a : Coords) (fa fd : List ℕ) (ready : Ready p s words count dead ta td work S a fa fd) where
   accepted : planError large p ≡ 0
   accepted = ready .prepared .of-plan .plan
 
-  pub sound-shape : shapeError s ≡ 0
-  sound-shape = rw same (shape-ok p accepted)
+  ok : shapeError (shapeOf p) ≡ 0
+  ok = shape-ok p accepted
 
-  count-is : nodeCount s ≡ nodeCount (shapeOf p)
-  count-is = ap nodeCount same
+  same : s ≡ shapeOf p
+  same = ready .prepared .of-plan .shape
 
-  few : nodeCount s ≤ 4096
-  few = nodes-few s sound-shape
+  few : nodeCount (shapeOf p) ≤ 4096
+  few = nodes-few (shapeOf p) ok
 
-  pub begun : (r : At) → NextOutside s skip (record { node = 0; x = 0; y = 0; z = 0 }) r → Noting p s words count dead ta td work S a fa fd skip (replicate 4096 unclear) r
-  begun r next = record {
-    ready = ready;
-    stands = next .stands;
-    out = next .found;
-    long = length-replicate 4096 unclear;
-    made = λ _ w l b e. absurd (true≢false (sym (next .skipped w (omega arith) b) ∙ e));
-    left = λ w l b. getD-replicate 4096 w unclear 0 (omega (arith, few));
-    skipped = λ w l e. getD-replicate 4096 w unclear 0 (omega (arith, few));
-  }
+  pub shape-sound : shapeError s ≡ 0
+  shape-sound = rw same ok
 
-  module _ (notes : List ℕ) (at : At) (g : Noting p s words count dead ta td work S a fa fd skip notes at) where
-    module _ (l : at .z < s .z) where
-      pub is-at : (t : Coords) → t ≡ placeOf at → IsAt p (at .node) t
-      is-at t e = node-known p s words count dead ta td work S a fa fd ready at (g .stands) (g .out l .0) l t e
+  abbrev at : ℕ → Coords
+  at w = coordsOf (shapeOf p) w
 
-      here : at .node < nodeCount s
-      here = omega (arith, is-at (placeOf at) refl .node, count-is)
+  -- The rank of a node, by its coordinates.
+  rank-is : (D : ℕ) (t : Coords) → IsAt p D t → rankOf s a t ≡ rank p S D
+  rank-is D t to = rw (same, ready .source .at, to .at) refl
 
-      pub places : (at .x < 16) × (at .node < 4096)
-      places = (omega (arith, g .out l .0, sound s sound-shape X .high), omega (arith, here, few))
+  -- The node at some coordinates.
+  pub is-at : (t : Coords) → Inside s t → (D : ℕ) → D ≡ numberOf s t % 65536 → IsAt p D t
+  is-at t i D e =
+      let j : Inside (shapeOf p) t = rw same at i in
+      let q : D ≡ numberOf (shapeOf p) t = e ∙ rw same (number-fits (shapeOf p) ok t j) in
+      record { node = rw q (number-below (shapeOf p) ok t j); at = rw q (sym (coords-number (shapeOf p) ok t j)) }
 
-      pub after : Stands s (record { node = at .node + 1; x = at .x + 1; y = at .y; z = at .z })
-      unfolding numberOf
-      after = record { node = omega (arith, g .stands .node); x = omega (arith, g .out l .0); y = g .stands .y; z = g .stands .z; end = λ e. absurd (omega arith) }
+  bounds : (w : ℕ) → w < nodeCount (shapeOf p) → Places (shapeOf p) (at S) (at w)
+  bounds w l = places (shapeOf p) ok (at S) (at w) (inside (shapeOf p) ok S (ready .source .node)) (inside (shapeOf p) ok w l)
 
-      pub turn :
-          (x : ℕ) (r : At) → (Work p work → NoteTo p S (at .node) x) → NextOutside s skip (record { node = at .node + 1; x = at .x + 1; y = at .y; z = at .z }) r →
-          Noting p s words count dead ta td work S a fa fd skip (set notes (at .node) x) r
-      turn x r note next =
-          let is : getD (set notes (at .node) x) (at .node) 0 ≡ x = getD-set-same notes (at .node) x 0 (omega (arith, places .1, g .long)) in
-          let up = next .onward in
+  module _ (skip : List ℕ) where
+    abbrev skips : ℕ → Bool
+    skips w = inSet (shapeOf p) skip 0 w
+
+    module _ (notes twos : List ℕ) (K : ℕ) (g : Noting p work S skip notes twos K) where
+      -- No node that is not in the set lies between two ranks.
+      pub pass : (L : ℕ) → K ≤ L → ((w : ℕ) → w < nodeCount (shapeOf p) → K ≤ rank p S w → rank p S w < L → skips w ≡ true) → Noting p work S skip notes twos L
+      pass L up none = record {
+        long = g .long;
+        wide = g .wide;
+        made = λ k w l b o. by-le K (rank p S w) (λ q. absurd (true≢false (sym (none w l q b) ∙ o))) (λ q. g .made k w l q o);
+        left = λ w l o. g .left w l (⊎-elim (λ q. inl (omega arith)) (λ q. inr q) o);
+        two = λ k w l b o. by-le K (rank p S w) (λ q. absurd (true≢false (sym (none w l q b) ∙ o))) (λ q. g .two k w l q o);
+      }
+
+      -- One node.
+      module _ (D : ℕ) (t : Coords) (to : IsAt p D t) (eK : K ≡ rankOf s a t) (free : inRows skip 0 t ≡ false) (x : ℕ) (note : Work p work → NoteTo p S D x) where
+        here : rank p S D ≡ K
+        here = sym (eK ∙ rank-is D t to)
+
+        open-here : skips D ≡ false
+        unfolding inSet
+        open-here = ap (inRows skip 0) (sym (to .at)) ∙ free
+
+        abbrev noted : List ℕ
+        noted = set notes D x
+
+        mine : getD noted D 0 ≡ x
+        mine = getD-set-same notes D x 0 (omega (arith, to .node, few, g .long))
+
+        other : (w : ℕ) → (w ≡ D → ⊥) → getD noted w 0 ≡ getD notes w 0
+        other w ne = getD-set-other notes D w x 0 ne
+
+        apart : (w : ℕ) → rank p S w < K → w ≡ D → ⊥
+        apart w b e = omega (arith, here, ap (rank p S) e)
+
+        -- What lies on the shortest ways to it is noted.
+        pub between : Work p work → Unskipped p S skip D → NotedBetween p S D noted
+        between k all v l way = ⊎-elim
+            (λ (e : v ≡ D). rw (e, mine) (note k))
+            (λ b.
+            let low : rank p S v < K = omega (arith, here) in
+            rw (other v (apart v low))
+            (test (skips v)
+            (λ y. ⊎-elim (λ o. absurd (true≢false (sym y ∙ o))) (λ c. no-need p S v _ (g .left v l (inr y)) c) (all v l way))
+            (λ o. g .made k v l low o)))
+            (onward (shapeOf p) ok S v D (ready .source .node) l (to .node) way)
+
+        pub turn : (n : ℕ) → (Work p work → NotedBetween p S D noted → isClear p Adaptive S D ≡ false → 4096 ≤ getD noted D 0 → TwoTo p S D n) →
+            Noting p work S skip noted (set twos D n) (rankOf s a t + 1)
+        turn n pair =
+            let new : getD (set twos D n) D 0 ≡ n = getD-set-same twos D n 0 (omega (arith, to .node, few, g .wide)) in
+            let is : (w : ℕ) → w < nodeCount (shapeOf p) → rank p S w ≡ K → w ≡ D = λ w l e. same-rank (shapeOf p) ok S w D (ready .source .node) l (to .node) (e ∙ sym here) in
+            record {
+              long = length-set notes D x ∙ g .long;
+              wide = length-set twos D n ∙ g .wide;
+              made = λ k w l b o. by-order (rank p S w) K
+                  (λ q. rw (other w (apart w q)) (g .made k w l q o))
+                  (λ q. rw (is w l q, mine) (note k))
+                  (λ q. absurd (omega arith));
+              left = λ w l o.
+                  let ne : w ≡ D → ⊥ = λ e. ⊎-elim (λ q. omega (arith, here, ap (rank p S) e)) (λ q. true≢false (sym q ∙ ap skips e ∙ open-here)) o in
+                  other w ne ∙ g .left w l (⊎-elim (λ q. inl (omega arith)) (λ q. inr q) o);
+              two = λ k w l b o all. by-order (rank p S w) K
+                  (λ q c m. rw (getD-set-other twos D w n 0 (apart w q)) (g .two k w l q o all c (rw (other w (apart w q)) at m)))
+                  (λ q. let e = is w l q in rw (e, new) (pair k (between k (rw e at all))))
+                  (λ q. absurd (omega arith));
+            }
+
+    -- ---- a row
+    module _ (y z r : ℕ) (ly : y < s .y) (lz : z < s .z) (er : r ≡ rowHops s a y z) where
+      hy : y < 16
+      hy = omega (arith, sound s shape-sound Y .high)
+
+      hz : z < 16
+      hz = omega (arith, sound s shape-sound Z .high)
+
+      pub row-fits : 16 * z + y < 256
+      row-fits = omega (arith, hy, hz)
+
+      pub in-row : Inside s (record { x = 0; y = y; z = z })
+      in-row = record { x = sound s shape-sound X .low; y = ly; z = lz }
+
+      -- What a word of the row says of its places.
+      pub record Free (k x : ℕ) : Type 0 where
+        pub inside : x < s .x
+        pub level : placeHops s a x ≡ k
+        pub clear-of : inRows skip 0 (record { x = x; y = y; z = z }) ≡ false
+
+      not-false : (b : Bool) → not b ≡ true → b ≡ false
+      not-false true e = sym e
+      not-false false e = refl
+
+      pub free : (k word : ℕ) → LevelWord s a skip y z k word → (x : ℕ) → x < 16 → bit word x ≡ true → Free k x
+      free k word lw x l b =
+          let u = and-true (ltb x (s .x)) _ (sym (lw x l) ∙ b) in
+          let v = and-true (eqb (placeHops s a x) k) _ (u .1) in
+          record { inside = ltb-true x (s .x) (u .0); level = eqb-true (placeHops s a x) k (v .0); clear-of = not-false _ (v .1) }
+
+      pub free-rank : (k x : ℕ) → Free k x → rankAt r y z k x ≡ rankOf s a (record { x = x; y = y; z = z })
+      unfolding rankOf
+      free-rank k x f = rw (er, f .level) refl
+
+      -- A place whose bit is not set is in the set, where it is at k hops.
+      shut : (k word : ℕ) → LevelWord s a skip y z k word → (x : ℕ) → x < 16 → bit word x ≡ false → x < s .x → placeHops s a x ≡ k → inRows skip 0 (record { x = x; y = y; z = z }) ≡ true
+      shut k word lw x l b i e = test (inRows skip 0 (record { x = x; y = y; z = z })) (λ c. c)
+          (λ c. let q : bit word x ≡ true = lw x l ∙ rw (lt-ltb x (s .x) i, eq-eqb (placeHops s a x) k e, c) in absurd (true≢false (sym q ∙ b)))
+
+      pub to-next : (k word x x' : ℕ) → k < 16 → LevelWord s a skip y z k word → x ≤ x' → x' ≤ 16 → ((i : ℕ) → x ≤ i → i < x' → bit word i ≡ false) →
+          (notes twos : List ℕ) → Noting p work S skip notes twos (rankAt r y z k x) → Noting p work S skip notes twos (rankAt r y z k x')
+      unfolding rankOf inSet
+      to-next k word x x' hk lw up most none notes twos g = pass notes twos (rankAt r y z k x) g (rankAt r y z k x') (omega arith)
+          (λ w l low high.
+          let q = bounds w l in
+          let i = inside (shapeOf p) ok w l in
+          let c = at w in
+          let d =
+          digits (rowHops (shapeOf p) (at S) (c .y) (c .z)) (c .y + 16 * c .z) (placeHops (shapeOf p) (at S) (c .x)) (c .x) r (y + 16 * z) k x x' (q .row) (q .level) (q .x) (omega (arith, hy, hz)) hk most low high in
+          let e = place-y (c .y) (c .z) y z (d .row) (q .y) hy in
+          let ek' : placeHops s a (c .x) ≡ k = rw (same, ready .source .at) (d .level) in
+          let lx : c .x < s .x = rw same (i .x) in
+          rw (e .0, e .1) (shut k word lw (c .x) (q .x) (none (c .x) (d .from) (d .below)) lx ek'))
+
+      -- The word of a level.
+      pub level-word : (levels : List ℕ) (k left word : ℕ) → getD levels k 0 ≡ hopsRow (s .x) (wrappedIn s X) (a .x) k → getD skip (16 * z + y) 0 < 65536 → left ≡ 65535 - getD skip (16 * z + y) 0 →
+          word ≡ bitAnd (getD levels k 0) left → LevelWord s a skip y z k word
+      unfolding hopsRow inRows
+      level-word levels k left word el small ef ew x l =
+          let row : 16 * z + y ≡ 0 + (y + 16 * z) = omega arith in
+          rw ew
+          (bit-and (getD levels k 0) left x
+          ∙ rw (el, ef, bit-not 16 (getD skip (16 * z + y) 0) x small l, row)
+          (by-le (s .x) x
+          (λ out. rw (row-past (λ c. eqb (placeHops s a c) k) (s .x) x out, le-ltb x (s .x) out) refl)
+          (λ in'. rw (row-bit (λ c. eqb (placeHops s a c) k) (s .x) x in', lt-ltb x (s .x) in') refl)))
+
+    -- ---- all rows
+    pub due : (r y z : ℕ) (b : Bool) → b ≡ (ltb y (s .y) && (ltb z (s .z) && eqb (rowHops s a y z) r)) → b ≡ true → (y < s .y) × (z < s .z) × (r ≡ rowHops s a y z)
+    due r y z b eb t =
+        let u = and-true (ltb y (s .y)) _ (sym eb ∙ t) in
+        let v = and-true (ltb z (s .z)) _ (u .1) in
+        (ltb-true y (s .y) (u .0), ltb-true z (s .z) (v .0), sym (eqb-true (rowHops s a y z) r (v .1)))
+
+    -- A row that is not at r hops, or is outside.
+    module _ (r row y z : ℕ) (hr : row < 256) (ey : y ≡ row % 16) (ez : z ≡ row / 16) where
+      place : y + 16 * z ≡ row
+      place = omega arith
+
+      pub row-begins : rankAt r y z 0 0 ≡ 65536 * r + 256 * row
+      row-begins = omega (arith, place)
+
+      pub row-ends : rankAt r y z 16 0 ≡ 65536 * r + 256 * (row + 1)
+      row-ends = omega (arith, place)
+
+      pub row-passed : (b : Bool) → b ≡ (ltb y (s .y) && (ltb z (s .z) && eqb (rowHops s a y z) r)) → b ≡ false →
+          (notes twos : List ℕ) → Noting p work S skip notes twos (65536 * r + 256 * row) → Noting p work S skip notes twos (65536 * r + 256 * (row + 1))
+      unfolding rankOf
+      row-passed b eb never notes twos g = pass notes twos (65536 * r + 256 * row) g (65536 * r + 256 * (row + 1)) (omega arith)
+          (λ w l low high.
+          let q = bounds w l in
+          let i = inside (shapeOf p) ok w l in
+          let c = at w in
+          let d =
+          whole-row (rowHops (shapeOf p) (at S) (c .y) (c .z)) (c .y + 16 * c .z) (placeHops (shapeOf p) (at S) (c .x)) (c .x) r row (q .row) (q .level) (q .x) hr low high in
+          let y-is : c .y ≡ y = omega (arith, d .1, place, q .y) in
+          let z-is : c .z ≡ z = omega (arith, d .1, place, q .y) in
+          let due : rowHops s a y z ≡ r = rw (same, ready .source .at, ← y-is, ← z-is) (d .0) in
+          let ly : y < s .y = rw (same, ← y-is) (i .y) in
+          let lz : z < s .z = rw (same, ← z-is) (i .z) in
+          let is : b ≡ true = eb ∙ rw (lt-ltb y (s .y) ly, lt-ltb z (s .z) lz, eq-eqb (rowHops s a y z) r due) refl in
+          absurd (true≢false (sym is ∙ never)))
+
+    pub begun : (twos : List ℕ) → length twos ≡ 4096 → Noting p work S skip (replicate 4096 unclear) twos 0
+    begun twos wide = record {
+      long = length-replicate 4096 unclear;
+      wide = wide;
+      made = λ k w l b. absurd (omega arith);
+      left = λ w l o. getD-replicate 4096 w unclear 0 (omega (arith, few));
+      two = λ k w l b. absurd (omega arith);
+    }
+
+    pub done : (notes twos : List ℕ) → Noting p work S skip notes twos (65536 * 31) → Work p work → NotesMade p S skip notes × TwosMade p S skip notes twos
+    unfolding rankOf
+    done notes twos g k =
+        let all : (w : ℕ) → w < nodeCount (shapeOf p) → rank p S w < 65536 * 31 = λ w l. let q = bounds w l in omega (arith, q .x, q .row, q .level, q .hops) in (
           record {
-            ready = ready;
-            stands = next .stands;
-            out = next .found;
-            long = length-set notes (at .node) x ∙ g .long;
-            made = λ k w lw b e.
-                by-order w (at .node)
-                (λ q. rw (getD-set-other notes (at .node) w x 0 (λ z. omega arith)) (g .made k w lw q e))
-                (λ q. rw (q, is) (note k))
-                (λ q. absurd (true≢false (sym (next .skipped w (omega arith) b) ∙ e)));
-            left = λ w lw b. getD-set-other notes (at .node) w x 0 (λ z. omega arith) ∙ g .left w lw (omega arith);
-            skipped = λ w lw e. getD-set-other notes (at .node) w x 0 (λ z. true≢false (sym (rw (← z) e) ∙ g .out l .1)) ∙ g .skipped w lw e;
-          }
-
-    pub done : s .z ≤ at .z → Work p work → NotesMade p S skip notes
-    done m k =
-        let e = stands-end s sound-shape at (g .stands) m in
-        let every : (w : ℕ) → w < nodeCount (shapeOf p) → inSet (shapeOf p) skip 0 w ≡ false → NoteTo p S w (getD notes w 0) = λ w l o. g .made k w (omega (arith, count-is)) (omega (arith, count-is)) (rw same o) in
-        record {
-          outside = every;
-          direct = λ w l c. test (inSet (shapeOf p) skip 0 w)
-              (λ y. rw (g .skipped w (omega (arith, count-is)) (rw same y)) (record { real = λ q. absurd (omega arith); least = λ v lv o b. inr (inl c) }))
-              (λ n. every w l n);
-        }
+            outside = λ w l o. g .made k w l (all w l) o;
+            direct = λ w l c. test (skips w) (λ y. no-need p S w _ (g .left w l (inr y)) c) (λ o. g .made k w l (all w l) o);
+          },
+          record { each = λ w l o un. g .two k w l (all w l) o un },
+        )

@@ -4,7 +4,7 @@ use native.Mathlib.Omega.{arith}
 use mathlib.Core.Path.{_≡_, refl, sym, ap, _∙_}
 use mathlib.Core.Bool.{Bool, true, false, true≢false}
 use mathlib.Core.List.{List}
-use lib.ListN.{length, getD, replicate}
+use lib.ListN.{length, getD}
 use Rattle.theory.proofs.Bools.{and-true}
 use Rattle.theory.proofs.Cases.{test, by-le}
 use Rattle.sheet.specs.Bytes.{listFrom}
@@ -18,7 +18,6 @@ use Rattle.machine.specs.Number.{nodeCount, coordsOf, Inside}
 use Rattle.machine.specs.Hop.{rule, hops}
 use Rattle.machine.proofs.Numbers.{inside}
 use Rattle.plan.specs.Layout.{shapeOf}
-use Rattle.plan.specs.Checks.{large, planError}
 use Rattle.rows.specs.Bits.{bit}
 use Rattle.rows.specs.Rows.{inProduct}
 use Rattle.masks.specs.declared.span.Box.{Box}
@@ -117,16 +116,7 @@ module _ (p : List ℕ) (s : Shape) (words : List ℕ) (count : ℕ) (k : OfPlan
           row-near E l (omega (arith, e, at .1, there .1)) (omega (arith, e, at .1, there .1));
     }
 
-module _ (p work : List ℕ) (S : ℕ) (words : List ℕ) (count : ℕ) (near : List ℕ) (n row : ℕ) (g : NearRow p work S words count near n row) where
-  -- Not needed.
-  pub filled-row : (length work ≡ 0 → ⊥) → (other : ℕ) → NearRow p work S words count near n other
-  filled-row ne other = record { long = g .long; each = λ z. absurd (ne z) }
-
-  pub same-row : (other : ℕ) → other ≡ row → NearRow p work S words count near n other
-  same-row other e = rw e g
-
-  pub near-row : (D : ℕ) (t : Coords) → IsAt p D t → t .y + 16 * t .z ≡ row → length work ≡ 0 → NearLosses p S D words count near n
-  near-row D t to e z = g .each z D (to .node) (ap (λ (c : Coords). c .y + 16 * c .z) (sym (to .at)) ∙ e)
-
-pub no-row : (p work : List ℕ) (S : ℕ) (words : List ℕ) (count n : ℕ) → planError large p ≡ 0 → NearRow p work S words count (replicate 256 0) n 256
-no-row p work S words count n h = record { long = refl; each = λ z D l e. let there = small-at p D _ h (record { node = l; at = refl }) in absurd (omega (arith, e, there .1, there .2)) }
+pub near-row :
+    (p work : List ℕ) (S : ℕ) (words : List ℕ) (count : ℕ) (near : List ℕ) (n row : ℕ) → NearRow p work S words count near n row → (D : ℕ) (t : Coords) → IsAt p D t → t .y + 16 * t .z ≡ row → length work ≡ 0 →
+    NearLosses p S D words count near n
+near-row p work S words count near n row g D t to e z = g .each z D (to .node) (ap (λ (c : Coords). c .y + 16 * c .z) (sym (to .at)) ∙ e)

@@ -2,6 +2,7 @@
 use Prim.Native.Nat.{ℕ, zero, suc, _+_, _*_, _/_, _%_, _≤_, _<_, min}
 use native.Mathlib.Omega.{arith}
 use mathlib.Core.Path.{_≡_, refl, sym, ap, _∙_}
+use mathlib.Core.Logic.{inl, inr}
 use mathlib.Core.Bool.{Bool, true, false, not, _&&_, _||_}
 use mathlib.Core.List.{List}
 use lib.ListN.{length, getD}
@@ -41,11 +42,11 @@ use Rattle.masks.specs.Span.{boxOf}
 use Rattle.masks.specs.Masks.{Ended}
 use Rattle.search.specs.FirstVia.{isVia, FirstOf}
 use Rattle.notes.specs.Known.{isClear, OfPlan, IsAt, FromSet, NoteTo, Between, BetweenMade}
-use Rattle.first_clear.specs.Known.{routeTold, viaRoute, Noted, NotedBetween, Apart, NearLost, FarLost}
+use Rattle.first_clear.specs.Known.{routeTold, viaRoute, Noted, NotedBetween, TwoTo, Apart, FarLost}
 use Rattle.notes.proofs.Knowing.{shape-ok, row-small}
-use Rattle.notes.proofs.Destination.{is-box, length-is, small-at, has-is, all-near, here-near}
+use Rattle.notes.proofs.Destination.{is-box, length-is, small-at, all-near, here-near}
 use Rattle.first_clear.proofs.Own.{by-own}
-use Rattle.planner.specs.Known.{Ready, NotesMade, Ends, Beside}
+use Rattle.planner.specs.Known.{Ready, NotesMade, TwosMade, Twos, Ends, Beside}
 
 -- ---- the checks of a pair
 -- None of them declines.
@@ -152,30 +153,19 @@ module _ (p : List ℕ) (S : ℕ) (notes : List ℕ) where
   pub own-noted : (D : ℕ) → D < nodeCount (shapeOf p) → NotedBetween p S D notes → NoteTo p S D (getD notes D 0)
   own-noted D l noted = noted D l (omega (arith, hops-self (shapeOf p) D))
 
+  pub all-twos : (fa twos : List ℕ) → FromSet p Adaptive S fa → TwosMade p S fa notes twos → Twos p S notes twos
+  all-twos fa twos out made w l direct =
+      made .each w l (out w l ∙ direct) (λ v lv way. test (inSet (shapeOf p) fa 0 v) (λ y. inr (sym (out v lv) ∙ y)) (λ n. inl n)) direct
+
   pub all-noted : (fa : List ℕ) → FromSet p Adaptive S fa → NotesMade p S fa notes → Noted p S notes
   all-noted fa out made w l = test (inSet (shapeOf p) fa 0 w) (λ y. made .direct w l (sym (out w l) ∙ y)) (λ n. made .outside w l n)
 
 -- ---- what the steps of a pair rest on
 module _ (p : List ℕ) (s : Shape) (words : List ℕ) (count : ℕ) (dead ta td work : List ℕ) (S : ℕ) (a : Coords) (fa fd : List ℕ) (g : Ready p s words count dead ta td work S a fa fd) (D : ℕ) (t : Coords) (to : IsAt p D t)
     (w : Weights) (ew : w ≡ weightsOf p) (direct : isClear p Adaptive S D ≡ false) where
-  pub pair-near :
-      (straight : Bool) → straight ≡ inRows fd 0 t → (notes : List ℕ) → NotedBetween p S D notes → (note : ℕ) → NoteTo p S D note → 4096 ≤ note → NearLost p w s words count ta S D a t fa straight note notes
-  pair-near straight es notes noted note own over = record {
-    words = words;
-    count = count;
-    of-plan = g .prepared .of-plan;
-    weights = ew;
-    standing = all-near p s words count (g .prepared .of-plan) S D;
-    masks = g .prepared .adaptive;
-    source = g .source;
-    target = to;
-    adaptive = g .adaptive;
-    direct = direct;
-    one = has-is p Deterministic fd S D t (g .deterministic) to straight es;
-    own = own;
-    over = over;
-    noted = noted;
-  }
+  -- Every node between the ends is noted, so D has its two vias.
+  pub pair-two : (skip notes twos : List ℕ) → TwosMade p S skip notes twos → Beside p S D skip → 4096 ≤ getD notes D 0 → TwoTo p S D (getD twos D 0)
+  pair-two skip notes twos made beside over = made .each D (to .node) (beside D (to .node) (omega (arith, hops-self (shapeOf p) D))) (λ v l way. inl (beside v l way)) direct over
 
   pub pair-far : (notes : List ℕ) → Noted p S notes → (note : ℕ) → note ≡ getD notes D 0 → isClear p Deterministic S D ≡ false → FarLost p w s words count ta td S D a t fa note notes
   pair-far notes noted note own blocked = record {

@@ -2,7 +2,7 @@
 use Prim.Native.Nat.{ℕ, _+_, _*_, _≤_, _<_}
 use mathlib.Core.Path.{_≡_}
 use mathlib.Core.Logic.{_⊎_}
-use mathlib.Core.Bool.{Bool, true, false}
+use mathlib.Core.Bool.{true, false}
 use mathlib.Core.List.{List}
 use lib.ListN.{length, getD}
 use Rattle.shape.specs.declared.shape.Shape.{Shape}
@@ -19,7 +19,7 @@ use Rattle.masks.specs.Masks.{Masked}
 use Rattle.route_value.specs.Making.{Holds}
 use Rattle.planned_sheet.specs.Sheet.{entriesFrom}
 use Rattle.notes.specs.Known.{isClear, OfPlan, IsAt, FromSet, BothTo, NearLosses, NoteTo}
-use Rattle.first_clear.specs.Known.{Noted}
+use Rattle.first_clear.specs.Known.{Noted, TwoTo}
 
 -- A run with both sets to each node, 512 rows a node.
 pub record Filled (p work : List ℕ) : Type 0 where
@@ -65,6 +65,22 @@ pub record NotesMade (p : List ℕ) (S : ℕ) (skip notes : List ℕ) : Type 0 w
   pub outside : (w : ℕ) → w < nodeCount (shapeOf p) → inSet (shapeOf p) skip 0 w ≡ false → NoteTo p S w (getD notes w 0)
   pub direct : (w : ℕ) → w < nodeCount (shapeOf p) → isClear p Adaptive S w ≡ true → NoteTo p S w (getD notes w 0)
 
+-- Every node on the shortest ways from S to w is noted: it is not in the set `skip`, or the direct adaptive leg to it is clear.
+abbrev pub Unskipped : List ℕ → ℕ → List ℕ → ℕ → Type 0
+Unskipped p S skip w =
+    (v : ℕ) → v < nodeCount (shapeOf p) → hops (shapeOf p) S v + hops (shapeOf p) v w ≡ hops (shapeOf p) S w → (inSet (shapeOf p) skip 0 v ≡ false) ⊎ (isClear p Adaptive S v ≡ true)
+
+-- The two vias of a node, where it needs them: the direct adaptive leg to it is not clear, and no via on the shortest ways has two.
+abbrev pub TwoOf : List ℕ → ℕ → List ℕ → List ℕ → ℕ → Type 0
+TwoOf p S notes twos w = isClear p Adaptive S w ≡ false → 4096 ≤ getD notes w 0 → TwoTo p S w (getD twos w 0)
+
+-- Of the nodes that are not in the set `skip`; and of all nodes.
+pub record TwosMade (p : List ℕ) (S : ℕ) (skip notes twos : List ℕ) : Type 0 where
+  pub each : (w : ℕ) → w < nodeCount (shapeOf p) → inSet (shapeOf p) skip 0 w ≡ false → Unskipped p S skip w → TwoOf p S notes twos w
+
+abbrev pub Twos : List ℕ → ℕ → List ℕ → List ℕ → Type 0
+Twos p S notes twos = (w : ℕ) → w < nodeCount (shapeOf p) → TwoOf p S notes twos w
+
 -- The ends of a pair, and the nodes that do not lie between them.
 pub record Ends (p : List ℕ) (s : Shape) (S D : ℕ) (a t : Coords) : Type 0 where
   pub plan : planError large p ≡ 0
@@ -75,20 +91,19 @@ pub record Ends (p : List ℕ) (s : Shape) (S D : ℕ) (a t : Coords) : Type 0 w
 abbrev pub Beside : List ℕ → ℕ → ℕ → List ℕ → Type 0
 Beside p S D rows = (w : ℕ) → w < nodeCount (shapeOf p) → hops (shapeOf p) S w + hops (shapeOf p) w D ≡ hops (shapeOf p) S D → inSet (shapeOf p) rows 0 w ≡ false
 
--- One destination, by the losses and the masks of all targets.
-pub record ByLosses (p : List ℕ) (w : Weights) (s : Shape) (words : List ℕ) (count : ℕ) (near : List ℕ) (n : ℕ) (ta td : List ℕ) (S D : ℕ) (a t : Coords) (fa : List ℕ) (straight : Bool) (note : ℕ) (notes : List ℕ) : Type 0 where
+-- The last step to one destination.
+pub record Last (p : List ℕ) (w : Weights) (s : Shape) (words : List ℕ) (count : ℕ) (ta td work : List ℕ) (S D : ℕ) (a t : Coords) (fa notes : List ℕ) (note : ℕ) : Type 0 where
   pub of-plan : OfPlan p s words count
   pub weights : w ≡ weightsOf p
-  pub standing : NearLosses p S D words count near n
   pub masks : Masked Adaptive false s ta
   pub others : Masked Deterministic false s td
+  pub sets : Work p work
   pub source : IsAt p S a
   pub target : IsAt p D t
   pub adaptive : FromSet p Adaptive S fa
   pub direct : isClear p Adaptive S D ≡ false
-  pub one : straight ≡ isClear p Deterministic S D
+  pub blocked : isClear p Deterministic S D ≡ false
   pub own : note ≡ getD notes D 0
-  pub over : 4096 ≤ note
   pub noted : Noted p S notes
 
 -- The entries of the sheet from S are so many; and the bytes hold them, if the run `work` is empty or has the sets to all nodes.

@@ -3,13 +3,11 @@ use crate::dest::outcome_to;
 use crate::noting::notes_from;
 use crate::outside::At;
 use crate::outside::next_outside;
-use crate::sifted::NO_ROW;
-use crate::sifted::renew;
-use crate::sifted::row_at;
 use notes::sets_of::from_masks;
 use plan::layout::weights_in;
 use route_value::set_entry;
 use routes::kinds::entry_for;
+use search::best::UNCLEAR;
 use shape::Coords;
 use shape::Shape;
 ghost use mathlib.Core.Path.{_≡_};
@@ -23,9 +21,9 @@ ghost use Rattle.routes.specs.Layout.{mostBytes};
 ghost use Rattle.masks.specs.Masks.{Ended};
 ghost use Rattle.notes.specs.Known.{IsAt};
 ghost use Rattle.first_clear.specs.Known.{Noted};
-ghost use Rattle.planner.specs.Known.{Work, Prepared, Ready, Listed};
+ghost use Rattle.planner.specs.Known.{Work, Prepared, Ready, Listed, Twos};
 
-// The sets from the source, and what is known of the plan; the entries go to their places in the bytes of a sheet. Each destination is planned once, with the losses that can lie on the shortest ways to its row.
+// The sets from the source, and what is known of the plan; the entries go to their places in the bytes of a sheet. Each destination is planned once.
 fn list(
     plan: &[u8],
     shape: Shape,
@@ -40,18 +38,16 @@ fn list(
     fa: &[u16; 256],
     fd: &[u16; 256],
     notes: &[u32; 4096],
+    twos: &[u32; 4096],
     bytes: &mut [u8],
 ) -> u16
     requires { ⌜ Ready (now plan) shape (now words) count (now dead) (now ta) (now td) (now work) source a (now fa) (now fd) ⌝ }
-    requires { ⌜ (Work (now plan) (now work) → Noted (now plan) source (now notes)) ⌝ }
+    requires { ⌜ (Work (now plan) (now work) → Noted (now plan) source (now notes) × Twos (now plan) source (now notes) (now twos)) ⌝ }
     requires { ⌜ mostBytes ≤ length (now bytes) ⌝ }
     ensures { λ r. ⌜ Listed (now (plan .entry)) (now (work .entry)) source (now (bytes .exit)) r ⌝ }
 {
     let weights = weights_in(plan);
     let mut listed: usize = 0;
-    let mut near = [0u16; 256];
-    let mut nears: usize = 0;
-    let mut row = NO_ROW;
     let mut at = next_outside(
         shape,
         fa,
@@ -69,16 +65,12 @@ fn list(
             y: at.y,
             z: at.z,
         };
-        nears = renew(shape, words, count, ta, work, a, t, &mut near, nears, row);
-        row = row_at(t);
         let outcome = outcome_to(
             plan,
             weights,
             shape,
             words,
             count,
-            &near,
-            nears,
             dead,
             ta,
             td,
@@ -88,6 +80,7 @@ fn list(
             fa,
             fd,
             notes,
+            twos,
             dest,
             t,
         );
@@ -133,6 +126,7 @@ pub fn routes_from(
 {
     let fa = from_masks(words, count, adaptive);
     let fd = from_masks(words, count, deterministic);
+    let mut twos = [UNCLEAR; 4096];
     let notes = notes_from(
         plan,
         weights_in(plan),
@@ -148,6 +142,7 @@ pub fn routes_from(
         &fa,
         &fd,
         &fa,
+        &mut twos,
     );
     list(
         plan,
@@ -163,6 +158,7 @@ pub fn routes_from(
         &fa,
         &fd,
         &notes,
+        &twos,
         bytes,
     )
 }

@@ -4,9 +4,6 @@ use crate::noting::notes_from;
 use crate::outside::At;
 use crate::outside::following;
 use crate::sheets::source_error;
-use crate::sifted::NO_ROW;
-use crate::sifted::renew;
-use crate::sifted::row_at;
 use choice::Outcome;
 use dead::dead_nodes;
 use losses::losses;
@@ -17,6 +14,7 @@ use notes::sets_of::from_set;
 use packet::Route;
 use plan::layout::shape_in;
 use plan::layout::weights_in;
+use search::best::UNCLEAR;
 use shape::Coords;
 use shape::Shape;
 ghost use mathlib.Core.Path.{_≡_};
@@ -29,10 +27,10 @@ ghost use Rattle.dead.specs.Dead.{deadNode};
 ghost use Rattle.planned_sheet.specs.Sheet.{sourceError};
 ghost use Rattle.notes.specs.Known.{IsAt};
 ghost use Rattle.first_clear.specs.Known.{Noted};
-ghost use Rattle.planner.specs.Known.{Work, Prepared, Ready};
+ghost use Rattle.planner.specs.Known.{Work, Prepared, Ready, Twos};
 ghost use Rattle.planner.specs.Outcomes.{noOutcome, outcomeAt};
 
-// Each destination is planned once, with the losses that can lie on the shortest ways to its row.
+// Each destination is planned once.
 fn all_outcomes(
     plan: &[u8],
     shape: Shape,
@@ -47,17 +45,15 @@ fn all_outcomes(
     fa: &[u16; 256],
     fd: &[u16; 256],
     notes: &[u32; 4096],
+    twos: &[u32; 4096],
 ) -> [Outcome; 4096]
     requires { ⌜ Ready (now plan) shape (now words) count (now dead) (now ta) (now td) (now work) source a (now fa) (now fd) ⌝ }
     requires { ⌜ Work (now plan) (now work) ⌝ }
-    requires { ⌜ Noted (now plan) source (now notes) ⌝ }
+    requires { ⌜ Noted (now plan) source (now notes) × Twos (now plan) source (now notes) (now twos) ⌝ }
     ensures { λ r. ⌜ ((d : ℕ) → getD r d noOutcome ≡ outcomeAt large (now (plan .entry)) source d) ⌝ }
 {
     let weights = weights_in(plan);
     let mut outcomes = [Outcome::Given(Route::Direct(Mode::Adaptive), 0); 4096];
-    let mut near = [0u16; 256];
-    let mut nears: usize = 0;
-    let mut row = NO_ROW;
     let mut at = At {
         node: 0,
         x: 0,
@@ -71,8 +67,6 @@ fn all_outcomes(
             y: at.y,
             z: at.z,
         };
-        nears = renew(shape, words, count, ta, work, a, t, &mut near, nears, row);
-        row = row_at(t);
         let i = dest as usize;
         outcomes[i] = outcome_to(
             plan,
@@ -80,8 +74,6 @@ fn all_outcomes(
             shape,
             words,
             count,
-            &near,
-            nears,
             dead,
             ta,
             td,
@@ -91,6 +83,7 @@ fn all_outcomes(
             fa,
             fd,
             notes,
+            twos,
             dest,
             t,
         );
@@ -120,6 +113,7 @@ fn outcomes_by(
 {
     let fa = from_set(Mode::Adaptive, shape, words, count, a);
     let fd = from_set(Mode::Deterministic, shape, words, count, a);
+    let mut twos = [UNCLEAR; 4096];
     let notes = notes_from(
         plan,
         weights_in(plan),
@@ -135,6 +129,7 @@ fn outcomes_by(
         &fa,
         &fd,
         &fa,
+        &mut twos,
     );
     all_outcomes(
         plan,
@@ -150,6 +145,7 @@ fn outcomes_by(
         &fa,
         &fd,
         &notes,
+        &twos,
     )
 }
 

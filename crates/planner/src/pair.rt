@@ -5,8 +5,8 @@ use choice::Outcome;
 use dead::dead_nodes;
 use dead::is_dead_node;
 use first_clear::dest::far_by_losses;
-use first_clear::dest::near_by_losses;
 use first_clear::near::is_given;
+use first_clear::near::near_outcome;
 use first_clear::near::via_outcome;
 use logic::both;
 use logic::either;
@@ -25,6 +25,7 @@ use plan::layout::shape_in;
 use plan::layout::weights_in;
 use rows::member::has;
 use rows::product::less;
+use search::best::UNCLEAR;
 use search::lowest::lowest;
 use sets::leg::leg_clear;
 use shape::Coords;
@@ -93,6 +94,7 @@ fn near_by_notes(
 {
     let straight = has(fd, 0, t);
     let skip = beside(shape, a, t);
+    let mut twos = [UNCLEAR; 4096];
     let notes = notes_from(
         plan,
         weights,
@@ -108,26 +110,16 @@ fn near_by_notes(
         fa,
         fd,
         &skip,
+        &mut twos,
     );
     let i = dest as usize;
     let note = notes[i];
-    let first = via_outcome(note, distance_at(weights, shape, a, t));
+    let length = distance_at(weights, shape, a, t);
+    let first = via_outcome(note, length);
     if is_given(first) {
         return first;
     }
-    near_by_losses(
-        weights,
-        shape,
-        words,
-        count,
-        ta,
-        a,
-        t,
-        fa,
-        straight,
-        note,
-        &notes,
-    )
+    near_outcome(shape, length, fa, straight, note, twos[i])
 }
 
 // By the notes of all nodes: the last step. No direct leg is clear.
@@ -156,6 +148,7 @@ fn far_by_notes(
     requires { ⌜ isClear (now plan) Deterministic source dest ≡ false ⌝ }
     ensures { λ r. ⌜ r ≡ routeTold (now (plan .entry)) source dest ⌝ }
 {
+    let mut twos = [UNCLEAR; 4096];
     let notes = notes_from(
         plan,
         weights,
@@ -171,6 +164,7 @@ fn far_by_notes(
         fa,
         fd,
         fa,
+        &mut twos,
     );
     let i = dest as usize;
     far_by_losses(

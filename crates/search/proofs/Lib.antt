@@ -6,3 +6,5 @@ pub mod RowLaws
 pub mod PlaneLaws
 pub mod AllVias
 pub mod OfNodes
+pub mod NearPlaces
+pub mod Outwards

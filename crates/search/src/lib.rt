@@ -3,4 +3,6 @@ pub mod along;
 pub mod best;
 mod level;
 pub mod lowest;
+pub mod near;
+pub mod outward;
 mod parts;

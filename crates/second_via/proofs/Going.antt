@@ -1,9 +1,9 @@
--- Loops through the listed places of a dimension.
+-- Loops through the places of a mask that a dimension has.
 use Prim.Native.Nat.{ℕ, _+_, _≤_, _<_}
 use native.Mathlib.Omega.{arith}
 use mathlib.Core.Path.{_≡_}
 use mathlib.Core.Logic.{_⊎_, inl, inr}
-use mathlib.Core.Bool.{Bool, true, false}
+use mathlib.Core.Bool.{true}
 use Rattle.theory.proofs.Cases.{by-le, by-order}
 use Rattle.rows.specs.Bits.{bit}
 use Rattle.rows.specs.NextSet.{NextSet}
@@ -18,26 +18,7 @@ pub record Joins {A : Type 0} (P Q R : A → Type 0) : Type 0 where
   pub left : (a : A) → P a → R a
   pub right : (a : A) → Q a → R a
 
-module _ {A : Type 0} (len : ℕ) (listed : ℕ → Bool) (at : ℕ → A → Type 0) where
-  -- From the place i to the next that is listed, or past it.
-  pub some-on : (i w : ℕ) → i < len → listed i ≡ true → i < w → ((j : ℕ) → i < j → j < w → listed j ≡ false) → Joins (Some len listed at i) (at i) (Some len listed at w)
-  some-on i w l e up skip = record {
-    split = λ a p. by-order (p .i) i
-        (λ k. inl (record { i = p .i; below = k; inside = p .inside; is = p .is; has = p .has }))
-        (λ k. inr (rw k at (p .has)))
-        (λ k. clash (listed (p .i)) (p .is) (skip (p .i) k (p .below)));
-    left = λ a p. record { i = p .i; below = omega (arith, p .below); inside = p .inside; is = p .is; has = p .has };
-    right = λ a p. record { i = i; below = up; inside = l; is = e; has = p };
-  }
-
-  pub some-all : (i : ℕ) (a : A) → Some len listed at i a → All len listed at a
-  some-all i a p = record { i = p .i; below = p .inside; inside = p .inside; is = p .is; has = p .has }
-
-  pub all-some : (i : ℕ) → len ≤ i → (a : A) → All len listed at a → Some len listed at i a
-  all-some i l a p = record { i = p .i; below = omega (arith, p .inside); inside = p .inside; is = p .is; has = p .has }
-
--- ---- the places of a mask
--- i is such a place, or past them.
+-- i is a place of the mask, or past them.
 pub record Going (mask i : ℕ) : Type 0 where
   pub most : i ≤ 16
   pub set : i < 16 → bit mask i ≡ true
@@ -49,13 +30,29 @@ module _ {A : Type 0} (len mask : ℕ) (at : ℕ → A → Type 0) where
   pub none-yet : (i : ℕ) → NextSet mask 0 i → (a : A) → Some len (bit mask) at i a → ⊥
   none-yet i n a p = clash (bit mask (p .i)) (p .is) (n .skip (p .i) (omega arith) (p .below))
 
+  -- From the place i to the next, or past it.
   pub next-on : (i w : ℕ) → len ≤ 16 → i < len → Going mask i → NextSet mask (i + 1) w → Joins (Some len (bit mask) at i) (at i) (Some len (bit mask) at w)
   next-on i w h l g n =
-      some-on len (bit mask) at i w l (g .set (omega arith))
-      (by-le 16 w (λ k. omega arith) (λ k. omega (arith, n .set k .0)))
-      (λ j k m. n .skip j (omega arith) m)
+      let up : i < w = by-le 16 w (λ k. omega arith) (λ k. omega (arith, n .set k .0)) in
+      record {
+        split = λ a p. by-order (p .i) i
+            (λ k. inl (record { i = p .i; below = k; inside = p .inside; is = p .is; has = p .has }))
+            (λ k. inr (rw k at (p .has)))
+            (λ k. clash (bit mask (p .i)) (p .is) (n .skip (p .i) (omega arith) (p .below)));
+        left = λ a p. record { i = p .i; below = omega (arith, p .below); inside = p .inside; is = p .is; has = p .has };
+        right = λ a p. record { i = i; below = up; inside = l; is = g .set (omega arith); has = p };
+      }
 
--- ---- the least number of the places of a mask
+  pub all-at : (i : ℕ) (a : A) → i < len → bit mask i ≡ true → at i a → All len (bit mask) at a
+  all-at i a l e p = record { i = i; below = l; inside = l; is = e; has = p }
+
+  pub some-all : (i : ℕ) (a : A) → Some len (bit mask) at i a → All len (bit mask) at a
+  some-all i a p = all-at (p .i) a (p .inside) (p .is) (p .has)
+
+  pub all-some : (i : ℕ) → len ≤ i → (a : A) → All len (bit mask) at a → Some len (bit mask) at i a
+  all-some i l a p = record { i = p .i; below = omega (arith, p .inside); inside = p .inside; is = p .is; has = p .has }
+
+-- ---- the least number of the places
 module _ (len mask : ℕ) (at : ℕ → ℕ → Type 0) (known : ℕ) where
   pub record Seeking (i best : ℕ) : Type 0 where
     pub going : Going mask i
@@ -70,4 +67,4 @@ module _ (len mask : ℕ) (at : ℕ → ℕ → Type 0) (known : ℕ) where
       record { going = going mask (i + 1) w n; low = lower-both known best r (p .low) q (j .split) (j .left) (j .right) }
 
   pub seek-end : (i best : ℕ) → len ≤ i → Seeking i best → Lowers known best (All len (bit mask) at)
-  seek-end i best l p = lower-same known best (p .low) (some-all len (bit mask) at i) (all-some len (bit mask) at i l)
+  seek-end i best l p = lower-same known best (p .low) (some-all len mask at i) (all-some len mask at i l)

@@ -22,6 +22,7 @@ use Rattle.search.proofs.Lowering.{kept, lower-same}
 use Rattle.search.proofs.Seeking.{clash, count-all, parts, whole, test-is, meet-bit}
 use Rattle.second_via.specs.Least.{LeastAt}
 use Rattle.second_via.specs.Nodes.{firstOf, keyOf, RowKeys, SpaceKeys}
+use Rattle.second_via.proofs.Going.{all-at}
 
 -- ---- one node
 pub taken : (a b : ℕ) → a < b → Lowers b a (λ n. n ≡ a)
@@ -37,6 +38,9 @@ same-key a k best r e w = rw e at w
 pub row-number : (s : Shape) (c : Coords) → firstOf s (c .y) (c .z) + c .x ≡ numberOf s c
 unfolding numberOf
 row-number s c = omega arith
+
+pub row-node : (s : Shape) → shapeError s ≡ 0 → (v : ℕ) → firstOf s (coordsOf s v .y) (coordsOf s v .z) + coordsOf s v .x ≡ v
+row-node s h v = row-number s (coordsOf s v) ∙ number-coords s h v
 
 pub record First (s : Shape) (y z first : ℕ) : Type 0 where
   pub is : first ≡ firstOf s y z
@@ -130,22 +134,9 @@ module _ (s : Shape) (bx by bz : ℕ) (from to : List ℕ) (at : ℕ) (values : 
     here n p =
         let i = inside s h (p .v) (p .below) in
         let w = parts bx by bz from to at (coordsOf s (p .v)) (sym (test-is bx by bz from to at s (p .v)) ∙ sym (via-is (p .v)) ∙ p .is) in
-        record {
-          i = coordsOf s (p .v) .z;
-          below = i .z;
-          inside = i .z;
-          is = w .z;
-          has = record {
-            i = coordsOf s (p .v) .y;
-            below = i .y;
-            inside = i .y;
-            is = w .y;
-            has = record { i = coordsOf s (p .v) .x; below = i .x; inside = i .x; is = w .met; has = p .key ∙ ap (keyOf values) (sym (placed (p .v))) };
-          };
-        }
-      where
-        placed : (v : ℕ) → firstOf s (coordsOf s v .y) (coordsOf s v .z) + coordsOf s v .x ≡ v
-        placed v = row-number s (coordsOf s v) ∙ number-coords s h v
+        all-at _ _ _ _ n (i .z) (w .z)
+        (all-at _ _ _ _ n (i .y) (w .y)
+        (all-at _ _ _ _ n (i .x) (w .met) (p .key ∙ ap (keyOf values) (sym (row-node s h (p .v))))))
 
     nodes-of : (known k : ℕ) → Lowers known k (SpaceKeys s bx by bz from to at values) → Lowers known k (NodeKey (nodeCount s) (isVia s bx by bz from to at) values)
     nodes-of known k w = lower-same known k w there here

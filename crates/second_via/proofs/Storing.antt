@@ -4,14 +4,14 @@ use native.Mathlib.Omega.{arith}
 use native.Mathlib.Decide.{ℕ-discrete}
 use mathlib.Core.Path.{_≡_, refl, _∙_}
 use mathlib.Core.Logic.{_⊎_, inl, inr, ⊎-elim}
-use mathlib.Core.Bool.{Bool, true}
+use mathlib.Core.Bool.{Bool}
 use mathlib.Core.List.{List}
 use lib.ListN.{length, getD, set, length-set}
 use lib.Seq.{getD-set-same, getD-set-other}
 use Rattle.rows.specs.Bits.{bit}
 use Rattle.rows.specs.NextSet.{NextSet}
 use Rattle.second_via.specs.Nodes.{Some, All, sumOf, Cell, Stored, SumAt}
-use Rattle.second_via.proofs.Going.{Joins, some-on, some-all, all-some, Going, going, none-yet, next-on}
+use Rattle.second_via.proofs.Going.{Joins, some-all, all-some, Going, going, none-yet, next-on}
 
 module _ {P : Cell → Type 0} where
   pub stored-none : (old : List ℕ) → ((c : Cell) → P c → ⊥) → Stored old old P
@@ -70,15 +70,4 @@ module _ (len mask : ℕ) (at : ℕ → Cell → Type 0) (old : List ℕ) where
   store-on i w new more h l p q n = record { going = going mask (i + 1) w n; stored = stored-both old new more (p .stored) q (next-on len mask at i w h l (p .going) n) }
 
   pub store-end : (i : ℕ) (new : List ℕ) → len ≤ i → Storing i new → Stored old new (All len (bit mask) at)
-  store-end i new l p = stored-same old new (p .stored) (some-all len (bit mask) at i) (all-some len (bit mask) at i l)
-
--- ---- all places
-module _ (len : ℕ) (at : ℕ → Cell → Type 0) (old : List ℕ) where
-  pub each-begin : Stored old old (Some len (λ i. true) at 0)
-  each-begin = stored-none old (λ c p. omega (arith, p .below))
-
-  pub each-on : (i : ℕ) (new more : List ℕ) → i < len → Stored old new (Some len (λ i. true) at i) → Stored new more (at i) → Stored old more (Some len (λ i. true) at (i + 1))
-  each-on i new more l p q = stored-both old new more p q (some-on len (λ i. true) at i (i + 1) l refl (omega arith) (λ j k m. absurd (omega arith)))
-
-  pub each-end : (i : ℕ) (new : List ℕ) → len ≤ i → Stored old new (Some len (λ i. true) at i) → Stored old new (All len (λ i. true) at)
-  each-end i new l p = stored-same old new p (some-all len (λ i. true) at i) (all-some len (λ i. true) at i l)
+  store-end i new l p = stored-same old new (p .stored) (some-all len mask at i) (all-some len mask at i l)

@@ -66,12 +66,12 @@ pub record SumAt (notes : List ℕ) (len node : ℕ) (adaptive : Bool) (c : Cell
 abbrev pub RowSums : ℕ → ℕ → ℕ → ℕ → List ℕ → List ℕ → ℕ → Cell → Type 0
 RowSums len word adaptive first notes xs part c = All len (bit word) (λ x c. SumAt notes (part + getD xs x 0) (first + x) (bit adaptive x) c) c
 
-abbrev pub RowSumsAt : Shape → List ℕ → List ℕ → List ℕ → List ℕ → ℕ → ℕ → ℕ → ℕ → Cell → Type 0
-RowSumsAt s xs noted notes to at part y z c =
-    RowSums (s .x) (bitAnd (getD noted (16 * z + y) 0) (getD to (at + (16 * z + y) + 256) 0)) (getD to (at + (16 * z + y)) 0) (firstOf s y z) notes xs part c
+abbrev pub RowSumsAt : Shape → List ℕ → ℕ → List ℕ → List ℕ → ℕ → ℕ → ℕ → ℕ → Cell → Type 0
+RowSumsAt s xs bx notes to at part y z c =
+    RowSums (s .x) (bitAnd bx (getD to (at + (16 * z + y) + 256) 0)) (getD to (at + (16 * z + y)) 0) (firstOf s y z) notes xs part c
 
-abbrev pub PlaneSums : Shape → List ℕ → List ℕ → List ℕ → List ℕ → List ℕ → ℕ → ℕ → ℕ → Cell → Type 0
-PlaneSums s xs ys noted notes to at part z c = All (s .y) (λ y. true) (λ y c. RowSumsAt s xs noted notes to at (part + getD ys y 0) y z c) c
+abbrev pub PlaneSums : Shape → List ℕ → List ℕ → ℕ → ℕ → List ℕ → List ℕ → ℕ → ℕ → ℕ → Cell → Type 0
+PlaneSums s xs ys bx by notes to at part z c = All (s .y) (bit by) (λ y c. RowSumsAt s xs bx notes to at (part + getD ys y 0) y z c) c
 
-abbrev pub SpaceSums : Shape → List ℕ → List ℕ → List ℕ → List ℕ → List ℕ → List ℕ → ℕ → Cell → Type 0
-SpaceSums s xs ys zs noted notes to at c = All (s .z) (λ z. true) (λ z c. PlaneSums s xs ys noted notes to at (getD zs z 0) z c) c
+abbrev pub SpaceSums : Shape → List ℕ → List ℕ → List ℕ → ℕ → ℕ → ℕ → List ℕ → List ℕ → ℕ → Cell → Type 0
+SpaceSums s xs ys zs bx by bz notes to at c = All (s .z) (bit bz) (λ z c. PlaneSums s xs ys bx by notes to at (getD zs z 0) z c) c

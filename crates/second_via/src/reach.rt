@@ -68,7 +68,7 @@ fn row_at(
     sums: &mut [u32; 4096],
     shape: Shape,
     xs: &[u8; 16],
-    noted: &[u16; 256],
+    bx: u16,
     notes: &[u32; 4096],
     to: &[u16],
     at: usize,
@@ -78,23 +78,14 @@ fn row_at(
     z: u8,
 )
     requires { ⌜ (shapeError shape ≡ 0) × (at + 512 ≤ length (now to)) × (y < shape .y) × (z < shape .z) ⌝ }
-    ensures { λ _. ⌜ Stored (now (sums .entry)) (now (sums .exit)) (RowSumsAt shape (now (xs .entry)) (now (noted .entry)) (now (notes .entry)) (now (to .entry)) at (part + more) y z) ⌝ }
+    ensures { λ _. ⌜ Stored (now (sums .entry)) (now (sums .exit)) (RowSumsAt shape (now (xs .entry)) bx (now (notes .entry)) (now (to .entry)) at (part + more) y z) ⌝ }
 {
     let r = 16 * z as usize + y as usize;
     let a = at + r;
     let d = a + 256;
     let first = number_at(shape, Coords { x: 0, y: y, z: z });
     let base = part as u16 + more as u16;
-    row(
-        sums,
-        shape.x,
-        noted[r] & to[d],
-        to[a],
-        first,
-        notes,
-        xs,
-        base,
-    );
+    row(sums, shape.x, bx & to[d], to[a], first, notes, xs, base);
 }
 
 fn plane(
@@ -102,7 +93,8 @@ fn plane(
     shape: Shape,
     xs: &[u8; 16],
     ys: &[u8; 16],
-    noted: &[u16; 256],
+    bx: u16,
+    by: u16,
     notes: &[u32; 4096],
     to: &[u16],
     at: usize,
@@ -110,13 +102,13 @@ fn plane(
     z: u8,
 )
     requires { ⌜ (shapeError shape ≡ 0) × (at + 512 ≤ length (now to)) × (z < shape .z) ⌝ }
-    ensures { λ _. ⌜ Stored (now (sums .entry)) (now (sums .exit)) (PlaneSums shape (now (xs .entry)) (now (ys .entry)) (now (noted .entry)) (now (notes .entry)) (now (to .entry)) at part z) ⌝ }
+    ensures { λ _. ⌜ Stored (now (sums .entry)) (now (sums .exit)) (PlaneSums shape (now (xs .entry)) (now (ys .entry)) bx by (now (notes .entry)) (now (to .entry)) at part z) ⌝ }
 {
-    let mut y: u8 = 0;
+    let mut y = next_set(by, 0);
     while y < shape.y {
         let i = y as usize;
-        row_at(sums, shape, xs, noted, notes, to, at, part, ys[i], y, z);
-        y = y + 1;
+        row_at(sums, shape, xs, bx, notes, to, at, part, ys[i], y, z);
+        y = next_set(by, y + 1);
     }
 }
 
@@ -126,19 +118,21 @@ fn planes(
     xs: &[u8; 16],
     ys: &[u8; 16],
     zs: &[u8; 16],
-    noted: &[u16; 256],
+    bx: u16,
+    by: u16,
+    bz: u16,
     notes: &[u32; 4096],
     to: &[u16],
     at: usize,
 )
     requires { ⌜ (shapeError shape ≡ 0) × (at + 512 ≤ length (now to)) ⌝ }
-    ensures { λ _. ⌜ Stored (now (sums .entry)) (now (sums .exit)) (SpaceSums shape (now (xs .entry)) (now (ys .entry)) (now (zs .entry)) (now (noted .entry)) (now (notes .entry)) (now (to .entry)) at) ⌝ }
+    ensures { λ _. ⌜ Stored (now (sums .entry)) (now (sums .exit)) (SpaceSums shape (now (xs .entry)) (now (ys .entry)) (now (zs .entry)) bx by bz (now (notes .entry)) (now (to .entry)) at) ⌝ }
 {
-    let mut z: u8 = 0;
+    let mut z = next_set(bz, 0);
     while z < shape.z {
         let i = z as usize;
-        plane(sums, shape, xs, ys, noted, notes, to, at, zs[i], z);
-        z = z + 1;
+        plane(sums, shape, xs, ys, bx, by, notes, to, at, zs[i], z);
+        z = next_set(bz, z + 1);
     }
 }
 
@@ -149,38 +143,42 @@ fn asked(
     shape: Shape,
     a: Coords,
     t: Coords,
-    noted: &[u16; 256],
+    bx: u16,
+    by: u16,
+    bz: u16,
     notes: &[u32; 4096],
     to: &[u16],
     at: usize,
 )
     requires { ⌜ askable weights shape a t (length (now to)) at ≡ true ⌝ }
-    ensures { λ _. ⌜ (length (now (sums .entry)) ≡ 4096 → ((w : ℕ) → w < 4096 → getD (now (sums .entry)) w 0 ≡ unclear) → (w : ℕ) → w < 4096 → getD (now (sums .exit)) w 0 ≡ reachIn weights shape a t (now (noted .entry)) (now (notes .entry)) (now (to .entry)) at w) ⌝ }
+    ensures { λ _. ⌜ (length (now (sums .entry)) ≡ 4096 → ((w : ℕ) → w < 4096 → getD (now (sums .entry)) w 0 ≡ unclear) → (w : ℕ) → w < 4096 → getD (now (sums .exit)) w 0 ≡ reachIn weights shape a t bx by bz (now (notes .entry)) (now (to .entry)) at w) ⌝ }
 {
     let xs = parts_along(weights.x, shape.x, wrapped(shape, Dim::X), a.x, t.x);
     let ys = parts_along(weights.y, shape.y, wrapped(shape, Dim::Y), a.y, t.y);
     let zs = parts_along(weights.z, shape.z, wrapped(shape, Dim::Z), a.z, t.z);
-    planes(sums, shape, &xs, &ys, &zs, noted, notes, to, at);
+    planes(sums, shape, &xs, &ys, &zs, bx, by, bz, notes, to, at);
 }
 
-// noted: the nodes with a note, which notes has. From `at` on the run has the nodes with a clear leg to t, adaptive, and behind them those with a clear
+// bx, by, bz: the places of the second via. From `at` on the run has the nodes with a clear leg to t, adaptive, and behind them those with a clear
 // deterministic one.
 pub fn reach(
     weights: Weights,
     shape: Shape,
     a: Coords,
     t: Coords,
-    noted: &[u16; 256],
+    bx: u16,
+    by: u16,
+    bz: u16,
     notes: &[u32; 4096],
     to: &[u16],
     at: usize,
 ) -> [u32; 4096]
-    ensures { λ r. ⌜ ((w : ℕ) → w < 4096 → getD r w 0 ≡ reachIn weights shape a t (now (noted .entry)) (now (notes .entry)) (now (to .entry)) at w) ⌝ }
+    ensures { λ r. ⌜ ((w : ℕ) → w < 4096 → getD r w 0 ≡ reachIn weights shape a t bx by bz (now (notes .entry)) (now (to .entry)) at w) ⌝ }
 {
     let mut sums = [UNCLEAR; 4096];
     if !is_askable(weights, shape, a, t, to.len(), at) {
         return sums;
     }
-    asked(&mut sums, weights, shape, a, t, noted, notes, to, at);
+    asked(&mut sums, weights, shape, a, t, bx, by, bz, notes, to, at);
     sums
 }

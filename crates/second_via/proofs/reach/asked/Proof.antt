@@ -26,7 +26,7 @@ planes-requires : tie.Need-planes-requires
 planes-requires c κs = let a = asks _ _ _ _ _ _ (c .before .before .before .before .before .before .before .before .before .before .before .pre) in (a .sound, a .run)
 
 returns : tie.Need-returns
-returns c = reached _ _ _ _ _ _ _ _ (c .before .before .before .before .before .before .before .before .before .before .before .before .pre) _ _ _ _ _ _ (c .before .before .before .before .before .before .before .before .before .before .wrapped .ensures) (c .before .before .before .before .before .before .before .before .wrapped2 .ensures) (c .before .before .before .before .before .before .wrapped3 .ensures) (c .before .before .before .before .before .before .before .before .before .parts-along .ensures) (c .before .before .before .before .before .before .before .parts-along2 .ensures) (c .before .before .before .before .before .parts-along3 .ensures) _ _ (c .planes .ensures)
+returns c = reached _ _ _ _ _ _ _ _ _ _ (c .before .before .before .before .before .before .before .before .before .before .before .before .pre) _ _ _ _ _ _ (c .before .before .before .before .before .before .before .before .before .before .wrapped .ensures) (c .before .before .before .before .before .before .before .before .wrapped2 .ensures) (c .before .before .before .before .before .before .wrapped3 .ensures) (c .before .before .before .before .before .before .before .before .before .parts-along .ensures) (c .before .before .before .before .before .before .before .parts-along2 .ensures) (c .before .before .before .before .before .parts-along3 .ensures) _ _ (c .planes .ensures)
 
 pub asked-spec : {M : Type 1} → statement M
 asked-spec =

@@ -9,7 +9,7 @@ is-askable-requires : tie.Need-is-askable-requires
 is-askable-requires c κs = search needs
 
 returns : tie.Need-returns
-returns c = unreached _ _ _ _ _ _ _ _ (sym (c .before .is-askable .ensures) ∙ not-true _ (c .if1 .taken))
+returns c = unreached _ _ _ _ _ _ _ _ _ _ (sym (c .before .is-askable .ensures) ∙ not-true _ (c .if1 .taken))
 
 asked-requires : tie.Need-asked-requires
 asked-requires c κs = sym (c .before .before .is-askable .ensures) ∙ not-false _ (c .before .if1 .left)

@@ -28,26 +28,20 @@ add-base c = search needs
 mul-row : tie.Need-mul-row
 mul-row c = search needs
 
-element-copy-out-row : tie.Need-element-copy-out-row
-element-copy-out-row c = let p = c .before .before .before .pre in omega (arith, p .2, p .3, sound _ (p .0) Y .high, sound _ (p .0) Z .high)
+shared-slice-read-row : tie.Need-shared-slice-read-row
+shared-slice-read-row c = let p = c .before .before .before .before .pre in omega (arith, p .1, p .2, p .3, sound _ (p .0) Y .high, sound _ (p .0) Z .high)
 
 mul-row-2 : tie.Need-mul-row-2
 mul-row-2 c = search needs
 
-shared-slice-read-row : tie.Need-shared-slice-read-row
-shared-slice-read-row c = let p = c .before .before .before .before .before .pre in omega (arith, p .1, p .2, p .3, sound _ (p .0) Y .high, sound _ (p .0) Z .high)
-
-mul-row-3 : tie.Need-mul-row-3
-mul-row-3 c = search needs
-
 shared-slice-read-row-2 : tie.Need-shared-slice-read-row-2
-shared-slice-read-row-2 c = let p = c .before .before .before .before .before .before .pre in omega (arith, p .1, p .2, p .3, sound _ (p .0) Y .high, sound _ (p .0) Z .high)
+shared-slice-read-row-2 c = let p = c .before .before .before .before .before .pre in omega (arith, p .1, p .2, p .3, sound _ (p .0) Y .high, sound _ (p .0) Z .high)
 
 row-requires : tie.Need-row-requires
-row-requires c κs = let p = c .before .before .before .before .before .before .pre in (sound _ (p .0) X .high, first-is _ (p .0) _ _ _ (p .2) (p .3) (c .before .before .before .before .number-at .ensures) .fits, omega arith)
+row-requires c κs = let p = c .before .before .before .before .before .pre in (sound _ (p .0) X .high, first-is _ (p .0) _ _ _ (p .2) (p .3) (c .before .before .before .number-at .ensures) .fits, omega arith)
 
 returns : tie.Need-returns
-returns c = let p = c .before .before .before .before .before .before .before .pre in sums-at _ _ _ _ _ _ (c .before .before .before .before .before .before .before .args .xs .now) _ _ _ (first-is _ (p .0) _ _ _ (p .2) (p .3) (c .before .before .before .before .before .number-at .ensures) .is) (c .row .ensures)
+returns c = let p = c .before .before .before .before .before .before .pre in sums-at _ _ _ _ _ _ (c .before .before .before .before .before .before .args .xs .now) _ _ _ (first-is _ (p .0) _ _ _ (p .2) (p .3) (c .before .before .before .before .number-at .ensures) .is) (c .row .ensures)
 
 pub row-at-spec : {M : Type 1} → statement M
 row-at-spec =
@@ -60,10 +54,8 @@ row-at-spec =
     number-at-requires
     add-base
     mul-row
-    element-copy-out-row
-    mul-row-2
     shared-slice-read-row
-    mul-row-3
+    mul-row-2
     shared-slice-read-row-2
     row-requires
     returns)
