@@ -1,5 +1,5 @@
 -- The notes of the nodes outward from the source: what is true at each turn.
-use Prim.Native.Nat.{ℕ, _+_, _-_, _*_, _/_, _%_, _≤_, _<_}
+use Prim.Native.Nat.{ℕ, _+_, _-_, _*_, _%_, _≤_, _<_}
 use native.Mathlib.Omega.{arith}
 use mathlib.Core.Path.{_≡_, refl, sym, ap, _∙_}
 use mathlib.Core.Logic.{inl, inr, ⊎-elim}
@@ -9,32 +9,34 @@ use lib.Bits.{bitAnd}
 use lib.Dec.{ltb, eqb}
 use lib.ListN.{length, getD, set, length-set, replicate, length-replicate, getD-replicate}
 use lib.Seq.{getD-set-same, getD-set-other}
-use borrow.Author.Tests.{lt-ltb, ltb-true, le-ltb, eq-eqb, eqb-true}
+use borrow.Author.Tests.{lt-ltb, ltb-true, le-ltb, lt-leb, le-leb, eq-eqb, ne-eqb, eqb-true, eqb-false}
 use Rattle.theory.proofs.Bools.{and-true}
 use Rattle.theory.proofs.Cases.{test, by-le, by-order}
 use Rattle.shape.specs.declared.shape.Shape.{Shape}
 use Rattle.shape.specs.declared.shape.Coords.{Coords}
 use Rattle.shape.specs.declared.shape.Dim.the-variants.{X, Y, Z}
 use Rattle.shape.specs.Shape.{shapeError, wrappedIn}
+use Rattle.shape.specs.Axis.{axisHops}
 use Rattle.shape.proofs.Shapes.{sound}
+use Rattle.shape.proofs.AxisLaws.{axis-below}
 use Rattle.machine.specs.declared.leg.Mode.the-variants.{Adaptive}
 use Rattle.machine.specs.Number.{nodeCount, coordsOf, numberOf, Inside}
 use Rattle.machine.specs.Hop.{hops}
 use Rattle.machine.proofs.Numbers.{number-below, coords-number, number-fits, inside}
 use Rattle.plan.specs.Layout.{shapeOf}
 use Rattle.plan.specs.Checks.{large, planError}
-use Rattle.rows.specs.Bits.{bit}
+use Rattle.rows.specs.Bits.{bit, rowOf}
 use Rattle.rows.specs.NextSet.{NextSet}
 use Rattle.rows.specs.Rows.{inRows, inSet}
-use Rattle.rows.proofs.Bits.{bit-and, bit-not, row-bit, row-past}
+use Rattle.rows.proofs.Bits.{bit-and, bit-past, bit-not, row-bit, row-past}
 use Rattle.search.specs.Number.{unclear}
 use Rattle.search.specs.Outward.{hopsRow, rankAt, rowHops, placeHops, rankOf}
 use Rattle.search.proofs.Outwards.{Places, places, onward, same-rank}
 use Rattle.notes.specs.Known.{isClear, IsAt, NoteTo}
-use Rattle.notes.proofs.Knowing.{shape-ok, nodes-few}
+use Rattle.notes.proofs.Knowing.{shape-ok, nodes-few, all-bits}
 use Rattle.first_clear.specs.Known.{NotedBetween, TwoTo}
 use Rattle.planner.specs.Known.{Work, Ready, Unskipped, NotesMade, TwosMade}
-use Rattle.planner.specs.Ranked.{rank, Noting, LevelWord}
+use Rattle.planner.specs.Ranked.{rank, Noting, LevelWord, PlaneWord, dueIn}
 
 -- A node needs no note where the direct adaptive leg to it is clear.
 no-need : (p : List ℕ) (S w x : ℕ) → x ≡ unclear → isClear p Adaptive S w ≡ true → NoteTo p S w x
@@ -69,13 +71,30 @@ digits R Q P W r q k x x' hQ hP hW hq hk hx low high =
     let e'' : P ≡ k = omega arith in
     record { hops = e; row = e'; level = e''; from = omega arith; below = omega arith }
 
-whole-row :
-    (R Q P W r q : ℕ) → Q < 256 → P < 16 → W < 16 → q < 256 → 65536 * r + 256 * q ≤ 65536 * R + 256 * Q + 16 * P + W → 65536 * R + 256 * Q + 16 * P + W < 65536 * r + 256 * (q + 1) → (R ≡ r) × (Q ≡ q)
-whole-row R Q P W r q hQ hP hW hq low high =
+record Rows (R Q r q q' : ℕ) : Type 0 where
+  hops : R ≡ r
+  from : q ≤ Q
+  below : Q < q'
+
+rows-between :
+    (R Q P W r q q' : ℕ) → Q < 256 → P < 16 → W < 16 → q' ≤ 256 → 65536 * r + 256 * q ≤ 65536 * R + 256 * Q + 16 * P + W → 65536 * R + 256 * Q + 16 * P + W < 65536 * r + 256 * q' → Rows R Q r q q'
+rows-between R Q P W r q q' hQ hP hW hq low high =
     let up : r ≤ R = omega arith in
     let down : R ≤ r = omega arith in
     let e : R ≡ r = omega arith in
-    (e, omega arith)
+    record { hops = e; from = omega arith; below = omega arith }
+
+in-plane : (c d y y' z : ℕ) → y + 16 * z ≤ c + 16 * d → c + 16 * d < y' + 16 * z → c < 16 → y' ≤ 16 → d ≡ z
+in-plane c d y y' z low high h most = let up : z ≤ d = omega arith in let down : d ≤ z = omega arith in omega arith
+
+-- Hops in Y that are what is left of r, and hops in Y and Z that are r.
+same-test : (h k far r : ℕ) → far ≡ k → far ≤ r → eqb h (r - far) ≡ eqb (h + k) r
+same-test h k far r e up = test (eqb (h + k) r)
+    (λ t. let q = eqb-true (h + k) r t in rw t (eq-eqb h (r - far) (omega arith)))
+    (λ t. rw t (ne-eqb h (r - far) (λ q. eqb-false (h + k) r t (omega arith))))
+
+bit-none : (x : ℕ) → bit 0 x ≡ false
+bit-none x = bit-past 0 0 x (omega arith) (omega arith)
 
 place-y : (y z y' z' : ℕ) → y + 16 * z ≡ y' + 16 * z' → y < 16 → y' < 16 → (y ≡ y') × (z ≡ z')
 place-y y z y' z' e h h' = let up : z ≤ z' = omega arith in let down : z' ≤ z = omega arith in (omega arith, omega arith)
@@ -109,6 +128,9 @@ module _ (p : List ℕ) (s : Shape) (words : List ℕ) (count : ℕ) (dead ta td
       let j : Inside (shapeOf p) t = rw same at i in
       let q : D ≡ numberOf (shapeOf p) t = e ∙ rw same (number-fits (shapeOf p) ok t j) in
       record { node = rw q (number-below (shapeOf p) ok t j); at = rw q (sym (coords-number (shapeOf p) ok t j)) }
+
+  source-in : Inside s a
+  source-in = rw (same, ready .source .at) (inside (shapeOf p) ok S (ready .source .node))
 
   bounds : (w : ℕ) → w < nodeCount (shapeOf p) → Places (shapeOf p) (at S) (at w)
   bounds w l = places (shapeOf p) ok (at S) (at w) (inside (shapeOf p) ok S (ready .source .node)) (inside (shapeOf p) ok w l)
@@ -249,41 +271,76 @@ module _ (p : List ℕ) (s : Shape) (words : List ℕ) (count : ℕ) (dead ta td
           (λ out. rw (row-past (λ c. eqb (placeHops s a c) k) (s .x) x out, le-ltb x (s .x) out) refl)
           (λ in'. rw (row-bit (λ c. eqb (placeHops s a c) k) (s .x) x in', lt-ltb x (s .x) in') refl)))
 
-    -- ---- all rows
-    pub due : (r y z : ℕ) (b : Bool) → b ≡ (ltb y (s .y) && (ltb z (s .z) && eqb (rowHops s a y z) r)) → b ≡ true → (y < s .y) × (z < s .z) × (r ≡ rowHops s a y z)
-    due r y z b eb t =
-        let u = and-true (ltb y (s .y)) _ (sym eb ∙ t) in
-        let v = and-true (ltb z (s .z)) _ (u .1) in
-        (ltb-true y (s .y) (u .0), ltb-true z (s .z) (v .0), sym (eqb-true (rowHops s a y z) r (v .1)))
+      -- A row whose nodes are all in the set.
+      pub row-full : (left : ℕ) → getD skip (16 * z + y) 0 < 65536 → left ≡ 65535 - getD skip (16 * z + y) 0 → left ≡ 0 →
+          (notes twos : List ℕ) → Noting p work S skip notes twos (rankAt r y z 0 0) → Noting p work S skip notes twos (rankAt r y z 16 0)
+      unfolding rankOf inSet inRows
+      row-full left small ef none notes twos g = pass notes twos (rankAt r y z 0 0) g (rankAt r y z 16 0) (omega arith)
+          (λ w l low high.
+          let q = bounds w l in
+          let c = at w in
+          let d = rows-between (rowHops (shapeOf p) (at S) (c .y) (c .z)) (c .y + 16 * c .z) (placeHops (shapeOf p) (at S) (c .x)) (c .x) r (y + 16 * z) (y + 16 * z + 1) (q .row) (q .level) (q .x) (omega (arith, hy, hz)) (omega arith) (omega arith) in
+          let row : 0 + (c .y + 16 * c .z) ≡ 16 * z + y = omega (arith, d .from, d .below) in
+          let full : getD skip (16 * z + y) 0 ≡ 65535 = omega arith in
+          rw (row, full) (all-bits (c .x) (q .x)))
 
-    -- A row that is not at r hops, or is outside.
-    module _ (r row y z : ℕ) (hr : row < 256) (ey : y ≡ row % 16) (ez : z ≡ row / 16) where
-      place : y + 16 * z ≡ row
-      place = omega arith
+    -- ---- a plane
+    module _ (z r word : ℕ) (lz : z < s .z) (pw : PlaneWord s a z r word) where
+      z-small : z < 16
+      z-small = omega (arith, sound s shape-sound Z .high)
 
-      pub row-begins : rankAt r y z 0 0 ≡ 65536 * r + 256 * row
-      row-begins = omega (arith, place)
+      pub due : (y : ℕ) → y < 16 → bit word y ≡ true → (y < s .y) × (z < s .z) × (r ≡ rowHops s a y z)
+      due y l b =
+          let u = and-true (ltb y (s .y)) _ (sym (pw y l) ∙ b) in
+          (ltb-true y (s .y) (u .0), lz, sym (eqb-true (rowHops s a y z) r (u .1)))
 
-      pub row-ends : rankAt r y z 16 0 ≡ 65536 * r + 256 * (row + 1)
-      row-ends = omega (arith, place)
-
-      pub row-passed : (b : Bool) → b ≡ (ltb y (s .y) && (ltb z (s .z) && eqb (rowHops s a y z) r)) → b ≡ false →
-          (notes twos : List ℕ) → Noting p work S skip notes twos (65536 * r + 256 * row) → Noting p work S skip notes twos (65536 * r + 256 * (row + 1))
+      pub to-row : (y y' : ℕ) → y ≤ y' → y' ≤ 16 → ((i : ℕ) → y ≤ i → i < y' → bit word i ≡ false) →
+          (notes twos : List ℕ) → Noting p work S skip notes twos (65536 * r + 256 * (y + 16 * z)) → Noting p work S skip notes twos (65536 * r + 256 * (y' + 16 * z))
       unfolding rankOf
-      row-passed b eb never notes twos g = pass notes twos (65536 * r + 256 * row) g (65536 * r + 256 * (row + 1)) (omega arith)
+      to-row y y' up most none notes twos g = pass notes twos (65536 * r + 256 * (y + 16 * z)) g (65536 * r + 256 * (y' + 16 * z)) (omega arith)
           (λ w l low high.
           let q = bounds w l in
           let i = inside (shapeOf p) ok w l in
           let c = at w in
-          let d =
-          whole-row (rowHops (shapeOf p) (at S) (c .y) (c .z)) (c .y + 16 * c .z) (placeHops (shapeOf p) (at S) (c .x)) (c .x) r row (q .row) (q .level) (q .x) hr low high in
-          let y-is : c .y ≡ y = omega (arith, d .1, place, q .y) in
-          let z-is : c .z ≡ z = omega (arith, d .1, place, q .y) in
-          let due : rowHops s a y z ≡ r = rw (same, ready .source .at, ← y-is, ← z-is) (d .0) in
-          let ly : y < s .y = rw (same, ← y-is) (i .y) in
-          let lz : z < s .z = rw (same, ← z-is) (i .z) in
-          let is : b ≡ true = eb ∙ rw (lt-ltb y (s .y) ly, lt-ltb z (s .z) lz, eq-eqb (rowHops s a y z) r due) refl in
-          absurd (true≢false (sym is ∙ never)))
+          let d = rows-between (rowHops (shapeOf p) (at S) (c .y) (c .z)) (c .y + 16 * c .z) (placeHops (shapeOf p) (at S) (c .x)) (c .x) r (y + 16 * z) (y' + 16 * z) (q .row) (q .level) (q .x) (omega (arith, z-small)) low high in
+          let e : c .z ≡ z = in-plane (c .y) (c .z) y y' z (d .from) (d .below) (q .y) most in
+          let ly : c .y < s .y = rw same (i .y) in
+          let at-r : rowHops s a (c .y) z ≡ r = rw (same, ready .source .at, ← e) (d .hops) in
+          let set : bit word (c .y) ≡ true = pw (c .y) (q .y) ∙ rw (lt-ltb (c .y) (s .y) ly, eq-eqb (rowHops s a (c .y) z) r at-r) refl in
+          absurd (true≢false (sym set ∙ none (c .y) (omega (arith, d .from, e)) (omega (arith, d .below, e)))))
+
+    -- No plane is left.
+    pub planes-done : (r z : ℕ) → s .z ≤ z → z ≤ s .z → (notes twos : List ℕ) → Noting p work S skip notes twos (65536 * r + 4096 * z) → Noting p work S skip notes twos (65536 * (r + 1))
+    unfolding rankOf
+    planes-done r z up down notes twos g = pass notes twos (65536 * r + 4096 * z) g (65536 * (r + 1)) (omega (arith, sound s shape-sound Z .high))
+        (λ w l low high.
+        let q = bounds w l in
+        let i = inside (shapeOf p) ok w l in
+        let c = at w in
+        let d = rows-between (rowHops (shapeOf p) (at S) (c .y) (c .z)) (c .y + 16 * c .z) (placeHops (shapeOf p) (at S) (c .x)) (c .x) r (16 * z) 256 (q .row) (q .level) (q .x) (omega arith) (omega arith) (omega arith) in
+        let lz : c .z < s .z = rw same (i .z) in
+        absurd (omega (arith, d .from, q .y)))
+
+    -- The word of a plane.
+    pub plane-word : (rows : List ℕ) → ((k : ℕ) → k < 16 → getD rows k 0 ≡ hopsRow (s .y) (wrappedIn s Y) (a .y) k) →
+        (z r far word : ℕ) → z < s .z → far ≡ axisHops (s .z) (wrappedIn s Z) (a .z) z → word ≡ dueIn rows far r → PlaneWord s a z r word
+    unfolding dueIn hopsRow
+    plane-word rows are z r far word lz ef ew y l =
+        let hops-y = axisHops (s .y) (wrappedIn s Y) (a .y) y in
+        let none : (word ≡ 0) → ((y < s .y) → (rowHops s a y z ≡ r) → ⊥) → bit word y ≡ (ltb y (s .y) && eqb (rowHops s a y z) r) =
+        λ e never. rw e (bit-none y ∙ by-le (s .y) y
+        (λ out. rw (le-ltb y (s .y) out) refl)
+        (λ in'. rw (lt-ltb y (s .y) in', ne-eqb (rowHops s a y z) r (never in')) refl)) in
+        by-le far r
+        (λ up. by-le 16 (r - far)
+        (λ over. none (ew ∙ rw (le-ltb r far up, le-leb 16 (r - far) over) refl)
+        (λ in' q. omega (arith, axis-below (s .y) (wrappedIn s Y) (a .y) y (source-in .y) in', sound s shape-sound Y .high)))
+        (λ few.
+        let e : word ≡ rowOf (λ c. eqb (axisHops (s .y) (wrappedIn s Y) (a .y) c) (r - far)) (s .y) = ew ∙ rw (le-ltb r far up, lt-leb 16 (r - far) few) (are (r - far) few) in
+        rw e (by-le (s .y) y
+        (λ out. rw (row-past (λ c. eqb (axisHops (s .y) (wrappedIn s Y) (a .y) c) (r - far)) (s .y) y out, le-ltb y (s .y) out) refl)
+        (λ in'. rw (row-bit (λ c. eqb (axisHops (s .y) (wrappedIn s Y) (a .y) c) (r - far)) (s .y) y in', lt-ltb y (s .y) in') (same-test hops-y (axisHops (s .z) (wrappedIn s Z) (a .z) z) far r ef up)))))
+        (λ low. none (ew ∙ rw (lt-ltb r far low) refl) (λ in' q. omega arith))
 
     pub begun : (twos : List ℕ) → length twos ≡ 4096 → Noting p work S skip (replicate 4096 unclear) twos 0
     begun twos wide = record {

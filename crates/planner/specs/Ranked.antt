@@ -1,10 +1,10 @@
 -- The code's own steps: what is known of the nodes that are noted.
-use Prim.Native.Nat.{ℕ, _≤_, _<_}
+use Prim.Native.Nat.{ℕ, _-_, _≤_, _<_}
 use mathlib.Core.Path.{_≡_}
 use mathlib.Core.Logic.{_⊎_}
-use mathlib.Core.Bool.{true, false, not, _&&_}
+use mathlib.Core.Bool.{true, false, cond, not, _&&_}
 use mathlib.Core.List.{List}
-use lib.Dec.{ltb, eqb}
+use lib.Dec.{ltb, leb, eqb}
 use lib.ListN.{length, getD}
 use Rattle.shape.specs.declared.shape.Shape.{Shape}
 use Rattle.shape.specs.declared.shape.Coords.{Coords}
@@ -13,7 +13,7 @@ use Rattle.plan.specs.Layout.{shapeOf}
 use Rattle.rows.specs.Bits.{bit}
 use Rattle.rows.specs.Rows.{inRows, inSet}
 use Rattle.search.specs.Number.{unclear}
-use Rattle.search.specs.Outward.{placeHops, rankOf}
+use Rattle.search.specs.Outward.{placeHops, rowHops, rankOf}
 use Rattle.notes.specs.Known.{NoteTo}
 use Rattle.planner.specs.Known.{Work, Unskipped, TwoOf}
 
@@ -34,3 +34,11 @@ pub record Noting (p work : List ℕ) (S : ℕ) (skip notes twos : List ℕ) (K 
 abbrev pub LevelWord : Shape → Coords → List ℕ → ℕ → ℕ → ℕ → ℕ → Type 0
 LevelWord s A skip y z k word =
     (x : ℕ) → x < 16 → bit word x ≡ (ltb x (s .x) && (eqb (placeHops s A x) k && not (inRows skip 0 (record { x = x; y = y; z = z }))))
+
+-- The places in Y at r hops, of a plane at `far` hops; `rows` has the places at each number of hops.
+unfoldable pub dueIn : List ℕ → ℕ → ℕ → ℕ
+dueIn rows far r = cond (ltb r far) 0 (cond (leb 16 (r - far)) 0 (getD rows (r - far) 0))
+
+-- The places in Y whose row of the plane z is at r hops.
+abbrev pub PlaneWord : Shape → Coords → ℕ → ℕ → ℕ → Type 0
+PlaneWord s A z r word = (y : ℕ) → y < 16 → bit word y ≡ (ltb y (s .y) && eqb (rowHops s A y z) r)

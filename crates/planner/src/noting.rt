@@ -16,11 +16,10 @@ use shape::axis::hops;
 use shape::shape::wrapped;
 use weights::Weights;
 ghost use mathlib.Core.Path.{_≡_};
-ghost use mathlib.Core.Bool.{false, _&&_};
+ghost use mathlib.Core.Bool.{false};
 ghost use Prim.Native.Nat.{ℕ, _+_, _-_, _*_, _≤_, _<_};
-ghost use lib.Dec.{ltb, eqb};
 ghost use lib.ListN.{length, getD};
-ghost use Rattle.shape.specs.declared.shape.Dim.the-variants.{X};
+ghost use Rattle.shape.specs.declared.shape.Dim.the-variants.{X, Y};
 ghost use Rattle.shape.specs.Shape.{wrappedIn};
 ghost use Rattle.machine.specs.declared.leg.Mode.the-variants.{Adaptive};
 ghost use Rattle.machine.specs.Number.{Inside};
@@ -31,7 +30,7 @@ ghost use Rattle.search.specs.Outward.{hopsRow, rankAt, rowHops, rankOf};
 ghost use Rattle.notes.specs.Known.{isClear, IsAt, ToBetween, NearLosses, NoteTo};
 ghost use Rattle.first_clear.specs.Known.{NotedBetween, TwoTo};
 ghost use Rattle.planner.specs.Known.{Work, NearRow, Ready, NotesMade, TwosMade};
-ghost use Rattle.planner.specs.Ranked.{Noting, LevelWord};
+ghost use Rattle.planner.specs.Ranked.{Noting, LevelWord, PlaneWord, dueIn};
 
 // Of one node: by the sets to all nodes where the run has them, else by the losses. `near`: losses that stand for all on the shortest ways. A node to which the direct
 // adaptive leg is clear needs none, and a dead one has none.
@@ -310,6 +309,9 @@ fn note_row(
 {
     let row = 16 * z as usize + y as usize;
     let left = others(skip[row]);
+    if left == 0 {
+        return;
+    }
     let nears = sift_row(
         shape,
         words,
@@ -354,23 +356,22 @@ fn note_row(
     }
 }
 
-// The row has r hops from the source in Y and Z.
-fn is_due(shape: Shape, a: Coords, y: u8, z: u8, r: u8) -> bool
-    ensures { λ b. ⌜ b ≡ (ltb y (shape .y) && (ltb z (shape .z) && eqb (rowHops shape a y z) r)) ⌝ }
+// The places in Y of the rows at r hops, of a plane at `far` hops. `rows`: the places at each number of hops.
+fn due_rows(rows: &[u16; 16], far: u8, r: u8) -> u16
+    ensures { λ w. ⌜ w ≡ dueIn (now (rows .entry)) far r ⌝ }
 {
-    if shape.y <= y {
-        return false;
+    if r < far {
+        return 0;
     }
-    if shape.z <= z {
-        return false;
+    if 16 <= r - far {
+        return 0;
     }
-    hops(shape.y, wrapped(shape, Dim::Y), a.y, y) as u16
-        + hops(shape.z, wrapped(shape, Dim::Z), a.z, z) as u16
-        == r as u16
+    let i = (r - far) as usize;
+    rows[i]
 }
 
-// The row, if it is at r hops in Y and Z.
-fn due_row(
+// The rows of a plane that a word has, all at r hops in Y and Z.
+fn note_plane(
     plan: &[u8],
     weights: Weights,
     shape: Shape,
@@ -387,8 +388,9 @@ fn due_row(
     fd: &[u16; 256],
     skip: &[u16; 256],
     levels: &[u16; 16],
+    word: u16,
+    z: u8,
     r: u8,
-    row: u16,
     run: &mut [u16; 1024],
     notes: &mut [u32; 4096],
     twos: &mut [u32; 4096],
@@ -397,40 +399,39 @@ fn due_row(
     requires { ⌜ Ready (now plan) shape (now words) count (now dead) (now ta) (now td) (now work) source a (now fa) (now fd) ⌝ }
     requires { ⌜ weights ≡ weightsOf (now plan) ⌝ }
     requires { ⌜ ((k : ℕ) → k < 16 → getD (now levels) k 0 ≡ hopsRow (shape .x) (wrappedIn shape X) (a .x) k) ⌝ }
-    requires { ⌜ row < 256 ⌝ }
-    requires { ⌜ Noting (now plan) (now work) source (now skip) (now notes) (now twos) (65536 * r + 256 * row) ⌝ }
-    ensures { λ _. ⌜ Noting (now (plan .entry)) (now (work .entry)) source (now (skip .entry)) (now (notes .exit)) (now (twos .exit)) (65536 * r + 256 * (row + 1)) ⌝ }
+    requires { ⌜ (z < shape .z) × PlaneWord shape a z r word ⌝ }
+    requires { ⌜ Noting (now plan) (now work) source (now skip) (now notes) (now twos) (65536 * r + 4096 * z) ⌝ }
+    ensures { λ _. ⌜ Noting (now (plan .entry)) (now (work .entry)) source (now (skip .entry)) (now (notes .exit)) (now (twos .exit)) (65536 * r + 4096 * (z + 1)) ⌝ }
     ensures { λ _. ⌜ length (now (near .exit)) ≡ 256 ⌝ }
 {
-    let y = (row % 16) as u8;
-    let z = (row / 16) as u8;
-    if !is_due(shape, a, y, z, r) {
-        return;
+    let mut y = next_set(word, 0);
+    while y < 16 {
+        note_row(
+            plan,
+            weights,
+            shape,
+            words,
+            count,
+            near,
+            dead,
+            ta,
+            td,
+            work,
+            source,
+            a,
+            fa,
+            fd,
+            skip,
+            levels,
+            y,
+            z,
+            r,
+            run,
+            notes,
+            twos,
+        );
+        y = next_set(word, y + 1);
     }
-    note_row(
-        plan,
-        weights,
-        shape,
-        words,
-        count,
-        near,
-        dead,
-        ta,
-        td,
-        work,
-        source,
-        a,
-        fa,
-        fd,
-        skip,
-        levels,
-        y,
-        z,
-        r,
-        run,
-        notes,
-        twos,
-    );
 }
 
 // The rows at r hops in Y and Z.
@@ -451,6 +452,7 @@ fn note_rows(
     fd: &[u16; 256],
     skip: &[u16; 256],
     levels: &[u16; 16],
+    rows: &[u16; 16],
     r: u8,
     run: &mut [u16; 1024],
     notes: &mut [u32; 4096],
@@ -460,13 +462,16 @@ fn note_rows(
     requires { ⌜ Ready (now plan) shape (now words) count (now dead) (now ta) (now td) (now work) source a (now fa) (now fd) ⌝ }
     requires { ⌜ weights ≡ weightsOf (now plan) ⌝ }
     requires { ⌜ ((k : ℕ) → k < 16 → getD (now levels) k 0 ≡ hopsRow (shape .x) (wrappedIn shape X) (a .x) k) ⌝ }
+    requires { ⌜ ((k : ℕ) → k < 16 → getD (now rows) k 0 ≡ hopsRow (shape .y) (wrappedIn shape Y) (a .y) k) ⌝ }
     requires { ⌜ Noting (now plan) (now work) source (now skip) (now notes) (now twos) (65536 * r) ⌝ }
     ensures { λ _. ⌜ Noting (now (plan .entry)) (now (work .entry)) source (now (skip .entry)) (now (notes .exit)) (now (twos .exit)) (65536 * (r + 1)) ⌝ }
     ensures { λ _. ⌜ length (now (near .exit)) ≡ 256 ⌝ }
 {
-    let mut row: u16 = 0;
-    while row < 256 {
-        due_row(
+    let mut z: u8 = 0;
+    while z < shape.z {
+        let far = hops(shape.z, wrapped(shape, Dim::Z), a.z, z);
+        let word = due_rows(rows, far, r);
+        note_plane(
             plan,
             weights,
             shape,
@@ -483,13 +488,14 @@ fn note_rows(
             fd,
             skip,
             levels,
+            word,
+            z,
             r,
-            row,
             run,
             notes,
             twos,
         );
-        row = row + 1;
+        z = z + 1;
     }
 }
 
@@ -520,6 +526,7 @@ pub fn notes_from(
     let mut run = [0u16; 1024];
     let mut near = [0u16; 256];
     let levels = rows_by_hops(shape.x, wrapped(shape, Dim::X), a.x);
+    let rows = rows_by_hops(shape.y, wrapped(shape, Dim::Y), a.y);
     let mut r: u8 = 0;
     while r < 31 {
         note_rows(
@@ -539,6 +546,7 @@ pub fn notes_from(
             fd,
             skip,
             &levels,
+            &rows,
             r,
             &mut run,
             &mut notes,

@@ -4,7 +4,7 @@ use mathlib.Core.Path.{refl}
 use Rattle.search.specs.Outward.{rankAt}
 use Rattle.planner.specs.Ranked.{Noting}
 use Rattle.planner.proofs.Destination.{sifting-at}
-use Rattle.planner.proofs.EachNote.{same-noting, is-at, level-word, row-fits, in-row}
+use Rattle.planner.proofs.EachNote.{same-noting, is-at, level-word, row-fits, in-row, row-full}
 use borrow.Author.Needs.{needs}
 use Rattle.planner.proofs.noting.note_row.Statement.{statement}
 use Rattle.planner.proofs.noting.note_row.Tie as tie
@@ -30,11 +30,14 @@ element-copy-out-others c = omega (arith, row-fits _ _ _ _ _ _ _ _ _ _ _ _ (c .b
 others-requires : tie.Need-others-requires Inv-loop μ-loop
 others-requires c κs = search needs
 
+returns : tie.Need-returns Inv-loop μ-loop
+returns c = (row-full _ _ _ _ _ _ _ _ _ _ _ _ (c .before .before .before .before .before .pre .1 .0) _ _ _ _ (c .before .before .before .before .before .pre .1 .1 .1 .0 .0) (c .before .before .before .before .before .pre .1 .1 .1 .0 .1) (c .before .before .before .before .before .pre .1 .1 .1 .0 .2) _ (c .before .others .ensures .1) (c .before .others .ensures .0) (c .if1 .taken) _ _ (c .before .before .before .before .before .pre .1 .1 .1 .1 .1), c .before .before .before .before .before .pre .0)
+
 sift-row-requires : tie.Need-sift-row-requires Inv-loop μ-loop
 sift-row-requires c κs = search needs
 
 loop-holds : tie.Need-loop-holds Inv-loop μ-loop
-loop-holds c = (omega arith, c .before .before .before .before .before .before .pre .1 .1 .1 .1 .1)
+loop-holds c = (omega arith, c .before .before .before .before .before .before .before .pre .1 .1 .1 .1 .1)
 
 cast-i : tie.Need-cast-i Inv-loop μ-loop
 cast-i c = omega arith
@@ -46,7 +49,7 @@ element-copy-out-word : tie.Need-element-copy-out-word Inv-loop μ-loop
 element-copy-out-word c = omega arith
 
 note-word-requires : tie.Need-note-word-requires Inv-loop μ-loop
-note-word-requires c κs = let at = is-at _ _ _ _ _ _ _ _ _ _ _ _ (c .before .before .before .before .before .before .before .before .before .before .before .before .before .pre .1 .0) _ (in-row _ _ _ _ _ _ _ _ _ _ _ _ (c .before .before .before .before .before .before .before .before .before .before .before .before .before .pre .1 .0) (c .before .before .before .before .before .before .before .before .before .before .before .before .before .args .skip .now) _ _ _ (c .before .before .before .before .before .before .before .before .before .before .before .before .before .pre .1 .1 .1 .0 .0) (c .before .before .before .before .before .before .before .before .before .before .before .before .before .pre .1 .1 .1 .0 .1) (c .before .before .before .before .before .before .before .before .before .before .before .before .before .pre .1 .1 .1 .0 .2)) _ refl in (c .before .before .before .before .before .before .before .before .before .before .before .before .before .pre .1 .0, (c .before .before .before .before .before .before .before .before .before .before .before .before .before .pre .1 .1 .0, (c .before .before .before .before .before .before .before .sift-row .ensures _ _ _ (sifting-at _ _ _ _ _ _ _ _ _ _ _ _ (c .before .before .before .before .before .before .before .before .before .before .before .before .before .pre .1 .0) _ _ at) (c .before .before .before .before .before .before .before .before .before .before .before .before .before .pre .0), ((c .before .before .before .before .before .before .before .before .before .before .before .before .before .pre .1 .1 .1 .0 .0, c .before .before .before .before .before .before .before .before .before .before .before .before .before .pre .1 .1 .1 .0 .1, c .before .before .before .before .before .before .before .before .before .before .before .before .before .pre .1 .1 .1 .0 .2, c .before .before .before .before .before .loop-test .taken), (level-word _ _ _ _ _ _ _ _ _ _ _ _ (c .before .before .before .before .before .before .before .before .before .before .before .before .before .pre .1 .0) (c .before .before .before .before .before .before .before .before .before .before .before .before .before .args .skip .now) _ _ _ (c .before .before .before .before .before .before .before .before .before .before .before .before .before .pre .1 .1 .1 .0 .0) (c .before .before .before .before .before .before .before .before .before .before .before .before .before .pre .1 .1 .1 .0 .1) (c .before .before .before .before .before .before .before .before .before .before .before .before .before .pre .1 .1 .1 .0 .2) (c .before .before .before .before .before .before .before .before .before .before .before .before .before .args .levels .now) _ _ _ (c .before .before .before .before .before .before .before .before .before .before .before .before .before .pre .1 .1 .1 .1 .0 _ (c .before .before .before .before .before .loop-test .taken)) (c .before .before .before .before .before .before .before .before .before .others .ensures .1) (c .before .before .before .before .before .before .before .before .before .others .ensures .0) refl, c .before .before .before .before .before .before .loop .inv .1)))))
+note-word-requires c κs = let at = is-at _ _ _ _ _ _ _ _ _ _ _ _ (c .before .before .before .before .before .before .before .before .before .before .before .before .before .before .pre .1 .0) _ (in-row _ _ _ _ _ _ _ _ _ _ _ _ (c .before .before .before .before .before .before .before .before .before .before .before .before .before .before .pre .1 .0) (c .before .before .before .before .before .before .before .before .before .before .before .before .before .before .args .skip .now) _ _ _ (c .before .before .before .before .before .before .before .before .before .before .before .before .before .before .pre .1 .1 .1 .0 .0) (c .before .before .before .before .before .before .before .before .before .before .before .before .before .before .pre .1 .1 .1 .0 .1) (c .before .before .before .before .before .before .before .before .before .before .before .before .before .before .pre .1 .1 .1 .0 .2)) _ refl in (c .before .before .before .before .before .before .before .before .before .before .before .before .before .before .pre .1 .0, (c .before .before .before .before .before .before .before .before .before .before .before .before .before .before .pre .1 .1 .0, (c .before .before .before .before .before .before .before .sift-row .ensures _ _ _ (sifting-at _ _ _ _ _ _ _ _ _ _ _ _ (c .before .before .before .before .before .before .before .before .before .before .before .before .before .before .pre .1 .0) _ _ at) (c .before .before .before .before .before .before .before .before .before .before .before .before .before .before .pre .0), ((c .before .before .before .before .before .before .before .before .before .before .before .before .before .before .pre .1 .1 .1 .0 .0, c .before .before .before .before .before .before .before .before .before .before .before .before .before .before .pre .1 .1 .1 .0 .1, c .before .before .before .before .before .before .before .before .before .before .before .before .before .before .pre .1 .1 .1 .0 .2, c .before .before .before .before .before .loop-test .taken), (level-word _ _ _ _ _ _ _ _ _ _ _ _ (c .before .before .before .before .before .before .before .before .before .before .before .before .before .before .pre .1 .0) (c .before .before .before .before .before .before .before .before .before .before .before .before .before .before .args .skip .now) _ _ _ (c .before .before .before .before .before .before .before .before .before .before .before .before .before .before .pre .1 .1 .1 .0 .0) (c .before .before .before .before .before .before .before .before .before .before .before .before .before .before .pre .1 .1 .1 .0 .1) (c .before .before .before .before .before .before .before .before .before .before .before .before .before .before .pre .1 .1 .1 .0 .2) (c .before .before .before .before .before .before .before .before .before .before .before .before .before .before .args .levels .now) _ _ _ (c .before .before .before .before .before .before .before .before .before .before .before .before .before .before .pre .1 .1 .1 .1 .0 _ (c .before .before .before .before .before .loop-test .taken)) (c .before .before .before .before .before .before .before .before .before .before .others .ensures .1) (c .before .before .before .before .before .before .before .before .before .before .others .ensures .0) refl, c .before .before .before .before .before .before .loop .inv .1)))))
 
 add-k : tie.Need-add-k Inv-loop μ-loop
 add-k c = omega arith
@@ -57,8 +60,8 @@ loop-less c = omega arith
 loop-again : tie.Need-loop-again Inv-loop μ-loop
 loop-again c = (omega arith, c .note-word .ensures)
 
-returns : tie.Need-returns Inv-loop μ-loop
-returns c = let at = is-at _ _ _ _ _ _ _ _ _ _ _ _ (c .before .before .before .before .before .before .before .before .pre .1 .0) _ (in-row _ _ _ _ _ _ _ _ _ _ _ _ (c .before .before .before .before .before .before .before .before .pre .1 .0) (c .before .before .before .before .before .before .before .before .args .skip .now) _ _ _ (c .before .before .before .before .before .before .before .before .pre .1 .1 .1 .0 .0) (c .before .before .before .before .before .before .before .before .pre .1 .1 .1 .0 .1) (c .before .before .before .before .before .before .before .before .pre .1 .1 .1 .0 .2)) _ refl in (same-noting _ _ _ _ _ _ _ _ (omega (arith, c .before .loop .inv .0)) (c .before .loop .inv .1), c .before .before .sift-row .ensures _ _ _ (sifting-at _ _ _ _ _ _ _ _ _ _ _ _ (c .before .before .before .before .before .before .before .before .pre .1 .0) _ _ at) (c .before .before .before .before .before .before .before .before .pre .0) .long)
+returns-2 : tie.Need-returns-2 Inv-loop μ-loop
+returns-2 c = let at = is-at _ _ _ _ _ _ _ _ _ _ _ _ (c .before .before .before .before .before .before .before .before .before .pre .1 .0) _ (in-row _ _ _ _ _ _ _ _ _ _ _ _ (c .before .before .before .before .before .before .before .before .before .pre .1 .0) (c .before .before .before .before .before .before .before .before .before .args .skip .now) _ _ _ (c .before .before .before .before .before .before .before .before .before .pre .1 .1 .1 .0 .0) (c .before .before .before .before .before .before .before .before .before .pre .1 .1 .1 .0 .1) (c .before .before .before .before .before .before .before .before .before .pre .1 .1 .1 .0 .2)) _ refl in (same-noting _ _ _ _ _ _ _ _ (omega (arith, c .before .loop .inv .0)) (c .before .loop .inv .1), c .before .before .sift-row .ensures _ _ _ (sifting-at _ _ _ _ _ _ _ _ _ _ _ _ (c .before .before .before .before .before .before .before .before .before .pre .1 .0) _ _ at) (c .before .before .before .before .before .before .before .before .before .pre .0) .long)
 
 pub note-row-spec : {M : Type 1} → statement M
 note-row-spec =
@@ -71,6 +74,7 @@ note-row-spec =
     mul-others
     element-copy-out-others
     others-requires
+    returns
     sift-row-requires
     loop-holds
     cast-i
@@ -80,4 +84,4 @@ note-row-spec =
     add-k
     loop-less
     loop-again
-    returns)
+    returns-2)
