@@ -1,4 +1,4 @@
-//! The time of a step, and of a hop of walks of several lengths: the proved stepper against the same stepper in plain Rust that divides, in plain Rust that does
+//! The time of a step, of a hop of walks of several lengths, and of a hop taken back: the proved stepper against the same stepper in plain Rust that divides, in plain Rust that does
 //! not, and in plain Rust that counts the hops left as it does itself. In one run; it ends with a message where an answer differs.
 mod plain;
 mod random;
@@ -11,32 +11,40 @@ extern "C" {
     #[allow(clippy::too_many_arguments)]
     fn nafthurm_step(x: u8, y: u8, z: u8, wrap: u8, node: u16, via: u16, further: u16, target: u16, modes: u8, dir: u8) -> u32;
     #[allow(clippy::too_many_arguments)]
+    fn nafthurm_take_back(x: u8, y: u8, z: u8, wrap: u8, source: u16, node: u16, via: u16, further: u16, target: u16, modes: u8, mark: u8, dir: u8) -> u32;
+    #[allow(clippy::too_many_arguments)]
     fn nafthurm_walk(x: u8, y: u8, z: u8, wrap: u8, node: u16, via: u16, further: u16, target: u16, modes: u8, dirs: *const u8, len: usize) -> u64;
 }
 
 struct Case {
     packet: Packet,
     dirs: Vec<u8>,
+    /// The packet somewhere on the walk, and its last direction.
+    later: Packet,
+    last: u8,
 }
 
 /// A walk by allowed hops, at random, from a node over two vias to a target.
 fn case(random: &mut Random, shape: &Shape, mode: Mode) -> Case {
     let node = |random: &mut Random| random.below(4096) as u16;
     let leg = |random: &mut Random| Leg { target: node(random), mode };
-    let packet = Packet { node: node(random), legs: [leg(random), leg(random), leg(random)], left: 3 };
+    let source = node(random);
+    let packet = Packet { source, node: source, legs: [leg(random), leg(random), leg(random)], count: 3, mark: 0 };
     let mut dirs = vec![];
     let mut at = packet.node;
     for leg in packet.legs {
         while at != leg.target {
             let dir = random.below(6) as u8;
-            let (after, number) = Packet { node: at, legs: [leg; MOST_LEGS], left: 1 }.step::<Divides>(shape, dir);
+            let (after, number) = Packet { source: at, node: at, legs: [leg; MOST_LEGS], count: 1, mark: 0 }.step::<Divides>(shape, dir);
             if number == 0 {
                 dirs.push(dir);
                 at = after.node;
             }
         }
     }
-    Case { packet, dirs }
+    let taken = 1 + source as usize % dirs.len();
+    let (later, ..) = packet.walk::<Divides>(shape, &dirs[..taken]);
+    Case { packet, last: dirs[taken - 1], dirs, later }
 }
 
 /// A bit for each deterministic leg, leg one lowest.
@@ -50,8 +58,18 @@ fn proved_step(shape: &Shape, p: &Packet, dir: u8) -> u32 {
     unsafe { nafthurm_step(x, y, z, shape.wrap, p.node, first, second, third, modes(p.legs), dir) }
 }
 
+/// The node before the last hop, 65,536 for each unit of the mark there, and 16,777,216 for each unit of the refusal's number.
+fn proved_back(shape: &Shape, p: &Packet, dir: u8) -> u32 {
+    let ([x, y, z], [first, second, third]) = (shape.extents, p.legs.map(|leg| leg.target));
+    unsafe { nafthurm_take_back(x, y, z, shape.wrap, p.source, p.node, first, second, third, modes(p.legs), p.mark, dir) }
+}
+
 fn step_word((packet, number): (Packet, u8)) -> u32 {
     number as u32 * 65536 + packet.node as u32
+}
+
+fn back_word((packet, number): (Packet, u8)) -> u32 {
+    number as u32 * 16777216 + packet.mark as u32 * 65536 + packet.node as u32
 }
 
 /// The hops of a walk, and 65,536 for each unit of the node's number that it ends at.
@@ -96,6 +114,20 @@ fn steps(name: &str, kind: &str, shape: &Shape, cases: &[Case]) {
     line(name, kind, "a step", ours, &[divides, subtracts]);
 }
 
+fn backs(name: &str, kind: &str, shape: &Shape, cases: &[Case]) {
+    for case in cases {
+        assert_eq!(case.later.take_back::<Divides>(shape, case.last).1, 0, "a hop cannot be taken back");
+        for dir in 0..8 {
+            let words = [back_word(case.later.take_back::<Divides>(shape, dir)), back_word(case.later.take_back::<Subtracts>(shape, dir))];
+            assert_eq!(words, [proved_back(shape, &case.later, dir); 2], "a hop is taken back otherwise than by plain Rust");
+        }
+    }
+    let ours = time(cases, cases.len(), |c| proved_back(shape, &c.later, c.last));
+    let divides = time(cases, cases.len(), |c| back_word(c.later.take_back::<Divides>(shape, c.last)));
+    let subtracts = time(cases, cases.len(), |c| back_word(c.later.take_back::<Subtracts>(shape, c.last)));
+    line(name, kind, "a hop taken back", ours, &[divides, subtracts]);
+}
+
 /// Walks of at most so many hops.
 fn walks(name: &str, kind: &str, what: &str, shape: &Shape, cases: &[Case], most: usize) {
     fn dirs(case: &Case, most: usize) -> &[u8] {
@@ -126,6 +158,7 @@ fn main() {
             walks(name, kind, "a hop of whole walks", &shape, &cases, usize::MAX);
             walks(name, kind, "a hop of walks of 4", &shape, &cases, 4);
             walks(name, kind, "a walk of one hop", &shape, &cases, 1);
+            backs(name, kind, &shape, &cases);
         }
     }
 }

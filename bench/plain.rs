@@ -17,9 +17,11 @@ pub const MOST_LEGS: usize = 3;
 
 #[derive(Clone, Copy)]
 pub struct Packet {
+    pub source: u16,
     pub node: u16,
     pub legs: [Leg; MOST_LEGS],
-    pub left: u8,
+    pub count: u8,
+    pub mark: u8,
 }
 
 #[derive(Clone, Copy)]
@@ -139,6 +141,26 @@ impl Shape {
         at
     }
 
+    /// Whether some walk of a leg from `start` comes to the place and goes on in direction dir.
+    fn crosses(&self, mode: Mode, start: [u8; 3], at: [u8; 3], to: [u8; 3], dir: u8) -> bool {
+        let dim = (dir / 2) as usize;
+        let between = |d: usize| self.hops(d, start[d], at[d]) + self.hops(d, at[d], to[d]) == self.hops(d, start[d], to[d]);
+        let on_a_walk = || match mode {
+            Mode::Adaptive => (0..3).all(between),
+            Mode::Deterministic => {
+                let (up, down) = self.ways(dim, start[dim], to[dim]);
+                let plus = if up && down { goes_plus(start[dim]) } else { up };
+                plus == (dir % 2 == 0) && between(dim) && (dim + 1..3).all(|d| at[d] == start[d])
+            }
+        };
+        self.allows(mode, at, to, dir) && on_a_walk()
+    }
+
+    fn hops(&self, d: usize, p: u8, q: u8) -> u8 {
+        let apart = p.abs_diff(q);
+        if self.wrapped(d) { apart.min(self.extents[d] - apart) } else { apart }
+    }
+
     /// The hops left from p to q in dimension d going plus, and going minus, 0 where the leg may not: an open dimension is like a ring of twice its extent.
     fn hops_left(&self, mode: Mode, d: usize, p: u8, q: u8) -> [u8; 2] {
         let ring = if self.wrapped(d) { self.extents[d] } else { 2 * self.extents[d] };
@@ -160,7 +182,7 @@ impl Shape {
 /// A packet on a leg: the hops left to its target, and in each direction.
 #[derive(Clone, Copy)]
 struct Course {
-    left: u8,
+    mark: u8,
     mode: Mode,
     hops: u8,
     to: [u8; 3],
@@ -170,11 +192,11 @@ struct Course {
 impl Course {
     fn of<D: Division>(packet: Packet, shape: &Shape) -> Course {
         let packet = packet.drops();
-        let front = if packet.left == 0 { Leg { target: 0, mode: Mode::Adaptive } } else { packet.front() };
+        let front = if packet.arrived() { Leg { target: 0, mode: Mode::Adaptive } } else { packet.front() };
         let (at, to) = (shape.coords::<D>(packet.node), shape.coords::<D>(front.target));
         let [x, y, z] = [0, 1, 2].map(|d| shape.hops_left(front.mode, d, at[d], to[d]));
         let hops = [x, y, z].map(|[plus, minus]| plus.max(minus)).iter().sum();
-        Course { left: packet.left, mode: front.mode, hops, to, ways: [x[0], x[1], y[0], y[1], z[0], z[1]] }
+        Course { mark: packet.mark, mode: front.mode, hops, to, ways: [x[0], x[1], y[0], y[1], z[0], z[1]] }
     }
 
     fn take(&mut self, dir: u8) -> bool {
@@ -191,20 +213,24 @@ impl Course {
         true
     }
 
-    fn packet(&self, shape: &Shape, legs: [Leg; MOST_LEGS]) -> Packet {
+    fn packet(&self, shape: &Shape, lent: Packet) -> Packet {
         let at = [0, 1, 2].map(|d| shape.before(d, self.to[d], [self.ways[2 * d], self.ways[2 * d + 1]]));
-        Packet { node: shape.number(at), legs, left: self.left }
+        Packet { node: shape.number(at), mark: self.mark, ..lent }
     }
 }
 
 impl Packet {
     fn front(&self) -> Leg {
-        self.legs[MOST_LEGS - self.left as usize]
+        self.legs[self.mark as usize]
+    }
+
+    fn arrived(&self) -> bool {
+        self.mark == self.count
     }
 
     fn drops(mut self) -> Packet {
-        while self.left > 0 && self.front().target == self.node {
-            self.left -= 1;
+        while !self.arrived() && self.front().target == self.node {
+            self.mark += 1;
         }
         self
     }
@@ -214,12 +240,11 @@ impl Packet {
         if error != 0 {
             return error;
         }
-        if self.left as usize > MOST_LEGS {
+        if self.count as usize > MOST_LEGS || self.mark > self.count {
             return 14;
         }
         let nodes = shape.nodes();
-        let legs = &self.legs[MOST_LEGS - self.left as usize..];
-        if self.node >= nodes || legs.iter().any(|l| l.target >= nodes) {
+        if self.source >= nodes || self.node >= nodes || self.legs[..self.count as usize].iter().any(|l| l.target >= nodes) {
             return 14;
         }
         0
@@ -231,7 +256,7 @@ impl Packet {
             return (self, error);
         }
         let packet = self.drops();
-        if packet.left == 0 {
+        if packet.arrived() {
             return (self, 15);
         }
         let (at, to) = (shape.coords::<D>(packet.node), shape.coords::<D>(packet.front().target));
@@ -240,6 +265,30 @@ impl Packet {
         }
         let node = shape.number(shape.moved(at, dir));
         (Packet { node, ..packet }.drops(), 0)
+    }
+
+    /// Where leg number i begins.
+    fn begin(&self, i: usize) -> u16 {
+        if i == 0 { self.source } else { self.legs[i - 1].target }
+    }
+
+    /// The packet before its last hop. That was made on the current leg, or, where this begins here, on the nearest before it that does not.
+    pub fn take_back<D: Division>(self, shape: &Shape, dir: u8) -> (Packet, u8) {
+        let error = self.error(shape);
+        if error != 0 {
+            return (self, error);
+        }
+        let last = (0..=self.mark as usize).rev().find(|&i| self.begin(i) != self.node);
+        let Some(mark) = last.filter(|&i| dir < 6 && i < self.count as usize && self.drops().mark == self.mark) else {
+            return (self, 18);
+        };
+        let leg = self.legs[mark];
+        let [at, start, to] = [self.node, self.begin(mark), leg.target].map(|node| shape.coords::<D>(node));
+        let before = shape.moved(at, dir ^ 1);
+        if !shape.crosses(leg.mode, start, before, to, dir) {
+            return (self, 18);
+        }
+        (Packet { node: shape.number(before), mark: mark as u8, ..self }, 0)
     }
 
     /// A walk that carries coordinates.
@@ -251,9 +300,9 @@ impl Packet {
         let mut packet = self.drops();
         let kept = |hops, packet| if hops == 0 { self } else { packet };
         let mut at = shape.coords::<D>(self.node);
-        let mut to = if packet.left == 0 { at } else { shape.coords::<D>(packet.front().target) };
+        let mut to = if packet.arrived() { at } else { shape.coords::<D>(packet.front().target) };
         for (hops, &dir) in dirs.iter().enumerate() {
-            if packet.left == 0 {
+            if packet.arrived() {
                 return (kept(hops, packet), hops, Ending::Arrived);
             }
             if !shape.allows(packet.front().mode, at, to, dir) {
@@ -261,13 +310,13 @@ impl Packet {
             }
             at = shape.moved(at, dir);
             packet.node = shape.number(at);
-            let before = packet.left;
+            let before = packet.mark;
             packet = packet.drops();
-            if packet.left != before && packet.left > 0 {
+            if packet.mark != before && !packet.arrived() {
                 to = shape.coords::<D>(packet.front().target);
             }
         }
-        let ending = if packet.left == 0 { Ending::Arrived } else { Ending::UsedUp };
+        let ending = if packet.arrived() { Ending::Arrived } else { Ending::UsedUp };
         (kept(dirs.len(), packet), dirs.len(), ending)
     }
 
@@ -278,19 +327,19 @@ impl Packet {
             return (self, 0, Ending::Refused(error));
         }
         let mut way = Course::of::<D>(self, shape);
-        let kept = |hops, way: Course| if hops == 0 { self } else { way.packet(shape, self.legs) };
+        let kept = |hops, way: Course| if hops == 0 { self } else { way.packet(shape, self) };
         for (hops, &dir) in dirs.iter().enumerate() {
-            if way.left == 0 {
+            if way.mark == self.count {
                 return (kept(hops, way), hops, Ending::Arrived);
             }
             if !way.take(dir) {
                 return (kept(hops, way), hops, Ending::NotAllowed);
             }
             if way.hops == 0 {
-                way = Course::of::<D>(Packet { node: shape.number(way.to), legs: self.legs, left: way.left }, shape);
+                way = Course::of::<D>(Packet { node: shape.number(way.to), mark: way.mark, ..self }, shape);
             }
         }
-        let ending = if way.left == 0 { Ending::Arrived } else { Ending::UsedUp };
+        let ending = if way.mark == self.count { Ending::Arrived } else { Ending::UsedUp };
         (kept(dirs.len(), way), dirs.len(), ending)
     }
 }

@@ -1,4 +1,4 @@
-//! The planners in plain Rust, `reference/fast.rs` and `reference/shadows.rs` under document 01's rules with E1 to E5, called from here and as programs.
+//! The planners in plain Rust, `reference/fast.rs` and `reference/shadows.rs` under document 01's rules with E1 to E6, called from here and as programs.
 use std::io::Write;
 use std::process::{Command, Stdio};
 

@@ -1,5 +1,5 @@
 /*
- * Nafthurm for a board's program: plan and route sheets, planned routes, packets, steps and walks.
+ * Nafthurm for a board's program: plan and route sheets, planned routes, packets, steps, walks, and hops taken back.
  *
  * Link libnafthurm.a (`rt staticlib nafthurm` writes target/staticlib/libnafthurm.a; x86-64 Linux). It needs nothing but memcpy and memset.
  *
@@ -13,7 +13,7 @@
  * A call uses at most NAFTHURM_STACK bytes of stack; nafthurm_pair NAFTHURM_STACK_PAIR, nafthurm_write_sheet NAFTHURM_STACK_SHEET,
  * nafthurm_all_sheets NAFTHURM_STACK_ALL and nafthurm_listing NAFTHURM_STACK_LISTING.
  *
- * A field or result `number` is 0, or the number of a refusal, 1 to 17: docs/NUMBERS.md. A call that is refused writes no lent byte, but to a
+ * A field or result `number` is 0, or the number of a refusal, 1 to 18: docs/NUMBERS.md. A call that is refused writes no lent byte, but to a
  * workspace.
  *
  * The checks of a plan are 1 to 6, 16, and then 7 and 8 fault by fault, in this order.
@@ -118,16 +118,19 @@ typedef struct {
 } nafthurm_leg;
 
 /*
- * A packet: its present node and the legs left, which are the last `left` of the array, in the order in which they are gone: with left 1 that is legs[2].
- * With left 0 it has arrived. A board may store and send it as it likes; no other byte of it counts. Steps and walks change node and left only.
+ * A packet: the source of its route, its present node, and the route, which is the first `count` of the legs, at most three, in the order in which they are gone.
+ * `mark` is the number of the current leg, from 0 on; where it is `count`, just past the last leg, the packet has arrived. Legs behind the route are not judged.
+ * A board may store and send a packet as it likes; no other byte of it counts. Steps, walks and hops taken back change node and mark only.
  */
 typedef struct {
+    uint16_t source;
     uint16_t node;
     nafthurm_leg legs[3];
-    uint8_t left;
+    uint8_t count;
+    uint8_t mark;
 } nafthurm_packet;
 
-/* The packet after one hop, or as it was lent, with 5, 6, 14 or 15. */
+/* The packet after one hop, or before its last; or as it was lent, with 5, 6, 14, and of a step 15, of a hop taken back 18. */
 typedef struct {
     nafthurm_packet packet;
     uint8_t number;
@@ -237,21 +240,36 @@ nafthurm_route nafthurm_lookup_route(const uint8_t *plan, size_t plan_size, cons
 nafthurm_converted nafthurm_convert(const uint8_t *plan, size_t plan_size, const uint8_t *sheet, size_t sheet_size, uint8_t *out, size_t out_size);
 
 /* ---- Packets ----
- * A step and a walk divide by nothing but powers of two: there is no divide instruction in either. A walk has a start of its own for each leg: for one hop or
- * two the step is the quicker, from three hops on the walk.
+ * A step and a walk judge a packet with the current leg dropped, which raises the mark, while its target is the present node. Only a hop stores the drops, before
+ * it and again after it. Taking back judges the mark as it stands.
+ *
+ * A step, a walk and a hop taken back divide by nothing but powers of two: there is no divide instruction in any of them. A walk has a start of its own for each
+ * leg: for one hop or two the step is the quicker, from three hops on the walk.
  */
 
 /*
- * The new packet of a route that nafthurm_pair or nafthurm_lookup_route gave: at the source with all the route's legs left. Of a refused route, or a kind of
- * 48 or more, a packet with left 255, which every check, step and walk refuses with 14. Of any other kind as many vias count as it has sixteens.
+ * The new packet of a route that nafthurm_pair or nafthurm_lookup_route gave: at the source, with the mark on the first leg whose target is another node, and past
+ * the last where there is none. Of a refused route, or a kind of 48 or more, a packet with count 255 and mark 0, which every call below refuses with 14. Of any
+ * other kind as many vias count as it has sixteens.
  */
 nafthurm_packet nafthurm_new_packet(uint16_t source, uint16_t destination, nafthurm_route route);
 
-/* Checks 5, 6, then 14: the number of the first that declines, or 0. */
+/*
+ * Checks 5, 6, then 14: the number of the first that declines, or 0. 14 is a count above 3, a mark above the count, or a node outside the shape as source, as
+ * present node or as the target of a leg of the route, travelled ones too.
+ */
 uint8_t nafthurm_packet_check(nafthurm_shape shape, nafthurm_packet packet);
 
-/* One hop in the direction, if it is allowed: checks 5, 6, 14, then 15. */
+/* One hop in the direction, if it is allowed: checks 5, 6, 14, then 15. A packet that no allowed hops reach from its source may go on all the same. */
 nafthurm_stepped nafthurm_step(nafthurm_shape shape, nafthurm_packet packet, uint8_t direction);
+
+/*
+ * The packet before its last hop, which was made in the direction: checks 5, 6, 14, then 18. It is granted where some allowed walk of the route from the source
+ * ends at this packet by that hop, whichever walk was taken, and where the packet has arrived too; a step in the direction then gives this packet again. 18 is no
+ * such walk: of a new packet, of a direction above 5, of a mark on a leg whose target is the present node, which no hop stores, and of any packet that allowed
+ * hops do not reach from its source.
+ */
+nafthurm_stepped nafthurm_take_back(nafthurm_shape shape, nafthurm_packet packet, uint8_t direction);
 
 /*
  * One hop a byte of the directions. It ends with the first that holds: arrived; a direction not allowed; bytes used up. Checks 5, 6, 14 come first.

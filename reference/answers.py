@@ -13,7 +13,7 @@ import functools
 import reference as ref
 import vectors
 
-STAGE = ref.E5                 # the last change request that has landed
+STAGE = ref.E6                 # the last change request that has landed
 SHEET_BYTES = 28672            # the largest route sheet
 
 ref.LITERAL_NODES = 12         # larger plans are searched by length, with the same answer, since that is quicker
@@ -43,14 +43,15 @@ def legs_in(text):
 
 
 def packet_in(text):
-    node, legs = text.split(';')
-    return ref.Packet(int(node), legs_in(legs))
+    source, node, mark, legs = text.split(';')
+    return ref.MarkedPacket(int(source), int(node), legs_in(legs), int(mark))
 
 
 def calls_in(text):
-    """('step', direction) or ('walk', bytes), as ref.run_of takes them."""
+    """('step', direction), ('walk', bytes) or ('back', direction)."""
+    names = {'s': 'step', 'w': 'walk', 'b': 'back'}
     calls = [] if text == '-' else text.split(',')
-    return [('step', int(call[1:], 16)) if call[0] == 's' else ('walk', bytes.fromhex(call[1:])) for call in calls]
+    return [(names[call[0]], bytes.fromhex(call[1:]) if call[0] == 'w' else int(call[1:], 16)) for call in calls]
 
 
 # ---- The stepper
@@ -65,18 +66,24 @@ def walk(extents, wrap, packet, run):
     return {'number': walked.number, 'packet': vectors.packet_text(walked.packet), 'hops': walked.hops, 'ending': walked.ending}
 
 
+def takeback(extents, wrap, packet, direction):
+    number, before = ref.take_back(STAGE, numbers_in(extents), int(wrap), packet_in(packet), int(direction))
+    return {'number': number, 'packet': vectors.packet_text(before)}
+
+
 def run_fields(shape, source, legs, calls):
-    """The calls on the new packet of a route; what it does is held to document 01's own account of a run."""
+    """The calls on the new packet of a route; where no hop is taken back, what it does is held to document 01's own account of a run."""
     packet, answers = ref.new_packet(STAGE, source, legs), []
     for name, offered in calls:
-        if name == 'step':
-            number, packet = ref.step(STAGE, shape.extents, shape.wrap, packet, offered)
-            answers.append('%d' % number)
-        else:
+        if name == 'walk':
             walked = ref.walk(STAGE, shape.extents, shape.wrap, packet, offered)
             packet = walked.packet
             answers.append('%d+%s' % (walked.hops, walked.ending))
-    assert ref.run_of(STAGE, shape, source, legs, calls).place == packet.node
+        else:
+            call = ref.step if name == 'step' else ref.take_back
+            number, packet = call(STAGE, shape.extents, shape.wrap, packet, offered)
+            answers.append('%d' % number)
+    assert any(name == 'back' for name, _ in calls) or ref.run_of(STAGE, shape, source, legs, calls).place == packet.node
     return {'legs': vectors.legs_text(legs), 'answers': ','.join(answers) or '-', 'packet': vectors.packet_text(packet)}
 
 
@@ -171,8 +178,9 @@ def sheetrun(plan, source, destination, calls):
     return {'number': 0, 'size': size, 'entry': vectors.hex_text(routes[start:end]), **run_fields(shape, int(source), legs, calls_in(calls))}
 
 
-OPERATIONS = {call.__name__: call for call in (step, walk, plan, planback, planwrite, weights, dead, masks, pair, sheet, listing, lookup, back, convert, lost,
-                                               run, sheetrun)}
+OPERATIONS = {call.__name__: call for call in (step, walk, takeback, plan, planback, planwrite, weights, dead, masks, pair, sheet, listing, lookup, back,
+                                               convert, lost, run, sheetrun)}
+OPERATIONS['runback'] = run    # some of its calls are 'back'
 
 
 def numbers_text(numbers):

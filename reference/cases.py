@@ -13,6 +13,7 @@ import sys
 
 sys.dont_write_bytecode = True
 import answers
+import backs
 import conversions
 import reference as ref
 import ties
@@ -24,7 +25,7 @@ from lines import W, declined_plans, line, of_version, plan_of, plan_write, rout
 
 SEED = '1'
 VECTORS = {'step': 400, 'walk': 400, 'plan': 500, 'planback': 300, 'pair': 500, 'sheet': 200, 'lookup': 350, 'back': 200, 'convert': 150, 'run': 300,
-           'sheetrun': 250, 'listing': 150}
+           'sheetrun': 250, 'listing': 150, 'takeback': 500, 'runback': 250}
 PLANS = 80                     # plan sheets for dead, masks, weights and planwrite
 LARGE = 36                     # machines of more nodes than the vectors plan on
 LINE_BYTES = 131072            # conform's line buffer
@@ -44,6 +45,7 @@ def worked():
     yield from worked_pairs()
     yield from worked_rows()
     yield from worked_conversions()
+    yield from worked_backs()
     yield line('listing', input=ref.two(0) + W), 'text=' + vectors.listing_text('0 16 1\n' + W_LISTING.replace(' / ', '\n') + '\n')
     for room, answer in ((63, 'number=0 size=63 out=' + W_ROUTES.hex()), (62, 'number=12 size=0 out=' + 62 * 'ee'),
                          (66, 'number=0 size=63 out=' + W_ROUTES.hex() + 'eeeeee'), (0, 'number=12 size=0 out=-')):
@@ -113,14 +115,38 @@ def worked_conversions():
     yield line('lost', plan=ring, sheet=routes), 'number=17 entry=0'
 
 
+def worked_backs():
+    """Hops taken back on W's route from 0 to 1, which goes minus by 3 and 2; past a packet's source; on half a ring from an even and an odd place."""
+    def of(shape, legs, *cases):
+        for packet, direction, number, before in cases:
+            before = '%s;%s' % (before or packet, legs)
+            yield line('takeback', **shape, packet='%s;%s' % (packet, legs), direction=direction), 'number=%d packet=%s' % (number, before)
+
+    square, ring, row = ({'extents': extents, 'wrap': wrap} for extents, wrap in (('4,4,1', 3), ('4,1,1', 1), ('5,1,1', 0)))
+    yield from of(square, '3:A,2:A,1:A', ('0;3;1', 1, 0, '0;0;0'), ('0;2;2', 1, 0, '0;3;1'), ('0;1;3', 1, 0, '0;2;2'), ('0;0;0', 1, 18, None), ('0;3;0', 1, 18, None),
+                  ('0;3;1', 0, 18, None), ('0;3;1', 6, 18, None), ('0;3;1', 255, 18, None), ('0;1;2', 1, 18, None), ('0;1;4', 1, 14, None), ('16;3;1', 1, 14, None))
+    yield from of(square, '3:A,3:D,2:A', ('0;3;2', 1, 0, '0;0;0'), ('0;3;1', 1, 18, None), ('0;2;3', 1, 0, '0;3;2'))
+    yield from of(square, '0:A,1:A', ('0;1;2', 0, 0, '0;0;1'), ('0;0;1', 0, 18, None))
+    yield from of(row, '1:A,4:A', ('2;2;1', 0, 0, '2;1;1'), ('2;3;1', 0, 0, '2;2;1'), ('2;2;0', 0, 18, None), ('2;1;1', 1, 0, '2;2;0'))
+    yield from of(ring, '2:D', ('0;1;0', 0, 0, '0;0;0'), ('0;2;1', 0, 0, '0;1;0'), ('0;3;0', 1, 18, None), ('0;2;1', 1, 18, None))
+    yield from of(ring, '3:D', ('1;0;0', 1, 0, '1;1;0'), ('1;3;1', 1, 0, '1;0;0'), ('1;2;0', 0, 18, None), ('1;3;1', 0, 18, None))
+    yield from of(ring, '2:A', ('0;1;0', 0, 0, '0;0;0'), ('0;3;0', 1, 0, '0;0;0'), ('0;2;1', 0, 0, '0;1;0'), ('0;2;1', 1, 0, '0;3;0'))
+    for destination, calls, answer in ((1, 's01,b01,w010101,b01,b01,b01,b01', 'legs=3:A,2:A,1:A answers=0,0,3+arrived,0,0,0,18 packet=0;0;0;3:A,2:A,1:A'),
+                                       (0, 'b00', 'legs=0:A answers=18 packet=0;0;1;0:A'), (16, 'b00', 'number=9')):
+        yield line('runback', plan=W, source=0, destination=destination, calls=calls), answer
+
+
 # ---- What the vectors lack: lines, answered by the reference
 
 def many_legs():
     """More legs than a packet can hold, where the shape is refused too and where it is not."""
     for legs in '2:A,3:D,4:A,5:A', '1:A,3:D,1:A,65535:D', '1:A,1:A,1:A,1:A':
         for extents, wrap in ('3,3,3', 0), ('3,3,3', 8), ('0,3,3', 0):
-            yield line('step', extents=extents, wrap=wrap, packet='1;' + legs, direction=0)
-            yield line('walk', extents=extents, wrap=wrap, packet='1;' + legs, run='00')
+            for mark in 0, 4, 5:
+                packet = '1;1;%d;%s' % (mark, legs)
+                yield line('step', extents=extents, wrap=wrap, packet=packet, direction=0)
+                yield line('walk', extents=extents, wrap=wrap, packet=packet, run='00')
+                yield line('takeback', extents=extents, wrap=wrap, packet=packet, direction=0)
 
 
 def plan_cases():
@@ -260,17 +286,20 @@ def large_sheets():
     yield line('listing', input=ref.two(1000) + plan_of([16, 9, 8], 0, (999, 0)))
 
 
-LACKING = (many_legs, links, plan_cases, refusals, alike, just_outside, large_pairs, large_sheets) + weighed.LACKING + ties.LACKING + conversions.LACKING + vias.LACKING
+LACKING = ((many_legs, links, plan_cases, refusals, alike, just_outside, large_pairs, large_sheets) + weighed.LACKING + ties.LACKING + conversions.LACKING + vias.LACKING
+           + backs.LACKING)
 
 
 # ---- Lines that no call can be made of
 
 def unreadable():
-    shape, packet, way, run = 'extents=3,3,3 wrap=0', 'packet=0;7:A', 'direction=0', 'run=00'
+    shape, packet, way, run = 'extents=3,3,3 wrap=0', 'packet=0;0;0;7:A', 'direction=0', 'run=00'
     yield ''
     yield ' '
     yield 'step'
     yield 'walk'
+    yield 'takeback'
+    yield 'takeBack %s %s %s' % (shape, packet, way)
     yield 'jump %s %s %s' % (shape, packet, way)
     yield 'Step %s %s %s' % (shape, packet, way)
     yield 'steps %s %s %s' % (shape, packet, way)
@@ -279,19 +308,32 @@ def unreadable():
     for lacking in ('wrap=0 %s %s' % (packet, way), 'extents=3,3,3 %s %s' % (packet, way), '%s %s' % (shape, way),
                     '%s %s' % (shape, packet), '%s %s %s' % (shape, packet, run)):
         yield 'step ' + lacking
+        yield 'takeback ' + lacking
     yield 'walk %s %s %s' % (shape, packet, way)
     for extents in ('', '3', '3,3', '3,3,3,3', '3,3,3,', ',3,3', '3,,3', '3,3,256', '3;3;3', 'a,3,3', '-1,3,3'):
         yield 'step extents=%s wrap=0 %s %s' % (extents, packet, way)
     for wrap in ('', '256', 'x', '1x', '+1', '-1', '7,', '18446744073709551616', '1' * 60):
         yield 'step extents=3,3,3 wrap=%s %s %s' % (wrap, packet, way)
-    for text in ('', '0', ';', ';7:A', '0,7:A', '65536;', 'x;', '0;7', '0;7:', '0;7:B', '0;7:a', '0;7:AA', '0;:A', '0;7:A,',
-                 '0;,7:A', '0;7:A,,3:D', '0;7:A;3:D', '0;65536:A', '0;7:A,3:D,5:A,9:x', '0;7:A,3:D,5:A,65536:D'):
+    for text in bad_packets():
         yield 'step %s packet=%s %s' % (shape, text, way)
         yield 'walk %s packet=%s %s' % (shape, text, run)
+        yield 'takeback %s packet=%s %s' % (shape, text, way)
     for direction in ('', '256', '-1', '0x1', '00a'):
         yield 'step %s %s direction=%s' % (shape, packet, direction)
+        yield 'takeback %s %s direction=%s' % (shape, packet, direction)
     for bad in ('', '0', '000', '0g', 'g0', '0G', '0A', '--', '-00', '00-', '0 0'):
         yield 'walk %s %s run=%s' % (shape, packet, bad)
+
+
+def bad_packets():
+    yield from ('', '0', ';', ';;;', '0;7:A', '0;0;7:A', '0;0;0', '0;0;0,7:A', '0,0,0;7:A', '0;0;0;0;7:A', ';0;0;7:A', '0;;0;7:A', '0;0;;7:A')
+    for bad in '65536', '-1', 'x', '0:A':
+        yield bad + ';0;0;7:A'
+        yield '0;%s;0;7:A' % bad
+        yield '0;0;%s;7:A' % bad
+    yield '0;0;256;7:A'
+    for legs in ('7', '7:', '7:B', '7:a', '7:AA', ':A', '7:A,', ',7:A', '7:A,,3:D', '7:A;3:D', '65536:A', '7:A,3:D,5:A,9:x', '7:A,3:D,5:A,65536:D'):
+        yield '0;0;0;' + legs
 
 
 def unreadable_plans():
@@ -321,12 +363,12 @@ def unreadable_plans():
 def unreadable_planning():
     plan, routes = 'plan=' + W.hex(), 'sheet=' + W_ROUTES.hex()
     ends = 'source=0 destination=1'
-    for operation in 'pair', 'sheet', 'run', 'sheetrun', 'lookup', 'back', 'convert', 'lost':
+    for operation in 'pair', 'sheet', 'run', 'runback', 'sheetrun', 'lookup', 'back', 'convert', 'lost':
         yield operation
         yield '%s %s' % (operation, plan)
         yield '%s plan=0 %s %s room=50 calls=-' % (operation, ends, routes)
     for bad in 'source=0', 'destination=1', 'source=65536 destination=0', 'source=0 destination=', 'source=-1 destination=0':
-        for operation in 'pair', 'run', 'sheetrun':
+        for operation in 'pair', 'run', 'runback', 'sheetrun':
             yield '%s %s %s calls=-' % (operation, plan, bad)
     for bad in 'source=0', 'source=0 room=', 'source=0 room=28737', 'source=x room=50', 'room=50':
         yield 'sheet %s %s' % (plan, bad)
@@ -341,9 +383,12 @@ def unreadable_planning():
     for operation in 'convert', 'lost':
         yield '%s %s room=50' % (operation, routes)
     for calls in '', 's', 's0', 's0000', 's0g', 'w0', 'x00', '00', ',', 's02,', ',s02', 's02,,s00', 's02;s00', 'S02', 's02,w00,x', 'w' + 257 * '00':
-        for operation in 'run', 'sheetrun':
+        for operation in 'run', 'runback', 'sheetrun':
             yield '%s %s %s calls=%s' % (operation, plan, ends, calls)
-    yield 'run %s %s' % (plan, ends)
+    for calls in 'b', 'b0', 'b001', 'b0101', 'b0g', 'b-', 'B01', '-b01', 'b01,', ',b01', 's01,,b01', 's01;b01', 's01b01', 's01,b01,b', 'w01,b':
+        yield 'runback %s %s calls=%s' % (plan, ends, calls)
+    for operation in 'run', 'runback':
+        yield '%s %s %s' % (operation, plan, ends)
     for bad in '', 'input=', 'input=0', 'input=' + 1027 * '00':
         yield 'listing ' + bad
 
@@ -351,12 +396,12 @@ def unreadable_planning():
 def long():
     """(line, answer): a line fits the buffer together with its newline."""
     def padded(size):
-        start = 'walk extents=4,4,4 wrap=7 packet=0;63:A run='
+        start = 'walk extents=4,4,4 wrap=7 packet=0;0;0;63:A run='
         return start + '0' * (size - len(start))
     yield answered(padded(LINE_BYTES - 2))
     for size in LINE_BYTES - 1, LINE_BYTES, LINE_BYTES + 1, 3 * LINE_BYTES:
         yield padded(size), 'unreadable'
-        yield answered('step extents=3,3,3 wrap=7 packet=0;13:A direction=4')
+        yield answered('step extents=3,3,3 wrap=7 packet=0;0;0;13:A direction=4')
     yield padded(2 * LINE_BYTES), 'unreadable'
     cube = plan_of([16, 16, 16], 7)
     for version in 2, 3:
@@ -405,10 +450,10 @@ def cases():
 
 def loose():
     """Lines with their answer behind them, with fields in another order, and with a field that no operation has."""
-    case, answer = answered('step extents=3,3,3 wrap=7 packet=0;13:A direction=4')
+    case, answer = answered('step extents=3,3,3 wrap=7 packet=0;0;0;13:A direction=4')
     yield case + ' => number=99 packet=', answer
     yield 'jump a=b => c=d', 'unreadable'
-    yield 'step direction=4 packet=0;13:A wrap=7 note=none extents=3,3,3', answer
+    yield 'step direction=4 packet=0;0;0;13:A wrap=7 note=none extents=3,3,3', answer
 
 
 def texts(lines):

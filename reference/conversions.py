@@ -10,7 +10,7 @@ import ties
 import vectors
 import weighed
 from answers import STAGE
-from lines import W, declined_plans, first_way, line, of_version, plan_of, room_for, routes_of, runs_on, sheet_from
+from lines import W, declined_plans, first_way, line, of_version, plan_of, room_for, routes_of, runs_on, sheet_from, walk
 
 SEED = '1'
 OLD = ref.E1                   # the last stage with the old rule and with version 1 route sheets
@@ -460,12 +460,11 @@ def ways_along(rng, plan, source, routed):
 
 
 def walk_as_before(shape, source, legs):
-    """The old rule's way; both rules answer it alike."""
-    packet = ref.new_packet(OLD, source, legs)
-    way = first_way(shape, packet, OLD)
+    """The old rule's way, which the rule in force has too."""
+    packet = ref.new_packet(STAGE, source, legs)
+    way = first_way(shape, ref.new_packet(OLD, source, legs), OLD)
     assert way == first_way(shape, packet)
-    assert ref.walk(OLD, shape.extents, shape.wrap, packet, way) == ref.walk(STAGE, shape.extents, shape.wrap, packet, way)
-    return ties.walk(shape, packet, way)
+    return walk(shape, packet, way)
 
 
 def walked_halves():

@@ -1,4 +1,4 @@
-"""Cases as lines, the sheets that they hand over, and whole ways."""
+"""Cases as lines, the sheets and packets that they hand over, and whole ways."""
 import answers
 import reference as ref
 import vectors
@@ -10,6 +10,27 @@ W = bytes.fromhex('010009040401030001000000')          # document 01's machine
 def line(operation, **fields):
     """Bytes as hexadecimal digits."""
     return '%s %s' % (operation, answers.text({key: vectors.hex_text(value) if isinstance(value, bytes) else value for key, value in fields.items()}))
+
+
+def at_source(node, *legs, mark=0):
+    """A packet that stands at its source; the mark may be on a leg that is empty."""
+    return ref.MarkedPacket(node, node, legs, mark)
+
+
+def on_packet(operation, shape, packet, **fields):
+    return line(operation, extents=answers.numbers_text(shape.extents), wrap=shape.wrap, packet=vectors.packet_text(packet), **fields)
+
+
+def step(shape, packet, direction):
+    return on_packet('step', shape, packet, direction=direction)
+
+
+def take_back(shape, packet, direction):
+    return on_packet('takeback', shape, packet, direction=direction)
+
+
+def walk(shape, packet, way):
+    return on_packet('walk', shape, packet, run=bytes(way))
 
 
 def plan_of(extents, wrap, *faults, weights=None):

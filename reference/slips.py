@@ -7,6 +7,7 @@ whose names have them.
 """
 import os
 import random
+import signal
 import sys
 import types
 
@@ -14,12 +15,17 @@ sys.dont_write_bytecode = True
 HERE = os.path.dirname(os.path.abspath(__file__))
 STORED = os.path.join(HERE, '..', 'crates', 'conform', 'stdout')
 SLOW = 'sheet', 'listing', 'sheetrun'
-TRIED_FIRST = {'conversions': 'convert', 'lost': 'lost', 'sheets': 'sheet', 'listing': 'listing', 'writing back': 'back', 'entries': 'back'}         # by what a slip's name begins with
+TRIED_FIRST = {'packets': 'step', 'taking back': 'takeback', 'conversions': 'convert', 'lost': 'lost', 'sheets': 'sheet', 'listing': 'listing', 'writing back': 'back',
+               'entries': 'back'}                      # by what a slip's name begins with
+SECONDS = 60                   # a case that takes longer, since a search does not end, is noticed
 
 SHAPE_CHECK = '    number = check_shape(extents, wrap)\n    return number or check_packet(stage, shape_of(extents, wrap), packet)'
 NAMED = '    named = [packet.node] + [target for target, _ in packet.legs]'
+NEW = '    while mark < len(legs) and legs[mark][0] == source:'
+MARK = '        if packet.mark > len(packet.legs):'
+SOURCE_NAMED = '        named.append(packet.source)\n'
 OUTSIDE = '    return 14 if any(node >= shape.nodes for node in named) else 0'
-DROP = '        while packet.legs and packet.legs[0][0] == packet.node:\n            packet = packet._replace(legs=packet.legs[1:])'
+DROP = '        while packet.mark < len(packet.legs) and packet.legs[packet.mark][0] == packet.node:\n            packet = packet._replace(mark=packet.mark + 1)'
 HOPPED = '        packet = hop(shape, packet, run[hops])\n        hops += 1'
 ARRIVED = "        if front(drop(packet)) is None:\n            return Walked(0, packet, hops, 'arrived')\n"
 HALF = '            if len(useful) == 2:                       # exactly half a ring\n'
@@ -62,6 +68,21 @@ KIND = "sum(1 << i for i, mode in enumerate(modes) if mode == 'D')"
 MODES = "'D' if kind % 16 >> i & 1 else 'A'"
 NO_KIND = '    if vias > 2 or bits >= 2 ** (vias + 1) or kind == 0:'
 LEGS = 'def most_legs(stage):\n    return 3 if'
+TAKES_BACK = '    assert stage >= E6\n'
+SEARCHES = '    new = new_packet(stage, packet.source, packet.legs)\n'
+REACHES = 'directions(stage, shape, earlier):'
+MEETS = 'later == packet and d == direction'
+REFUSES = '        return 18, packet\n'
+GRANTS = '    return 0, before[0]'
+BEGINS = 'start, (target, mode), there = begins[at], legs[at]'
+BACK = 'shape.neighbour(node, direction ^ 1)'
+USEFUL = 'direction not in shape.useful(there, target)'
+NEARER = 'shape.hops(there, target) != shape.hops(node, target) + 1'
+FINISHED = 'mark < len(legs) and legs[mark][0] == node'
+LATER = 'p[dim + 1:] != a[dim + 1:]'
+EARLIER = 'p[:dim] != t[:dim]'
+TURN = 'turn = shape.number(*t[:dim], *a[dim:])'
+SIDE = 'direction not in allowed(stage, shape, turn, (target, mode))'
 CONVERTS = '    """(number, bytes written): 1 to 8, 13, 17, 12.  Version 1 in, version 2 out."""\n'
 CONVERTED = '    read = read_route_sheet(plan.shape, sheet, [1])\n    if read is None:\n        return 13, 0\n'
 JUDGED = '    if not all(kept(plan.shape, read.source, entry) for entry in read.entries):\n        return 17, 0\n'
@@ -79,6 +100,49 @@ def read_first(text):
     return CONVERTED.replace('sheet, [1]', text + ', [1]')
 
 
+# Taking back worked out from the ends of the legs, without a search: the same answers.
+BY_LEGS = """
+    legs, mark, node = packet.legs, packet.mark, packet.node
+    begins = [packet.source] + [target for target, _ in legs]
+    if direction > 5:
+        return 18, packet
+    if mark < len(legs) and legs[mark][0] == node:
+        return 18, packet
+    if node == begins[mark]:
+        travelled = [leg for leg in range(mark) if begins[leg] != begins[leg + 1]]
+        if not travelled:
+            return 18, packet
+        at = travelled[-1]
+    elif mark == len(legs):
+        return 18, packet
+    else:
+        at = mark
+    start, (target, mode), there = begins[at], legs[at], shape.neighbour(node, direction ^ 1)
+    if there is None or direction not in shape.useful(there, target):
+        return 18, packet
+    dim = direction // 2
+    a, p, t = shape.coords(start), shape.coords(there), shape.coords(target)
+    turn = shape.number(*t[:dim], *a[dim:])
+    if mode == 'A' and shape.hops(start, there) + shape.hops(there, target) != shape.hops(start, target):
+        return 18, packet
+    if mode == 'D' and p[:dim] != t[:dim]:
+        return 18, packet
+    if mode == 'D' and p[dim + 1:] != a[dim + 1:]:
+        return 18, packet
+    if mode == 'D' and shape.hops_in(dim, a[dim], p[dim]) + shape.hops_in(dim, p[dim], t[dim]) != shape.hops_in(dim, a[dim], t[dim]):
+        return 18, packet
+    if mode == 'D' and direction not in allowed(stage, shape, turn, (target, mode)):
+        return 18, packet
+    return 0, packet._replace(node=there, mark=at)
+"""
+
+
+def by_legs(old, new):
+    """Taking back worked out from the legs, with a slip in it."""
+    assert old in BY_LEGS, old
+    return BY_LEGS.replace(old, new) + SEARCHES
+
+
 # What is wrong, the text of reference.py or answers.py, and what stands there instead.
 SLIPS = [
     ('packets: a walk is cut at 12 hops', HOPPED, HOPPED + "\n        if hops == 12:\n            return Walked(0, packet, hops, 'used-up')"),
@@ -87,11 +151,12 @@ SLIPS = [
     ('packets: extents above 15 are 5', SHAPE_CHECK, '    if max(extents) > 15:\n        return 5\n' + SHAPE_CHECK),
     ('packets: the wrap is not checked', SHAPE_CHECK, SHAPE_CHECK.replace('number or', '(0 if number == 6 else number) or')),
     ('packets: 14 before 5 and 6', SHAPE_CHECK, '    return check_packet(stage, Shape(extents, wrap), packet) or check_shape(extents, wrap)'),
-    ('packets: legs are counted after drops', 'len(packet.legs) > most_legs', 'len(drop(packet).legs) > most_legs'),
+    ('packets: the legs left alone are counted', 'len(packet.legs) > most_legs', 'len(packet.legs) - packet.mark > most_legs'),
+    ('packets: legs are counted after drops', 'len(packet.legs) > most_legs', 'len(packet.legs) - drop(packet).mark > most_legs'),
     ('packets: four legs are accepted', LEGS, LEGS.replace('3', '4')),
     ('packets: three legs are 14', LEGS, LEGS.replace('3', '2')),
     ('packets: of three legs the middle target is not checked', NAMED, NAMED.replace('packet.legs]', '(packet.legs[:1] + packet.legs[2:] if len(packet.legs) == 3 else packet.legs)]')),
-    ('packets: two legs alone are dropped', DROP, '        for _ in range(2):\n            if packet.legs and packet.legs[0][0] == packet.node:\n                packet = packet._replace(legs=packet.legs[1:])'),
+    ('packets: two legs alone are dropped', DROP, DROP.replace('while ', 'for _ in range(2):\n            if ').replace('    packet =', '        packet =')),
     ('packets: a walk is cut at 90 hops', HOPPED, HOPPED + "\n        if hops == 90:\n            return Walked(0, packet, hops, 'used-up')"),
     ('packets: the front target alone is checked', NAMED, NAMED.replace('packet.legs]', 'packet.legs[:1]]')),
     ('packets: the last target is not checked', NAMED, NAMED.replace('packet.legs]', 'packet.legs[:-1]]')),
@@ -99,13 +164,112 @@ SLIPS = [
     ('packets: a node just outside is accepted', OUTSIDE, OUTSIDE.replace('>=', '>')),
     ('packets: nodes below 4,096 are accepted', OUTSIDE, OUTSIDE.replace('shape.nodes', '4096')),
     ('packets: one leg alone is dropped', DROP, DROP.replace('while', 'if')),
-    ('packets: later legs are dropped too', DROP, '        packet = packet._replace(legs=tuple(leg for leg in packet.legs if leg[0] != packet.node))'),
+    ('packets: later legs are dropped too', DROP, '        packet = packet._replace(mark=max([packet.mark] + [i + 1 for i, leg in enumerate(packet.legs) if leg[0] == packet.node]))'),
+    ('packets: travelled legs are travelled again', DROP, DROP + '\n        packet = packet._replace(mark=next((i for i, leg in enumerate(packet.legs) if leg[0] != packet.node), packet.mark))'),
     ('packets: a refused step stores drops', '        return 15, packet\n', '        return 15, drop(packet)\n'),
     ('packets: a walk of no hops stores drops', '    hops = 0\n    while True:', '    hops = 0\n    packet = drop(packet)\n    while True:'),
     ('packets: a hop drops late', '    return drop(packet._replace(node=', '    return (packet._replace(node='),
     ('packets: bytes past the arrival are judged', ARRIVED, ARRIVED.replace(' is None:', ' is None and hops == len(run):')),
     ('packets: used up before arrived', ARRIVED, "        if hops == len(run):\n            return Walked(0, packet, hops, 'used-up')\n" + ARRIVED),
-    ('packets: a new packet has its drops stored', '        return Packet(source, legs)', '        return drop(Packet(source, legs))'),
+    ('packets: a new packet has its mark on leg one', NEW, '    while False:'),
+    ('packets: a new packet passes one empty leg alone', NEW, NEW.replace('while', 'if')),
+    ('packets: a new packet passes legs to its source anywhere', NEW, '    mark = max([i + 1 for i, leg in enumerate(legs) if leg[0] == source], default=0)\n    while False:'),
+    ('packets: a new packet to itself has its mark on its leg', NEW, NEW.replace('while', 'while len(legs) > 1 and')),
+    ('packets: a mark one too far is accepted', MARK, MARK.replace('legs):', 'legs) + 1:')),
+    ('packets: a mark of 255 is accepted', MARK, MARK.replace('if ', 'if packet.mark < 255 and ')),
+    ('packets: the mark is not checked', MARK, '        if False:'),
+    ('packets: a mark past the last leg is 14', MARK, MARK.replace('>', '>=')),
+    ('packets: a mark past the last leg is 14 but at its target', MARK, MARK.replace('>', '>= (packet.node == packet.legs[-1][0] if packet.legs else 1) +')),
+    ('packets: a mark is judged by three legs', MARK, MARK.replace('len(packet.legs)', '3')),
+    ('packets: the source is not checked', SOURCE_NAMED, '        pass\n'),
+    ('packets: the source just outside is accepted', SOURCE_NAMED, SOURCE_NAMED.replace('packet.source', 'max(0, packet.source - 1)')),
+    ('packets: the source is checked in one byte', SOURCE_NAMED, SOURCE_NAMED.replace('packet.source', 'packet.source % 256')),
+    ('packets: travelled targets are not checked', NAMED, NAMED.replace('packet.legs]', 'packet.legs[packet.mark:]]')),
+    ('packets: travelled targets alone are checked', NAMED, NAMED.replace('packet.legs]', 'packet.legs[:packet.mark]]')),
+    ('packets: the leg just travelled alone is checked', NAMED, NAMED.replace('packet.legs]', 'packet.legs[max(0, packet.mark - 1):]]')),
+    ('taking back: drops before the packet is judged', MEETS, MEETS.replace('== packet', '== drop(packet)')),
+    ('taking back: a refusal stores drops', REFUSES, REFUSES.replace('packet', 'drop(packet)')),
+    ('taking back: a mark one too far is past the last leg', TAKES_BACK, TAKES_BACK + '    packet = packet._replace(mark=min(packet.mark, len(packet.legs)))\n'),
+    ('taking back: 18 before 14', TAKES_BACK, TAKES_BACK + '    if not check_shape(extents, wrap) and direction > 5:\n        return 18, packet\n'),
+    ('taking back: 18 before 5', TAKES_BACK, TAKES_BACK + '    if direction > 5:\n        return 18, packet\n'),
+    ('taking back: a direction above 5 is 15', SEARCHES, '    if direction > 5:\n        return 15, packet\n' + SEARCHES),
+    ('taking back: 6 is 0', SEARCHES, '    direction %= 6\n' + SEARCHES),
+    ('taking back: a direction\'s lowest three bits', SEARCHES, '    direction %= 8\n' + SEARCHES),
+    ('taking back: a direction\'s lowest seven bits', SEARCHES, '    direction %= 128\n' + SEARCHES),
+    ('taking back: the opposite direction', SEARCHES, '    direction ^= 1\n' + SEARCHES),
+    ('taking back: no hop taken back is 15', REFUSES, REFUSES.replace('18', '15')),
+    ('taking back: an arrived packet is 18', SEARCHES, '    if packet.mark == len(packet.legs):\n        return 18, packet\n' + SEARCHES),
+    ('taking back: an arrived packet is 15', SEARCHES, '    if packet.mark == len(packet.legs):\n        return 15, packet\n' + SEARCHES),
+    ('taking back: a packet at its source is 18', SEARCHES, '    if packet.node == packet.source:\n        return 18, packet\n' + SEARCHES),
+    ('taking back: the source is not reached', GRANTS, '    return (18, packet) if before[0].node == packet.source else (0, before[0])'),
+    ('taking back: the new packet alone is not reached', GRANTS, '    return (18, packet) if before[0] == new else (0, before[0])'),
+    ('taking back: a new packet stays as it is', REFUSES, '        return (0 if packet == new else 18), packet\n'),
+    ('taking back: from the first leg on, also where it is empty', SEARCHES, SEARCHES + '    new = new._replace(mark=0)\n'),
+    ('taking back: from the packet that is lent', SEARCHES, '    new = packet._replace(node=packet.source, mark=0)\n'),
+    ('taking back: as adaptive', REACHES, "([] if front(earlier) is None else shape.useful(earlier.node, front(earlier)[0])):"),
+    ('taking back: by the rule of plus', REACHES, REACHES.replace('stage', 'E1')),
+    ('taking back: any packet that steps here', SEARCHES, '    for mark in range(packet.mark + 1):\n        there = shape.neighbour(packet.node, direction ^ 1) if direction < 6 else None\n'
+     '        earlier = packet._replace(node=there, mark=mark)\n'
+     '        if there is not None and drop(earlier) == earlier and step(stage, extents, wrap, earlier, direction) == (0, packet):\n            return 0, earlier\n    return 18, packet\n' + SEARCHES),
+    ('taking back: the source is forgotten', GRANTS, GRANTS + '._replace(source=before[0].node)'),
+    ('taking back: travelled legs are forgotten', GRANTS, GRANTS + '._replace(legs=packet.legs[before[0].mark:], mark=0)'),
+    ('taking back: later legs are forgotten', GRANTS, GRANTS + '._replace(legs=packet.legs[:before[0].mark + 1])'),
+    ('taking back: the leg\'s mode becomes adaptive', GRANTS, GRANTS + "._replace(legs=tuple((leg[0], 'A') if i == before[0].mark else leg for i, leg in enumerate(packet.legs)))"),
+    ('taking back: the mark stays', SEARCHES, by_legs('mark=at', 'mark=mark')),
+    ('taking back: the mark goes one leg back', SEARCHES, by_legs('mark=at', 'mark=max(0, mark - 1)')),
+    ('taking back: the mark goes back over one leg alone', SEARCHES, by_legs('travelled[-1]', 'mark - 1')),
+    ('taking back: the mark goes back over two legs alone', SEARCHES, by_legs('mark=at', 'mark=max(at, mark - 2)')),
+    ('taking back: the first leg that is not empty', SEARCHES, by_legs('travelled[-1]', 'travelled[0]')),
+    ('taking back: empty legs are taken for travelled', SEARCHES, by_legs('if begins[leg] != begins[leg + 1]', '')),
+    ('taking back: the leg of the mark alone', SEARCHES, by_legs('    if node == begins[mark]:\n', '    if node == begins[mark] and (mark < len(legs) or mark > 1):\n        return 18, packet\n    if node == begins[mark]:\n')),
+    ('taking back: just past a leg is 18 before the last', SEARCHES, by_legs('if not travelled', 'if not travelled or mark < len(legs)')),
+    ('taking back: a finished leg is under way', SEARCHES, by_legs(FINISHED, 'False')),
+    ('taking back: a finished leg is 18 in front alone', SEARCHES, by_legs(FINISHED, FINISHED + ' and mark == 0')),
+    ('taking back: a finished last leg alone is 18', SEARCHES, by_legs(FINISHED, FINISHED + ' and mark == len(legs) - 1')),
+    ('taking back: a later leg to the present node is 18', SEARCHES, by_legs('legs[mark][0] == node', 'node in [target for target, _ in legs[mark:]]')),
+    ('taking back: the mark past the last leg is the last leg\'s', SEARCHES, by_legs('    elif mark == len(legs):\n', '    elif mark == len(legs) > 0:\n        at = mark - 1\n    elif mark == len(legs):\n')),
+    ('taking back: the mark past the last leg at any node', SEARCHES, by_legs('if node == begins[mark]', 'if node == begins[mark] or mark == len(legs)')),
+    ('taking back: a leg begins at the source', SEARCHES, by_legs(BEGINS, BEGINS.replace('begins[at]', 'packet.source'))),
+    ('taking back: the third leg begins at the first target', SEARCHES, by_legs(BEGINS, BEGINS.replace('begins[at]', 'begins[min(at, 1)]'))),
+    ('taking back: a leg begins where the one before it does', SEARCHES, by_legs(BEGINS, BEGINS.replace('begins[at]', 'begins[max(0, at - 1)]'))),
+    ('taking back: a leg begins where the mark\'s does', SEARCHES, by_legs(BEGINS, BEGINS.replace('begins[at]', 'begins[mark]'))),
+    ('taking back: by the mode of the mark\'s leg', SEARCHES, by_legs(BEGINS, BEGINS.replace('legs[at]', '(legs[at][0], legs[min(mark, len(legs) - 1)][1])'))),
+    ('taking back: by the mode of the first leg', SEARCHES, by_legs(BEGINS, BEGINS.replace('legs[at]', '(legs[at][0], legs[0][1])'))),
+    ('taking back: the hop need not be useful', SEARCHES, by_legs(USEFUL, 'False')),
+    ('taking back: the hop that brings it here', SEARCHES, by_legs(BACK, BACK.replace(' ^ 1', ''))),
+    ('taking back: an adaptive leg passes everywhere', SEARCHES, by_legs("    if mode == 'A' and ", '    if False and ')),
+    ('taking back: an adaptive leg goes one hop round', SEARCHES, by_legs('!= shape.hops(start, target)', '> shape.hops(start, target) + 1')),
+    ('taking back: a deterministic leg goes by the distance alone', SEARCHES, by_legs("mode == 'A' and", 'True and').replace("if mode == 'D'", 'if False')),
+    ('taking back: an adaptive leg goes as a deterministic one', SEARCHES, by_legs("mode == 'D' and", 'True and')),
+    ('taking back: earlier dimensions need not be travelled', SEARCHES, by_legs(EARLIER, 'False')),
+    ('taking back: X need not be travelled before Z', SEARCHES, by_legs(EARLIER, EARLIER + ' and (dim < 2 or p[1] != t[1])')),
+    ('taking back: Y need not be travelled before Z', SEARCHES, by_legs(EARLIER, EARLIER + ' and p[0] != t[0]')),
+    ('taking back: later dimensions may be travelled', SEARCHES, by_legs(LATER, 'False')),
+    ('taking back: Z may be travelled before X', SEARCHES, by_legs(LATER, LATER + ' and (dim > 0 or p[1] != a[1])')),
+    ('taking back: Y may be travelled before X', SEARCHES, by_legs(LATER, LATER + ' and p[2] != a[2]')),
+    ('taking back: later dimensions are travelled', SEARCHES, by_legs(LATER, LATER.replace('a', 't'))),
+    ('taking back: a deterministic leg comes from anywhere in its row', SEARCHES, by_legs('shape.hops_in(dim, a[dim], p[dim]) + shape.hops_in(dim, p[dim], t[dim]) != shape.hops_in(dim, a[dim], t[dim])', 'False')),
+    ('taking back: the other side of half a ring', SEARCHES, by_legs(SIDE, 'False')),
+    ('taking back: the other side along X', SEARCHES, by_legs(SIDE, SIDE + ' and dim > 0')),
+    ('taking back: the other side along Y', SEARCHES, by_legs(SIDE, SIDE + ' and dim != 1')),
+    ('taking back: the other side along Z', SEARCHES, by_legs(SIDE, SIDE + ' and dim < 2')),
+    ('taking back: the other side from odd places', SEARCHES, by_legs(SIDE, SIDE + ' and a[dim] % 2 == 0')),
+    ('taking back: the other side from even places', SEARCHES, by_legs(SIDE, SIDE + ' and a[dim] % 2 == 1')),
+    ('taking back: the other side of rings of 4', SEARCHES, by_legs(SIDE, SIDE + ' and shape.extents[dim] > 4')),
+    ('taking back: the other side of rings of 16', SEARCHES, by_legs(SIDE, SIDE + ' and shape.extents[dim] < 16')),
+    ('taking back: half a ring by the place before the hop', SEARCHES, by_legs(SIDE, SIDE.replace('turn', 'there'))),
+    ('taking back: half a ring by the present place', SEARCHES, by_legs(TURN, 'turn = shape.number(*p[:dim], *shape.coords(node)[dim:])')),
+    ('taking back: half a ring by the source\'s place', SEARCHES, by_legs(TURN, TURN.replace('a[dim:]', 'shape.coords(packet.source)[dim:]'))),
+    ('taking back: half a ring by the leg\'s first hop', SEARCHES, by_legs(TURN, 'turn = start')),
+    ('taking back: half a ring by plus', SEARCHES, by_legs(SIDE, SIDE.replace('stage', 'E1'))),
+    ('taking back: open rows are closed', SEARCHES, by_legs(BACK, BACK.replace('shape', 'Shape(extents, 7)')).replace(USEFUL, NEARER)),
+    ('taking back: rows of 2 are closed', SEARCHES, by_legs(BACK, BACK.replace('shape', 'Shape(extents, wrap | sum(1 << d for d in range(3) if extents[d] == 2))')).replace(USEFUL, NEARER)),
+    ('taking back: rings do not close', SEARCHES, by_legs(BACK, BACK.replace('shape', 'Shape(extents, 0)'))),
+    ('taking back: the mark\'s leg begins, in one byte', SEARCHES, by_legs('node == begins[mark]', 'node % 256 == begins[mark] % 256')),
+    ('taking back: a leg is empty, in one byte', SEARCHES, by_legs('begins[leg] != begins[leg + 1]', 'begins[leg] % 256 != begins[leg + 1] % 256')),
+    ('taking back: a leg is finished, in one byte', SEARCHES, by_legs('legs[mark][0] == node', 'legs[mark][0] % 256 == node % 256')),
+    ('taking back: the node before in one byte', SEARCHES, by_legs('node=there', 'node=there % 256')),
+    ('taking back: one hop more', SEARCHES, by_legs('node=there', 'node=shape.neighbour(there, direction ^ 1) if shape.neighbour(there, direction ^ 1) is not None else there')),
     ('legs: Z before Y before X', '    for dim in range(3):\n        if here[dim] != there[dim]:', '    for dim in (2, 1, 0):\n        if here[dim] != there[dim]:'),
     ('legs: deterministic as adaptive', "    if mode == 'A':\n        return", '    if True:\n        return'),
     ('legs: adaptive as deterministic', "    if mode == 'A':\n        return", '    if False:\n        return'),
@@ -150,9 +314,9 @@ SLIPS = [
     ('ties: planning has plus on rings of 10', PLANNED, OTHER_SIDE % '{0} % 2 == 1 and plan.shape.extents[d // 2] == 10'.format(PLACE)),
     ('ties: planning has plus on rings of 16', PLANNED, OTHER_SIDE % '{0} % 2 == 1 and plan.shape.extents[d // 2] == 16'.format(PLACE)),
     ('ties: packets have plus, planning the rule', STEPPED, STEPPED.replace('stage', 'E1')),
-    ('ties: a packet\'s middle leg of three has plus', STEPPED, STEPPED.replace('stage', '(stage if len(drop(packet).legs) != 2 else E1)')),
-    ('ties: a packet\'s last leg has plus', STEPPED, STEPPED.replace('stage', '(stage if len(drop(packet).legs) > 1 else E1)')),
-    ('ties: a packet\'s first leg of two has plus', STEPPED, STEPPED.replace('stage', '(stage if len(drop(packet).legs) < 2 else E1)')),
+    ('ties: a packet\'s middle leg of three has plus', STEPPED, STEPPED.replace('stage', '(stage if drop(packet).mark != 1 else E1)')),
+    ('ties: a packet\'s last leg has plus', STEPPED, STEPPED.replace('stage', '(stage if len(packet.legs) - drop(packet).mark > 1 else E1)')),
+    ('ties: a packet\'s first leg of two has plus', STEPPED, STEPPED.replace('stage', '(stage if len(packet.legs) - drop(packet).mark < 2 else E1)')),
     ('plans: 8 bytes are enough', '    if len(sheet) < 9:', '    if len(sheet) < 8:'),
     ('plans: 2 before 1', '    if len(sheet) < 9:\n', '    if sheet and sheet[0] != 1:\n        return 2, None\n    if len(sheet) < 9:\n'),
     ('plans: version 0 is accepted', '    if version not in known:', '    if version and version not in known:'),
@@ -489,6 +653,7 @@ def in_turn(name, lines):
 def noticed(answers, lines):
     """How many cases were answered until one was answered otherwise; 0 where none was."""
     for i, (case, wanted) in enumerate(lines, 1):
+        signal.alarm(SECONDS)
         try:
             if answers.answer(case) != wanted:
                 return i
@@ -497,8 +662,14 @@ def noticed(answers, lines):
     return 0
 
 
+def too_long(*_):
+    raise TimeoutError
+
+
 def main():
     lines, missed = stored(), 0
+    signal.signal(signal.SIGALRM, too_long)
+    assert not noticed(answers_with(SEARCHES, BY_LEGS + SEARCHES), [line for line in lines if line[0].split(' ')[0] == 'takeback'])        # it is no slip
     words = ' '.join(sys.argv[1:])
     for name, old, new in SLIPS:
         if words in name:

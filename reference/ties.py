@@ -3,12 +3,11 @@ route sheets of every version."""
 import itertools
 import random
 
-import answers
 import reference as ref
 import vectors
 import weighed
 from answers import STAGE
-from lines import W, declined_plans, first_way, line, of_version, plan_of, room_for, routes_of, runs_on, sheet_from
+from lines import W, at_source, declined_plans, first_way, line, of_version, plan_of, room_for, routes_of, runs_on, sheet_from, step, walk
 
 SEED = '1'
 RINGS = 4, 6, 16
@@ -54,15 +53,7 @@ def half_away(shape, node, *dims):
 
 def one_leg(shape, node, mode, *dims):
     """A packet with half a ring before it along these dimensions."""
-    return ref.Packet(node, ((half_away(shape, node, *dims), mode),))
-
-
-def step(shape, packet, direction):
-    return line('step', extents=answers.numbers_text(shape.extents), wrap=shape.wrap, packet=vectors.packet_text(packet), direction=direction)
-
-
-def walk(shape, packet, way):
-    return line('walk', extents=answers.numbers_text(shape.extents), wrap=shape.wrap, packet=vectors.packet_text(packet), run=bytes(way))
+    return at_source(node, (half_away(shape, node, *dims), mode))
 
 
 def turned(way, at):
@@ -116,7 +107,7 @@ def below_half():
         shape, node = on_ring(rng, dim, ring, place)
         for far in (ring - 1) // 2, -((ring - 1) // 2):
             for direction in 2 * dim, 2 * dim + 1:
-                yield step(shape, ref.Packet(node, ((moved(shape, node, dim, far), 'D'),)), direction)
+                yield step(shape, at_source(node, (moved(shape, node, dim, far), 'D')), direction)
 
 
 def several():
@@ -135,7 +126,7 @@ def several():
         target = half_away(shape, node, half)
         for dim in others:
             target = moved(shape, target, dim, rng.choice([1, -1]))
-        packet = ref.Packet(node, ((target, 'D'),))
+        packet = at_source(node, (target, 'D'))
         yield walk(shape, packet, first_way(shape, packet))
 
 
@@ -157,7 +148,7 @@ def begins_anew():
         for place in places(rng, ring):
             shape, node = on_ring(rng, dim, ring, place)
             for via in vias_before(rng, shape, dim, node):
-                packet = ref.Packet(node, ((via, rng.choice('AD')), (half_away(shape, via, dim), 'D')))
+                packet = at_source(node, (via, rng.choice('AD')), (half_away(shape, via, dim), 'D'))
                 way = first_way(shape, packet)
                 yield walk(shape, packet, way)
                 yield walk(shape, packet, turned(way, len(way) - ring // 2))

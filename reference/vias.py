@@ -3,12 +3,11 @@ and pairs that have a route only by two vias."""
 import itertools
 import random
 
-import answers
 import reference as ref
 import ties
 import vectors
 from answers import STAGE
-from lines import W, declined_plans, first_way, line, new_routes, of_version, plan_of, room_for, routes_of, runs_on, sheet_from
+from lines import W, at_source, declined_plans, first_way, line, new_routes, of_version, plan_of, room_for, routes_of, runs_on, sheet_from, step, walk
 
 SEED = '1'
 BEFORE = ref.E4                # routes of up to two legs
@@ -172,47 +171,57 @@ def three_legs():
             legs.append((here, mode))
         packet = ref.new_packet(STAGE, source, legs)
         way = first_way(shape, packet)
-        yield ties.walk(shape, packet, way)
-        yield ties.walk(shape, packet, way + b'\0')
-        yield ties.walk(shape, packet, way[:len(way) // 2])
+        yield walk(shape, packet, way)
+        yield walk(shape, packet, way + b'\0')
+        yield walk(shape, packet, way[:len(way) // 2])
         if way:
             at = rng.randrange(len(way))
-            yield ties.walk(shape, packet, way[:at] + bytes([6]) + way[at:])
+            yield walk(shape, packet, way[:at] + bytes([6]) + way[at:])
         for leg in range(3):
-            start = ref.Packet(source if leg == 0 else legs[leg - 1][0], tuple(legs[leg:]))
+            start = packet._replace(node=source if leg == 0 else legs[leg - 1][0], mark=leg)
             for direction in range(7):
                 yield step(shape, start, direction)
 
 
-def step(shape, packet, direction):
-    return line('step', extents=answers.numbers_text(shape.extents), wrap=shape.wrap, packet=vectors.packet_text(packet), direction=direction)
+def longest(modes):
+    """The largest mesh, a packet on it whose three legs go from corner to corner, and its way of 135 hops."""
+    shape, packet = ref.Shape(CUBE, 0), at_source(0, *zip((4095, 0, 4095), modes))
+    return shape, packet, first_way(shape, packet)
+
+
+def long_walks():
+    """The longest way whole, up to its legs' ends, and without its last hop."""
+    for modes in 'AAA', 'DDD', 'ADA':
+        shape, packet, way = longest(modes)
+        for hops in 45, 90, 134, 135:
+            yield walk(shape, packet, way[:hops])
 
 
 def drops():
     """Three legs whose targets are the present node, one another's, or the node of the next hop: dropped together, one after the other, or waiting."""
     shape = ref.Shape([4, 4, 1], 3)
     for targets in itertools.product((5, 6), repeat=3):
-        packet = ref.Packet(5, tuple(zip(targets, 'ADA')))
+        packet = at_source(5, *zip(targets, 'ADA'))
         for direction in 0, 1:
             yield step(shape, packet, direction)
         for run in b'', b'\0', b'\0\1', b'\0\1\0', b'\0\1\0\1':
-            yield ties.walk(shape, packet, run)
+            yield walk(shape, packet, run)
 
 
 def counts():
     """No leg up to five, and more; a node outside in the place of each target, and of the present node."""
     shape = ref.Shape([4, 4, 1], 3)
     for count in 0, 1, 2, 3, 4, 5, 255, 256:
-        packet = ref.Packet(0, tuple(((3, 2)[i % 2], 'A') for i in range(count)))
+        packet = at_source(0, *[((3, 2)[i % 2], 'A') for i in range(count)])
         yield step(shape, packet, 1)
-        yield ties.walk(shape, packet, b'\1\1')
+        yield walk(shape, packet, b'\1\1')
     for count in 3, 4:
-        yield step(shape, ref.Packet(3, ((3, 'A'),) * count), 1)               # 14 before any drop
+        yield step(shape, at_source(3, *[(3, 'A')] * count), 1)              # 14 before any drop
     for place, node in itertools.product(range(3), (15, 16, 4095, 65535)):
-        packet = ref.Packet(0, tuple((node if i == place else i + 1, 'A') for i in range(3)))
+        packet = at_source(0, *[(node if i == place else i + 1, 'A') for i in range(3)])
         yield step(shape, packet, 0)
-        yield ties.walk(shape, packet, b'\0')
-    yield step(shape, ref.Packet(16, ((1, 'A'), (2, 'A'), (3, 'A'))), 0)
+        yield walk(shape, packet, b'\0')
+    yield step(shape, at_source(0, (1, 'A'), (2, 'A'), (3, 'A'))._replace(node=16), 0)
 
 
 # ---- Route sheets of version 3
@@ -320,4 +329,4 @@ def full():
         yield line('lookup', plan=cube, sheet=routes[:-2] + b'\xff\xff', destination=1)
 
 
-LACKING = (every_kind, decided, by_ties, only_by_two, three_legs, drops, counts, kinds, bad_vias, layouts, written_again, checks, full)
+LACKING = (every_kind, decided, by_ties, only_by_two, three_legs, long_walks, drops, counts, kinds, bad_vias, layouts, written_again, checks, full)

@@ -3,8 +3,8 @@
  *
  * Hands every call of the library made, damaged and random input, and holds it to what is claimed of every input: no byte outside the lent parts is
  * touched, a refusal changes nothing and has the number that the model says, an accepted sheet is written back as the same bytes, a route sheet of version 2 as
- * version 3, an old one is converted where its walks are the same now, each hop and walk is the model's, a planned route is the model's on small plans, its length is the weight of its hops, and its
- * packet, by whatever hops are allowed, arrives after the route's hops without crossing a dead link.
+ * version 3, an old one is converted where its walks are the same now, each hop, walk and hop taken back is the model's, a planned route is the model's on small plans, its length is the weight of its
+ * hops, and its packet, by whatever hops are allowed, arrives after the route's hops without crossing a dead link, and by these taken back is new again.
  * --lines prints cases with the library's answers instead, for against-reference.
  */
 #include "lent.h"
@@ -18,7 +18,7 @@
 #include <string.h>
 
 static lent plan, sheet, out, work, directions;
-static uint64_t inputs, calls, refused, converted, not_kept, hops_taken, arrivals, longest, heaviest, by_two;
+static uint64_t inputs, calls, refused, converted, not_kept, hops_taken, taken_back, arrivals, longest, heaviest, by_two;
 
 /* What the model says of the lent plan: the number, and the plan where that is 0. */
 static uint8_t plan_refused;
@@ -84,14 +84,62 @@ static nafthurm_walked walk(nafthurm_shape s, nafthurm_packet packet, const uint
     return w;
 }
 
+static nafthurm_stepped back(nafthurm_shape s, nafthurm_packet packet, uint8_t direction) {
+    nafthurm_stepped r = nafthurm_take_back(s, packet, direction), wanted = model_take_back(s, packet, direction);
+    calls++;
+    refused += r.number != 0, taken_back += r.number == 0;
+    HOLD(r.number == wanted.number);
+    HOLD(same_packet(r.packet, wanted.packet));
+    return r;
+}
+
+/* A step and then its direction taken back, which give the packet where allowed hops reach it; the direction taken back and then a step, which give it always. */
+static void there_and_back(nafthurm_shape s, nafthurm_packet packet, uint8_t direction, int is_reached) {
+    nafthurm_stepped later = step(s, packet, direction), earlier = back(s, packet, direction);
+    if (later.number == 0) {
+        nafthurm_stepped again = back(s, later.packet, direction);
+        HOLD(!is_reached || (again.number == 0 && same_packet(again.packet, packet)));
+    }
+    if (earlier.number != 0) return;
+    nafthurm_stepped again = step(s, earlier.packet, direction);
+    HOLD(is_reached && again.number == 0 && same_packet(again.packet, packet));
+}
+
+/* By every allowed walk, on a small machine: one packet at most leads to this one by a hop, and that is taken back. */
+static void try_search(nafthurm_shape s, nafthurm_packet packet, int is_reached) {
+    int found[6], any = 0;
+    nafthurm_packet before[6];
+    search_back(s, packet, found, before);
+    for (uint8_t d = 0; d < 6; d++) {
+        nafthurm_stepped earlier = back(s, packet, d);
+        HOLD(found[d] == (earlier.number == 0));
+        HOLD(found[d] == 0 || same_packet(earlier.packet, before[d]));
+        any |= found[d];
+    }
+    HOLD(is_reached == (any || same_packet(packet, renewed(packet))));
+}
+
 static void try_packet(nafthurm_shape s, nafthurm_packet packet) {
     uint8_t run[RUN_MOST] = {0}, number = packet_number(s, packet);
+    int is_reached = number == 0 && reached(s, packet);
     calls++;
     HOLD(nafthurm_packet_check(s, packet) == number);
-    for (uint8_t d = 0; d < 8; d++) step(s, packet, d < 7 ? d : any_byte());
+    for (uint8_t d = 0; d < 8; d++) there_and_back(s, packet, d < 7 ? d : any_byte(), is_reached);
+    if (number == 0 && nodes_of(s) <= MODEL_NODES) try_search(s, packet, is_reached);
     walk(s, packet, run, 0);
     size_t size = number ? below(RUN_MOST) : made_run(s, packet, run);
     walk(s, packet, run, size);
+}
+
+/* The new packet of a route that is not refused. */
+static nafthurm_packet new_packet(uint16_t source, uint16_t destination, nafthurm_route route) {
+    nafthurm_packet packet = nafthurm_new_packet(source, destination, route);
+    int vias = route.kind / 16;
+    calls++;
+    HOLD(packet.source == source && packet.count == vias + 1 && same_packet(packet, renewed(packet)));
+    for (int leg = 0; leg <= vias; leg++)
+        HOLD(packet.legs[leg].target == (leg < vias ? route.via[leg] : destination) && packet.legs[leg].mode == (route.kind >> leg & 1));
+    return packet;
 }
 
 static void one_packet(void) {
@@ -104,10 +152,10 @@ static void one_packet(void) {
     try_packet(s, packet);
 }
 
-/* The sum of the legs' distances: in hops under weights of 1. */
+/* The sum of the distances of a new packet's legs: in hops under weights of 1. */
 static int length_of(nafthurm_shape s, nafthurm_weights w, nafthurm_packet packet) {
-    int sum = 0, at = packet.node;
-    for (int leg = MOST_LEGS - packet.left; leg < MOST_LEGS; leg++) sum += distance(s, w, at, packet.legs[leg].target), at = packet.legs[leg].target;
+    int sum = 0, at = packet.source;
+    for (int leg = 0; leg < packet.count; leg++) sum += distance(s, w, at, packet.legs[leg].target), at = packet.legs[leg].target;
     return sum;
 }
 
@@ -143,7 +191,20 @@ static void walk_again(nafthurm_shape s, nafthurm_packet first, nafthurm_packet 
     HOLD(wrong.ending == NAFTHURM_NOT_ALLOWED && wrong.hops == part && same_packet(wrong.packet, w.packet));
 }
 
-/* By allowed hops at random to the end. */
+/* The hops taken back, from the last to the first; now and then another direction is tried. */
+static void travel_back(nafthurm_shape s, nafthurm_packet first, nafthurm_packet last, const uint8_t *taken, int hops) {
+    nafthurm_packet packet = last;
+    while (hops > 0) {
+        if (chance(20)) back(s, packet, (uint8_t)below(8));
+        nafthurm_stepped earlier = back(s, packet, taken[--hops]);
+        HOLD(earlier.number == 0);
+        packet = earlier.packet;
+    }
+    HOLD(same_packet(packet, first));
+    HOLD(back(s, packet, (uint8_t)below(8)).number == 18);
+}
+
+/* By allowed hops at random to the end, and back. */
 static void travel(nafthurm_shape s, nafthurm_packet first, uint16_t destination, int sound) {
     uint8_t taken[3 * 45 + 1];
     int count = 0, wanted = length_of(s, (nafthurm_weights){1, 1, 1}, first);
@@ -154,6 +215,7 @@ static void travel(nafthurm_shape s, nafthurm_packet first, uint16_t destination
     HOLD(count == wanted);
     hops_taken += (uint64_t)count, arrivals++;
     if (longest < (uint64_t)count) longest = (uint64_t)count;
+    travel_back(s, first, packet, taken, count);
     walk_again(s, first, packet, taken, (size_t)count);
 }
 
@@ -219,7 +281,7 @@ static nafthurm_planned try_pair(uint16_t source, uint16_t destination) {
         return p;
     }
     check_vias(p.route, source, destination);
-    nafthurm_packet first = nafthurm_new_packet(source, destination, p.route);
+    nafthurm_packet first = new_packet(source, destination, p.route);
     HOLD(p.length == length_of(model.shape, model.weights, first));
     if (heaviest < p.length) heaviest = p.length;
     travel(model.shape, first, destination, 1);
@@ -292,7 +354,7 @@ static void try_sheet(void) {
         uint16_t destination = listed ? (uint16_t)word(some_entry()) : plan_node();
         nafthurm_route r = try_lookup(number, destination);
         if (r.number != 0) continue;
-        nafthurm_packet first = nafthurm_new_packet((uint16_t)word(sheet.bytes + 3), destination, r);
+        nafthurm_packet first = new_packet((uint16_t)word(sheet.bytes + 3), destination, r);
         travel(model.shape, first, destination, 0);
     }
 }
@@ -304,7 +366,7 @@ static void try_kept(const uint8_t *entry) {
     if (entry[2] >= 10) return;
     uint8_t run[RUN_MOST];
     uint16_t source = (uint16_t)word(sheet.bytes + 3);
-    nafthurm_packet first = nafthurm_new_packet(source, (uint16_t)word(entry), model_entry(OLD_VERSION, entry));
+    nafthurm_packet first = new_packet(source, (uint16_t)word(entry), model_entry(OLD_VERSION, entry));
     half_rule *now = half_plus;
     half_plus = always_plus;
     size_t size = whole_run(model.shape, first, run);
@@ -597,7 +659,7 @@ int main(int words, char **word_at) {
     lend_both(), inputs = 0;
     for (uint64_t i = 0; i < count; i++) one_input(i);
     printf("seed %" PRIu64 ": %" PRIu64 " inputs, %" PRIu64 " calls, %" PRIu64 " refusals, %" PRIu64 " sheets converted, %" PRIu64 " not for an entry, %" PRIu64
-           " packets brought to their destination in %" PRIu64 " hops, at most %" PRIu64 ", by routes of at most length %" PRIu64 ", %" PRIu64 " of them planned by two vias\n",
-           seed, inputs, calls, refused, converted, not_kept, arrivals, hops_taken, longest, heaviest, by_two);
+           " packets brought to their destination in %" PRIu64 " hops, at most %" PRIu64 ", by routes of at most length %" PRIu64 ", %" PRIu64 " of them planned by two vias, %" PRIu64 " hops taken back\n",
+           seed, inputs, calls, refused, converted, not_kept, arrivals, hops_taken, longest, heaviest, by_two, taken_back);
     return 0;
 }

@@ -71,16 +71,17 @@ static nafthurm_shape shape_in(const char *line) {
 
 enum { MOST_LEGS = 3 };
 
-/* Of more legs than a packet holds the count is kept, and the last of them. */
+/* Of more legs than a packet holds the count is kept, and the first of them. */
 static nafthurm_packet packet_in(const char *line) {
     char *at;
     nafthurm_packet packet = {0};
-    packet.node = (uint16_t)strtoul(text(line, "packet"), &at, 10);
+    packet.source = (uint16_t)strtoul(text(line, "packet"), &at, 10);
+    packet.node = (uint16_t)strtoul(at + 1, &at, 10);
+    packet.mark = (uint8_t)strtoul(at + 1, &at, 10);
     while (*++at >= '0' && *at <= '9') {
-        memmove(packet.legs, packet.legs + 1, sizeof packet.legs - sizeof *packet.legs);
-        packet.legs[MOST_LEGS - 1].target = (uint16_t)strtoul(at, &at, 10);
-        packet.legs[MOST_LEGS - 1].mode = at[1] == 'D';
-        if (packet.left < 255) packet.left++;
+        uint16_t target = (uint16_t)strtoul(at, &at, 10);
+        if (packet.count < MOST_LEGS) packet.legs[packet.count] = (nafthurm_leg){target, at[1] == 'D'};
+        if (packet.count < 255) packet.count++;
         at += 2;
     }
     return packet;
@@ -89,17 +90,16 @@ static nafthurm_packet packet_in(const char *line) {
 static int same_packet(nafthurm_packet a, nafthurm_packet b) {
     for (int i = 0; i < MOST_LEGS; i++)
         if (a.legs[i].target != b.legs[i].target || a.legs[i].mode != b.legs[i].mode) return 0;
-    return a.node == b.node && a.left == b.left;
+    return a.source == b.source && a.node == b.node && a.count == b.count && a.mark == b.mark;
 }
 
 static void put_legs(nafthurm_packet packet) {
-    HOLD(packet.left <= MOST_LEGS);
-    for (int i = MOST_LEGS - packet.left; i < MOST_LEGS; i++)
-        put("%s%d:%c", i > MOST_LEGS - packet.left ? "," : "", packet.legs[i].target, packet.legs[i].mode ? 'D' : 'A');
+    HOLD(packet.count <= MOST_LEGS);
+    for (int i = 0; i < packet.count; i++) put("%s%d:%c", i > 0 ? "," : "", packet.legs[i].target, packet.legs[i].mode ? 'D' : 'A');
 }
 
 static void put_packet(nafthurm_packet packet) {
-    put("%d;", packet.node);
+    put("%d;%d;%d;", packet.source, packet.node, packet.mark);
     put_legs(packet);
 }
 
@@ -130,12 +130,16 @@ static const char *ending_text(uint8_t ending) {
 
 /* ---- Operations ---- */
 
-static void op_step(const char *line) {
+static void put_stepped(const char *line, nafthurm_stepped (*call)(nafthurm_shape, nafthurm_packet, uint8_t)) {
     nafthurm_packet packet = packet_in(line);
-    nafthurm_stepped s = nafthurm_step(shape_in(line), packet, (uint8_t)number(line, "direction"));
+    nafthurm_stepped s = call(shape_in(line), packet, (uint8_t)number(line, "direction"));
     put("number=%d packet=", s.number);
     put_after(line, packet, s.packet);
 }
+
+static void op_step(const char *line) { put_stepped(line, nafthurm_step); }
+
+static void op_takeback(const char *line) { put_stepped(line, nafthurm_take_back); }
 
 static void op_walk(const char *line) {
     nafthurm_packet packet = packet_in(line);
@@ -263,11 +267,14 @@ static void op_lost(const char *line) {
     put("number=%d entry=%d", c.number, c.entry);
 }
 
-/* The step or walk that `call` spells with `size` characters, on the packet: `s` and a direction, or `w` and a run of them. Gives the packet after it. */
+/*
+ * The call that `call` spells with `size` characters, on the packet: a step, `s` and a direction; a hop taken back, `b` and a direction; or a walk, `w` and a run
+ * of them. Gives the packet after it.
+ */
 static nafthurm_packet make_call(const char *call, size_t size, nafthurm_shape shape, nafthurm_packet packet) {
     lend_hex(&directions, call + 1, size - 1);
-    if (*call == 's') {
-        nafthurm_stepped s = nafthurm_step(shape, packet, directions.bytes[0]);
+    if (*call != 'w') {
+        nafthurm_stepped s = (*call == 's' ? nafthurm_step : nafthurm_take_back)(shape, packet, directions.bytes[0]);
         put("%d", s.number);
         return s.packet;
     }
@@ -330,9 +337,9 @@ int answer_line(const char *line, char answer[ANSWER_MOST]) {
     static const struct {
         const char *name;
         void (*op)(const char *line);
-    } ops[] = {{"step", op_step}, {"walk", op_walk}, {"plan", op_plan}, {"planback", op_planback}, {"weights", op_weights}, {"dead", op_dead},
+    } ops[] = {{"step", op_step}, {"walk", op_walk}, {"takeback", op_takeback}, {"plan", op_plan}, {"planback", op_planback}, {"weights", op_weights}, {"dead", op_dead},
                {"masks", op_masks}, {"pair", op_pair}, {"sheet", op_sheet}, {"listing", op_listing}, {"lookup", op_lookup}, {"back", op_back},
-               {"convert", op_convert}, {"lost", op_lost}, {"run", op_run}, {"sheetrun", op_sheetrun}};
+               {"convert", op_convert}, {"lost", op_lost}, {"run", op_run}, {"runback", op_run}, {"sheetrun", op_sheetrun}};
     size_t name = text_size(line);
     for (size_t i = 0; i < sizeof ops / sizeof *ops; i++) {
         if (strlen(ops[i].name) != name || strncmp(ops[i].name, line, name) != 0) continue;

@@ -553,41 +553,73 @@ static uint16_t beyond(nafthurm_shape s, uint16_t here, uint16_t from) {
 /* A new packet: from corner to corner and back, or any targets, few of them at hand, and some beyond the source, so that a later leg passes it again. */
 static nafthurm_packet new_packet(nafthurm_shape s) {
     uint16_t far = (uint16_t)(nodes_of(s) - 1);
-    if (chance(8)) return (nafthurm_packet){0, {leg_to(far), leg_to(0), leg_to(far)}, 3};
+    if (chance(8)) return renewed((nafthurm_packet){0, 0, {leg_to(far), leg_to(0), leg_to(far)}, 3, 0});
     uint16_t source = (uint16_t)below((uint32_t)nodes_of(s)), via = chance(15) ? source : some_node(s, source);
     uint16_t second = chance(20) ? beyond(s, source, via) : chance(10) ? via : chance(10) ? source : some_node(s, via);
     uint16_t last = chance(10) ? second : chance(10) ? via : chance(10) ? source : some_node(s, second);
-    return (nafthurm_packet){source, {leg_to(via), leg_to(second), leg_to(last)}, (uint8_t)ONE_OF(0, 1, 2, 2, 3, 3, 3, 3)};
+    return renewed((nafthurm_packet){source, source, {leg_to(via), leg_to(second), leg_to(last)}, (uint8_t)ONE_OF(0, 1, 2, 2, 3, 3, 3, 3), 0});
 }
 
-/* After some allowed hops. */
+/* After some allowed hops; often where a leg has just ended, or a hop before or behind that. */
 static nafthurm_packet travelled(nafthurm_shape s, nafthurm_packet packet) {
     uint8_t run[RUN_MOST];
-    size_t size = made_run(s, packet, run), hops = model_walk(s, packet, run, size).hops;
-    return model_walk(s, packet, run, chance(40) ? hops : below((uint32_t)hops + 1)).packet;
+    nafthurm_packet way[RUN_MOST] = {packet};
+    size_t hops = whole_run(s, packet, run), at = chance(25) ? hops : below((uint32_t)hops + 1);
+    for (size_t i = 0; i < hops; i++) way[i + 1] = model_step(s, way[i], run[i]).packet;
+    if (chance(70)) return way[at];
+    while (at < hops && way[at].mark == way[at + 1].mark) at++;
+    at += below(3);
+    return way[at < hops ? at : hops];
 }
 
-nafthurm_packet good_packet(nafthurm_shape s) {
-    nafthurm_packet packet = new_packet(s);
-    if (chance(50)) packet = travelled(s, packet);
-    if (packet.left < MOST_LEGS && chance(20)) { /* a leg that the next hop only will drop */
-        packet.left++;
-        packet.legs[MOST_LEGS - packet.left] = leg_to(packet.node);
+/* The mark on a leg that the next hop only will drop: one that has ended here, or a new one. */
+static nafthurm_packet undropped(nafthurm_packet packet) {
+    if (packet.mark > 0 && packet.legs[packet.mark - 1].target == packet.node && chance(50)) {
+        packet.mark--;
+    } else if (packet.count < MOST_LEGS) {
+        memmove(packet.legs + packet.mark + 1, packet.legs + packet.mark, (size_t)(MOST_LEGS - 1 - packet.mark) * sizeof *packet.legs);
+        packet.legs[packet.mark] = leg_to(packet.node), packet.count++;
     }
     return packet;
 }
 
+/* Another mark, node, source or leg, so that mostly no allowed hops reach the packet. The node on the other side of the source is that of the other half of a ring. */
+static nafthurm_packet strayed(nafthurm_shape s, nafthurm_packet packet) {
+    switch (below(6)) {
+    case 0: packet.mark = (uint8_t)below(packet.count + 1u); break;
+    case 1: packet.node = some_node(s, packet.node); break;
+    case 2: packet.node = beyond(s, packet.mark > 0 ? packet.legs[packet.mark - 1].target : packet.source, packet.node); break;
+    case 3: packet.source = some_node(s, packet.source); break;
+    case 4:
+        if (packet.count > 0) packet.legs[below(packet.count)].target = some_node(s, packet.node);
+        break;
+    default:
+        if (packet.count > 0) packet.legs[below(packet.count)].mode ^= 1;
+        break;
+    }
+    return packet;
+}
+
+nafthurm_packet good_packet(nafthurm_shape s) {
+    nafthurm_packet packet = new_packet(s);
+    if (chance(60)) packet = travelled(s, packet);
+    if (chance(15)) packet = undropped(packet);
+    return chance(15) ? strayed(s, packet) : packet;
+}
+
 nafthurm_packet hurt_packet(nafthurm_shape s, nafthurm_packet packet) {
-    int way = packet.left == 0 ? ONE_OF(0, 1) : ONE_OF(0, 1, 2, 3), left = packet.left < MOST_LEGS ? packet.left : MOST_LEGS;
+    int way = packet.count == 0 ? ONE_OF(0, 1, 2, 3) : ONE_OF(0, 1, 2, 3, 4, 4, 4), count = packet.count < MOST_LEGS ? packet.count : MOST_LEGS;
     if (way == 0) packet.node = outside(nodes_of(s));
-    else if (way == 1) packet.left = (uint8_t)ONE_OF(4, 4, 5, 128, 255);
-    else packet.legs[MOST_LEGS - 1 - (int)below((uint32_t)left)].target = outside(nodes_of(s));
+    else if (way == 1) packet.source = outside(nodes_of(s));
+    else if (way == 2) packet.count = (uint8_t)ONE_OF(4, 4, 5, 128, 255);
+    else if (way == 3) packet.mark = (uint8_t)(packet.count < 254 ? packet.count + ONE_OF(1, 1, 2, 255 - packet.count) : 255);
+    else packet.legs[below((uint32_t)count)].target = outside(nodes_of(s));
     return packet;
 }
 
 nafthurm_packet any_packet(nafthurm_shape s) {
     nafthurm_packet packet = good_packet(s);
-    if (packet.left < MOST_LEGS && chance(30)) packet.legs[below((uint32_t)(MOST_LEGS - packet.left))].target = outside(nodes_of(s)); /* no leg that is left */
+    if (packet.count < MOST_LEGS && chance(30)) packet.legs[packet.count + (int)below((uint32_t)(MOST_LEGS - packet.count))].target = outside(nodes_of(s)); /* no leg of the route */
     return chance(15) ? hurt_packet(s, packet) : packet;
 }
 
@@ -600,7 +632,7 @@ uint8_t some_direction(nafthurm_shape s, nafthurm_packet packet) {
 
 size_t whole_run(nafthurm_shape s, nafthurm_packet packet, uint8_t run[RUN_MOST]) {
     size_t size = 0;
-    for (; dropped(packet).left > 0; size++) {
+    for (; !arrived(packet); size++) {
         run[size] = some_direction(s, packet);
         packet = model_step(s, packet, run[size]).packet;
     }

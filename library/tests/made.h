@@ -86,10 +86,10 @@ size_t some_room(size_t size);
 
 /* ---- Packets and runs ---- */
 
-/* With at most three legs, and no check declines it. */
+/* With at most three legs, and no check declines it: new, on its way or arrived; some with a leg that the next hop only will drop, some that no allowed hops reach. */
 nafthurm_packet good_packet(nafthurm_shape s);
 
-/* Of the same shape, made 14 by one thing: its node, a target, or the count of its legs. */
+/* Of the same shape, made 14 by one thing: its source, its node, a target, the count of its legs, or its mark. */
 nafthurm_packet hurt_packet(nafthurm_shape s, nafthurm_packet packet);
 
 nafthurm_packet any_packet(nafthurm_shape s);

@@ -78,8 +78,8 @@ static uint8_t weights_number(nafthurm_weights w) { return w.x < 1 || w.x > 8 ||
 uint8_t packet_number(nafthurm_shape s, nafthurm_packet packet) {
     uint8_t number = shape_number(s);
     if (number != 0) return number;
-    if (packet.left > MOST_LEGS || packet.node >= nodes_of(s)) return 14;
-    for (int leg = MOST_LEGS - packet.left; leg < MOST_LEGS; leg++)
+    if (packet.count > MOST_LEGS || packet.mark > packet.count || packet.source >= nodes_of(s) || packet.node >= nodes_of(s)) return 14;
+    for (int leg = 0; leg < packet.count; leg++)
         if (packet.legs[leg].target >= nodes_of(s)) return 14;
     return 0;
 }
@@ -229,17 +229,25 @@ nafthurm_converted model_convert(nafthurm_shape s, const uint8_t *sheet, size_t 
 int same_packet(nafthurm_packet a, nafthurm_packet b) {
     for (int i = 0; i < MOST_LEGS; i++)
         if (a.legs[i].target != b.legs[i].target || a.legs[i].mode != b.legs[i].mode) return 0;
-    return a.node == b.node && a.left == b.left;
+    return a.source == b.source && a.node == b.node && a.count == b.count && a.mark == b.mark;
 }
 
 nafthurm_packet dropped(nafthurm_packet packet) {
-    while (packet.left > 0 && packet.legs[MOST_LEGS - packet.left].target == packet.node) packet.left--;
+    while (packet.mark < packet.count && packet.legs[packet.mark].target == packet.node) packet.mark++;
     return packet;
 }
 
+int arrived(nafthurm_packet packet) { return dropped(packet).mark == packet.count; }
+
+nafthurm_packet renewed(nafthurm_packet packet) {
+    packet.node = packet.source, packet.mark = 0;
+    return dropped(packet);
+}
+
 int allowed(nafthurm_shape s, nafthurm_packet packet, int direction) {
-    int left = dropped(packet).left;
-    return left > 0 && leg_allows(s, packet.node, packet.legs[MOST_LEGS - left].target, packet.legs[MOST_LEGS - left].mode, direction);
+    if (arrived(packet)) return 0;
+    nafthurm_leg leg = packet.legs[dropped(packet).mark];
+    return leg_allows(s, packet.node, leg.target, leg.mode, direction);
 }
 
 nafthurm_stepped model_step(nafthurm_shape s, nafthurm_packet packet, uint8_t direction) {
@@ -254,7 +262,7 @@ nafthurm_stepped model_step(nafthurm_shape s, nafthurm_packet packet, uint8_t di
 nafthurm_walked model_walk(nafthurm_shape s, nafthurm_packet packet, const uint8_t *directions, size_t size) {
     nafthurm_walked w = {packet, packet_number(s, packet), NAFTHURM_REFUSED, 0};
     if (w.number != 0) return w;
-    for (; dropped(w.packet).left > 0; w.hops++) {
+    for (; !arrived(w.packet); w.hops++) {
         w.ending = NAFTHURM_USED_UP;
         if (w.hops == size) return w;
         nafthurm_stepped hop = model_step(s, w.packet, directions[w.hops]);
@@ -264,6 +272,60 @@ nafthurm_walked model_walk(nafthurm_shape s, nafthurm_packet packet, const uint8
     }
     w.ending = NAFTHURM_ARRIVED;
     return w;
+}
+
+/* Whether a walk of the leg from a node passes another one: it goes there by hops that the leg allows and that come nearer to it. */
+static int passes(nafthurm_shape s, int from, int by, nafthurm_leg leg) {
+    for (int at = from; at != by;) {
+        int next = -1;
+        for (int d = 0; d < 6 && next < 0; d++)
+            if (leg_allows(s, at, leg.target, leg.mode, d) && useful(s, at, by, d)) next = over(s, at, d);
+        if (next < 0) return 0;
+        at = next;
+    }
+    return 1;
+}
+
+/* Whether some walk of the current leg, from where that begins, has come to the packet, and goes on. */
+static int under_way(nafthurm_shape s, nafthurm_packet packet) {
+    if (packet.mark == packet.count || packet.legs[packet.mark].target == packet.node) return 0;
+    return passes(s, packet.mark == 0 ? packet.source : packet.legs[packet.mark - 1].target, packet.node, packet.legs[packet.mark]);
+}
+
+nafthurm_stepped model_take_back(nafthurm_shape s, nafthurm_packet packet, uint8_t direction) {
+    uint8_t number = packet_number(s, packet);
+    int node = number == 0 && direction < 6 ? over(s, packet.node, direction ^ 1) : -1;
+    for (uint8_t mark = 0; node >= 0 && mark <= packet.mark; mark++) {
+        nafthurm_packet before = packet;
+        before.node = (uint16_t)node, before.mark = mark;
+        if (!under_way(s, before)) continue;
+        nafthurm_stepped hop = model_step(s, before, direction);
+        if (hop.number == 0 && same_packet(hop.packet, packet)) return (nafthurm_stepped){before, 0};
+    }
+    return (nafthurm_stepped){packet, number ? number : 18};
+}
+
+int reached(nafthurm_shape s, nafthurm_packet packet) {
+    int is = same_packet(packet, renewed(packet));
+    for (uint8_t d = 0; d < 6; d++) is = is || model_take_back(s, packet, d).number == 0;
+    return is;
+}
+
+void search_back(nafthurm_shape s, nafthurm_packet packet, int found[6], nafthurm_packet before[6]) {
+    uint8_t seen[MODEL_NODES][MOST_LEGS + 1] = {{0}};
+    nafthurm_packet todo[MODEL_NODES * (MOST_LEGS + 1)] = {renewed(packet)};
+    int count = 1;
+    memset(found, 0, 6 * sizeof *found);
+    while (count > 0) {
+        nafthurm_packet earlier = todo[--count];
+        for (uint8_t d = 0; d < 6; d++) {
+            nafthurm_stepped hop = model_step(s, earlier, d);
+            if (hop.number != 0) continue;
+            if (same_packet(hop.packet, packet)) before[d] = earlier, found[d]++;
+            uint8_t *noted = &seen[hop.packet.node][hop.packet.mark];
+            if (!*noted) *noted = 1, todo[count++] = hop.packet;
+        }
+    }
 }
 
 /* ---- Plans ---- */

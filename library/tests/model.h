@@ -1,4 +1,4 @@
-/* What document 01 with E1 to E5 says, told plainly and from the bytes alone: the tests hold the library to it. Slow, and meant to be read. */
+/* What document 01 with E1 to E6 says, told plainly and from the bytes alone: the tests hold the library to it. Slow, and meant to be read. */
 #ifndef MODEL_H
 #define MODEL_H
 
@@ -83,19 +83,35 @@ nafthurm_converted model_convert(nafthurm_shape s, const uint8_t *sheet, size_t 
 
 /* ---- Packets ---- */
 
-/* The legs of a packet's array; those left are the last. */
+/* The legs of a packet's array. */
 enum { MOST_LEGS = 3 };
 
+/* In every field, legs behind the route too. */
 int same_packet(nafthurm_packet a, nafthurm_packet b);
 
-/* The front leg dropped while its target is the present node. */
+/* The mark raised while the current leg's target is the present node. */
 nafthurm_packet dropped(nafthurm_packet packet);
 
-/* The packet is one that no check declines. */
+/* Whether no leg is left, after the drops. */
+int arrived(nafthurm_packet packet);
+
+/* The new packet with the source and the legs of this one. */
+nafthurm_packet renewed(nafthurm_packet packet);
+
+/* The packet is one that no check declines, here and below. */
 int allowed(nafthurm_shape s, nafthurm_packet packet, int direction);
 
 nafthurm_stepped model_step(nafthurm_shape s, nafthurm_packet packet, uint8_t direction);
 nafthurm_walked model_walk(nafthurm_shape s, nafthurm_packet packet, const uint8_t *directions, size_t size);
+
+/* Looks for a packet from which the hop leads to this one, at the node before it, on each leg of which some walk passes that node. */
+nafthurm_stepped model_take_back(nafthurm_shape s, nafthurm_packet packet, uint8_t direction);
+
+/* Whether allowed hops, or none, reach the packet from the new one. */
+int reached(nafthurm_shape s, nafthurm_packet packet);
+
+/* By every allowed walk from the new packet, on a machine of at most MODEL_NODES nodes: how many packets lead to this one by a hop in each direction, and one of them. */
+void search_back(nafthurm_shape s, nafthurm_packet packet, int found[6], nafthurm_packet before[6]);
 
 /* ---- Plans ---- */
 

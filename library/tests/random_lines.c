@@ -33,31 +33,48 @@ static void say_plan(void) { say_bytes("plan", &a_plan); }
 
 /* ---- Packets ---- */
 
-/* Of the legs in use; more than three, as many as the packet says up to five. */
+/* Of the legs of the route; more than three, as many as the packet says up to five. */
 static void say_packet(nafthurm_shape s, nafthurm_packet p) {
-    say(" extents=%d,%d,%d wrap=%d packet=%d;", s.x, s.y, s.z, s.wrap, p.node);
-    int legs = p.left < 5 ? p.left : 5;
-    for (int i = 0; i < legs; i++) {
-        nafthurm_leg leg = p.legs[legs > MOST_LEGS ? i % MOST_LEGS : MOST_LEGS - legs + i];
-        say("%s%d:%c", i ? "," : "", leg.target, leg.mode ? 'D' : 'A');
-    }
+    say(" extents=%d,%d,%d wrap=%d packet=%d;%d;%d;", s.x, s.y, s.z, s.wrap, p.source, p.node, p.mark);
+    for (int i = 0; i < p.count && i < 5; i++) say("%s%d:%c", i ? "," : "", p.legs[i % MOST_LEGS].target, p.legs[i % MOST_LEGS].mode ? 'D' : 'A');
 }
 
-static void packet_line(int walked) {
-    nafthurm_shape s = packet_shape(), given = chance(10) ? hurt_shape(s) : s;
+/* A direction by which the packet came, where there is one. */
+static uint8_t some_way_back(nafthurm_shape s, nafthurm_packet packet) {
+    uint8_t first = (uint8_t)below(6);
+    for (uint8_t i = 0; i < 6; i++) {
+        uint8_t direction = (uint8_t)((first + i) % 6);
+        if (model_take_back(s, packet, direction).number == 0) return direction;
+    }
+    return (uint8_t)ONE_OF(0, 1, 2, 3, 4, 5, 6, 255);
+}
+
+static void packet_line(const char *operation) {
+    nafthurm_shape s = *operation == 't' ? made_shape(64) : packet_shape(), given = chance(10) ? hurt_shape(s) : s; /* taking back, the reference searches every walk */
     nafthurm_packet packet = any_packet(s);
     bytes run = {.size = 0};
-    if (packet_number(s, packet) == 0) run.size = made_run(s, packet, run.at);
-    say(walked ? "walk" : "step");
+    int good = packet_number(s, packet) == 0;
+    say("%s", operation);
     say_packet(given, packet);
-    if (walked) say_bytes("run", &run);
+    if (*operation == 't') {
+        say(" direction=%d", good && chance(80) ? some_way_back(s, packet) : ONE_OF(0, 1, 2, 3, 4, 5, 6, 255));
+        return;
+    }
+    if (good) run.size = made_run(s, packet, run.at);
+    if (*operation == 'w') say_bytes("run", &run);
     else say(" direction=%d", run.size > 0 && chance(70) ? run.at[0] : ONE_OF(0, 1, 2, 3, 4, 5, 6, 255));
 }
 
 /* ---- Runs ---- */
 
-static nafthurm_packet say_call(nafthurm_shape s, nafthurm_packet packet) {
+/* Of calls, `backs` % take a hop back. */
+static nafthurm_packet say_call(nafthurm_shape s, nafthurm_packet packet, uint32_t backs) {
     uint8_t run[RUN_MOST];
+    if (chance(backs)) {
+        uint8_t direction = chance(85) ? some_way_back(s, packet) : (uint8_t)below(7);
+        say("b%02x", direction);
+        return model_take_back(s, packet, direction).packet;
+    }
     if (chance(50)) {
         uint8_t direction = chance(75) ? some_direction(s, packet) : (uint8_t)below(7);
         say("s%02x", direction);
@@ -70,12 +87,12 @@ static nafthurm_packet say_call(nafthurm_shape s, nafthurm_packet packet) {
     return model_walk(s, packet, run, size).packet;
 }
 
-static void say_calls(nafthurm_shape s, nafthurm_packet packet) {
-    uint32_t count = below(7);
+static void say_calls(nafthurm_shape s, nafthurm_packet packet, uint32_t backs) {
+    uint32_t count = below(backs ? 12 : 7);
     say(" calls=%s", count ? "" : "-");
     for (uint32_t i = 0; i < count; i++) {
         if (i > 0) say(",");
-        packet = say_call(s, packet);
+        packet = say_call(s, packet, backs);
     }
 }
 
@@ -88,7 +105,7 @@ static nafthurm_shape small_plan(int most, uint32_t damaged) {
 }
 
 /* Along the planned route between two nodes. */
-static void run_line(const char *operation, int most) {
+static void run_line(const char *operation, int most, uint32_t backs) {
     static model_plan model;
     nafthurm_shape s = small_plan(most, 5);
     ends e = some_ends(s);
@@ -101,7 +118,7 @@ static void run_line(const char *operation, int most) {
         p = model_pair(&model, e.source, e.destination);
     }
     if (p.route.number != 0) say(" calls=-");
-    else say_calls(model.shape, nafthurm_new_packet(e.source, e.destination, p.route));
+    else say_calls(model.shape, nafthurm_new_packet(e.source, e.destination, p.route), backs);
 }
 
 /* ---- Plans and sheets ---- */
@@ -174,18 +191,20 @@ static void plan_line(void) {
 
 static void make_line(void) {
     used = 0;
-    switch (below(13)) {
+    switch (below(15)) {
     case 0: pair_line(); break;
     case 1: sheet_line(); break;
     case 2: listing_line(); break;
-    case 3: run_line("run", 64); break;
-    case 4: run_line("sheetrun", 32); break;
-    case 5: lookup_line(); break;
-    case 6: route_line("back", SHEET_VERSION), say_room(); break;
-    case 7: route_line("convert", OLD_VERSION), say_room(); break;
-    case 8: route_line("lost", OLD_VERSION); break;
-    case 9: packet_line(0); break;
-    case 10: packet_line(1); break;
+    case 3: run_line("run", 64, 0); break;
+    case 4: run_line("runback", 64, 45); break;
+    case 5: run_line("sheetrun", 32, 0); break;
+    case 6: lookup_line(); break;
+    case 7: route_line("back", SHEET_VERSION), say_room(); break;
+    case 8: route_line("convert", OLD_VERSION), say_room(); break;
+    case 9: route_line("lost", OLD_VERSION); break;
+    case 10: packet_line("step"); break;
+    case 11: packet_line("walk"); break;
+    case 12: packet_line("takeback"); break;
     default: plan_line(); break;
     }
 }

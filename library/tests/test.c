@@ -1,6 +1,6 @@
 /*
- * Document 01's worked machine W and its edges, a machine with weights, half rings, and old route sheets, through the C interface; sizes of the forms, and the
- * stack that each call uses.
+ * Document 01's worked machine W and its edges, a machine with weights, half rings, old route sheets, and hops taken back, through the C interface; sizes of the
+ * forms, and the stack that each call uses.
  */
 #include "lent.h"
 #include "nafthurm.h"
@@ -71,7 +71,8 @@ static void forms(void) {
     HOLD(sizeof(nafthurm_shape) == 4);
     HOLD(sizeof(nafthurm_weights) == 3);
     HOLD(sizeof(nafthurm_leg) == 4);
-    HOLD(sizeof(nafthurm_packet) == 16);
+    HOLD(sizeof(nafthurm_packet) == 18);
+    HOLD(sizeof(nafthurm_stepped) == 20);
     HOLD(sizeof(nafthurm_route) == 6);
     HOLD(sizeof(nafthurm_planned) == 8);
     HOLD(sizeof(nafthurm_run) == 16);
@@ -603,7 +604,7 @@ static void half_ring_conversions(void) {
 static int same_packet(nafthurm_packet a, nafthurm_packet b) {
     for (int i = 0; i < 3; i++)
         if (a.legs[i].target != b.legs[i].target || a.legs[i].mode != b.legs[i].mode) return 0;
-    return a.node == b.node && a.left == b.left;
+    return a.source == b.source && a.node == b.node && a.count == b.count && a.mark == b.mark;
 }
 
 static size_t weight_of(uint8_t direction) {
@@ -611,7 +612,23 @@ static size_t weight_of(uint8_t direction) {
     return direction < 2 ? w.x : direction < 4 ? w.y : w.z;
 }
 
-/* Under the lent plan from 0 to the destination, step by step, by the lowest or by the highest direction allowed: its hops weigh the route's length. */
+/* The hops taken back, from the last one on; behind the first there is none. */
+static void all_back(nafthurm_shape shape, nafthurm_packet first, nafthurm_packet last, const uint8_t *taken, size_t hops) {
+    nafthurm_packet packet = last;
+    while (hops > 0) {
+        nafthurm_stepped s = nafthurm_take_back(shape, packet, taken[--hops]);
+        HOLD(s.number == 0);
+        HOLD(same_packet(nafthurm_step(shape, s.packet, taken[hops]).packet, packet));
+        packet = s.packet;
+    }
+    HOLD(same_packet(packet, first));
+    for (int d = 0; d < 256; d++) {
+        nafthurm_stepped s = nafthurm_take_back(shape, packet, (uint8_t)d);
+        HOLD(s.number == 18 && same_packet(s.packet, packet));
+    }
+}
+
+/* Under the lent plan from 0 to the destination and back, step by step, by the lowest or by the highest direction allowed: its hops weigh the route's length. */
 static void packet_to(nafthurm_shape shape, uint16_t destination, int highest) {
     nafthurm_planned p = nafthurm_pair(plan.bytes, plan.size, 0, destination);
     nafthurm_packet packet = nafthurm_new_packet(0, destination, p.route), first = packet;
@@ -633,6 +650,7 @@ static void packet_to(nafthurm_shape shape, uint16_t destination, int highest) {
         HOLD(length <= p.length);
     }
     HOLD(packet.node == destination && length == p.length);
+    all_back(shape, first, packet, taken, hops);
     lend(&directions, taken, hops);
     nafthurm_walked w = nafthurm_walk(shape, first, directions.bytes, directions.size);
     HOLD(w.number == 0 && w.ending == NAFTHURM_ARRIVED && w.hops == hops);
@@ -646,40 +664,64 @@ static void packets_of(const uint8_t *bytes, size_t size) {
         for (int highest = 0; highest < 2; highest++) packet_to(nafthurm_plan_shape(plan.bytes, plan.size), d, highest);
 }
 
+/* By every call that takes the packet, which it leaves. */
+static void is_14(nafthurm_shape shape, nafthurm_packet packet) {
+    HOLD(nafthurm_packet_check(shape, packet) == 14);
+    for (uint8_t d = 0; d < 8; d++) {
+        nafthurm_stepped there = nafthurm_step(shape, packet, d), back = nafthurm_take_back(shape, packet, d);
+        nafthurm_walked w = nafthurm_walk(shape, packet, &d, 1);
+        HOLD(there.number == 14 && same_packet(there.packet, packet));
+        HOLD(back.number == 14 && same_packet(back.packet, packet));
+        HOLD(w.number == 14 && w.ending == NAFTHURM_REFUSED && w.hops == 0 && same_packet(w.packet, packet));
+    }
+}
+
 static void worked_packets(void) {
     packets_of(WEIGHED, sizeof WEIGHED);
     packets_of(W, sizeof W);
     nafthurm_shape shape = nafthurm_plan_shape(plan.bytes, plan.size);
     /* Endings and refusals of a walk from 0 by 3 and 2 to 1. */
-    nafthurm_packet packet = {0, {{3, 0}, {2, 0}, {1, 0}}, 3};
+    const nafthurm_packet new = {0, 0, {{3, 0}, {2, 0}, {1, 0}}, 3, 0};
+    nafthurm_packet packet = new;
     const uint8_t run[] = {1, 1, 1, 1};
     nafthurm_walked w = nafthurm_walk(shape, packet, run, 4);
-    HOLD(w.ending == NAFTHURM_ARRIVED && w.hops == 3 && w.packet.node == 1 && w.packet.left == 0);
+    HOLD(w.ending == NAFTHURM_ARRIVED && w.hops == 3 && w.packet.node == 1 && w.packet.mark == 3);
     w = nafthurm_walk(shape, packet, run, 2);
-    HOLD(w.ending == NAFTHURM_USED_UP && w.number == 0 && w.hops == 2 && w.packet.node == 2 && w.packet.left == 1);
+    HOLD(w.ending == NAFTHURM_USED_UP && w.number == 0 && w.hops == 2 && w.packet.node == 2 && w.packet.mark == 2);
     const uint8_t wrong[] = {1, 0};
     w = nafthurm_walk(shape, packet, wrong, 2);
-    HOLD(w.ending == NAFTHURM_NOT_ALLOWED && w.number == 15 && w.hops == 1 && w.packet.node == 3 && w.packet.left == 2);
-    packet.left = 4;
+    HOLD(w.ending == NAFTHURM_NOT_ALLOWED && w.number == 15 && w.hops == 1 && w.packet.node == 3 && w.packet.mark == 1);
+    packet.count = 4;
     w = nafthurm_walk(shape, packet, run, 3);
     HOLD(w.ending == NAFTHURM_REFUSED && w.number == 14 && w.hops == 0 && same_packet(w.packet, packet));
-    for (int leg = 0; leg < 3; leg++) {
-        nafthurm_packet outside = {0, {{3, 0}, {2, 0}, {1, 0}}, 3};
-        outside.legs[leg].target = 16;
-        HOLD(nafthurm_step(shape, outside, 1).number == 14);
-        outside.left = (uint8_t)(2 - leg);
-        HOLD(nafthurm_packet_check(shape, outside) == 0); /* of a leg that is not left */
-    }
+    /* 14 of a source, a node, a mark and a target; of legs of the route alone, also where they are travelled. */
+    packet = new, packet.source = 16;
+    is_14(shape, packet);
+    packet = new, packet.node = 16;
+    is_14(shape, packet);
+    for (int count = 0; count <= 3; count++)
+        for (int mark = 0; mark < 256; mark++) {
+            packet = new, packet.count = (uint8_t)count, packet.mark = (uint8_t)mark;
+            if (mark <= count) HOLD(nafthurm_packet_check(shape, packet) == 0);
+            else is_14(shape, packet);
+        }
+    for (int leg = 0; leg < 3; leg++)
+        for (int count = 0; count <= 3; count++)
+            for (int mark = 0; mark <= count; mark++) {
+                packet = new, packet.legs[leg].target = 16, packet.count = (uint8_t)count, packet.mark = (uint8_t)mark;
+                if (leg >= count) HOLD(nafthurm_packet_check(shape, packet) == 0);
+                else is_14(shape, packet);
+            }
     /* Two legs that end where they begin are dropped at once; one behind another waits. */
-    nafthurm_packet here = {0, {{0, 1}, {0, 0}, {3, 0}}, 3}, waits = {0, {{3, 0}, {0, 0}, {0, 0}}, 3};
+    nafthurm_packet here = {0, 0, {{0, 1}, {0, 0}, {3, 0}}, 3, 0}, waits = {0, 0, {{3, 0}, {0, 0}, {0, 0}}, 3, 0};
     nafthurm_stepped s = nafthurm_step(shape, here, 1);
-    HOLD(s.number == 0 && s.packet.node == 3 && s.packet.left == 0);
+    HOLD(s.number == 0 && s.packet.node == 3 && s.packet.mark == 3);
     s = nafthurm_step(shape, waits, 1);
-    HOLD(s.number == 0 && s.packet.node == 3 && s.packet.left == 2);
+    HOLD(s.number == 0 && s.packet.node == 3 && s.packet.mark == 1);
     s = nafthurm_step(shape, s.packet, 0);
-    HOLD(s.number == 0 && s.packet.node == 0 && s.packet.left == 0);
+    HOLD(s.number == 0 && s.packet.node == 0 && s.packet.mark == 3);
     /* Any other byte of a mode is deterministic, and comes back as it was. */
-    nafthurm_packet odd = {0, {{2, 7}, {2, 9}, {2, 200}}, 1};
+    nafthurm_packet odd = {0, 0, {{2, 7}, {2, 9}, {2, 200}}, 1, 0};
     HOLD(nafthurm_step(shape, odd, 1).number == 15);
     s = nafthurm_step(shape, odd, 0);
     HOLD(s.number == 0 && s.packet.node == 1 && s.packet.legs[0].mode == 7 && s.packet.legs[1].mode == 9 && s.packet.legs[2].mode == 200);
@@ -689,19 +731,19 @@ static void worked_packets(void) {
     HOLD(nafthurm_step(shape, odd, 0).number == 6);
     /* A refused route makes a packet that every call refuses. */
     nafthurm_route refused = {11, 176, {0, 0}};
-    HOLD(nafthurm_new_packet(0, 1, refused).left == 255);
+    is_14(nafthurm_plan_shape(plan.bytes, plan.size), nafthurm_new_packet(0, 1, refused));
     for (int kind = 48; kind < 256; kind++) {
         nafthurm_route no_kind = {0, (uint8_t)kind, {0, 0}};
-        HOLD(nafthurm_new_packet(0, 1, no_kind).left == 255);
+        HOLD(nafthurm_new_packet(0, 1, no_kind).count == 255 && nafthurm_new_packet(0, 1, no_kind).mark == 0);
     }
     /* The legs of every kind: a bit for each deterministic one, leg one lowest. */
     for (int vias = 0; vias < 3; vias++)
         for (int modes = 0; modes < 2 << vias; modes++) {
             nafthurm_route route = {0, (uint8_t)(16 * vias + modes), {(uint16_t)(vias > 0 ? 7 : 0), (uint16_t)(vias > 1 ? 9 : 0)}};
             nafthurm_packet made = nafthurm_new_packet(3, 1, route);
-            HOLD(made.node == 3 && made.left == vias + 1);
+            HOLD(made.source == 3 && made.node == 3 && made.count == vias + 1 && made.mark == 0);
             for (int leg = 0; leg <= vias; leg++) {
-                nafthurm_leg l = made.legs[2 - vias + leg];
+                nafthurm_leg l = made.legs[leg];
                 HOLD(l.target == (leg == vias ? 1 : route.via[leg]) && l.mode == (modes >> leg & 1));
             }
         }
@@ -709,7 +751,7 @@ static void worked_packets(void) {
 
 /* Whether a packet of one leg, at a place of a ring and bound for another, both in that dimension, may go plus, and whether minus. */
 static void may_go(nafthurm_shape shape, int stride, int dim, int from, int to, uint8_t mode, int plus, int minus) {
-    nafthurm_packet packet = {(uint16_t)(from * stride), {{0, 0}, {0, 0}, {(uint16_t)(to * stride), mode}}, 1};
+    nafthurm_packet packet = {(uint16_t)(from * stride), (uint16_t)(from * stride), {{(uint16_t)(to * stride), mode}}, 1, 0};
     HOLD(nafthurm_step(shape, packet, (uint8_t)(2 * dim)).number == (plus ? 0 : 15));
     HOLD(nafthurm_step(shape, packet, (uint8_t)(2 * dim + 1)).number == (minus ? 0 : 15));
 }
@@ -741,6 +783,89 @@ static void half_ring_route(void) {
     HOLD(w.ending == NAFTHURM_NOT_ALLOWED && w.hops == 1 && w.packet.node == 3);
 }
 
+/* ---- Hops taken back ---- */
+
+/* The packet before the hop is at the node with the mark; and the hop leads from there to the packet. */
+static void comes_from(nafthurm_shape shape, nafthurm_packet packet, uint8_t direction, uint16_t node, uint8_t mark) {
+    nafthurm_stepped s = nafthurm_take_back(shape, packet, direction);
+    nafthurm_packet before = packet;
+    before.node = node, before.mark = mark;
+    HOLD(s.number == 0 && same_packet(s.packet, before));
+    s = nafthurm_step(shape, before, direction);
+    HOLD(s.number == 0 && same_packet(s.packet, packet));
+}
+
+/* By no direction but those whose bit is set. */
+static void comes_only(nafthurm_shape shape, nafthurm_packet packet, unsigned directions_set) {
+    for (int d = 0; d < 256; d++) {
+        nafthurm_stepped s = nafthurm_take_back(shape, packet, (uint8_t)d);
+        if (d < 6 && directions_set >> d & 1) HOLD(s.number == 0);
+        else HOLD(s.number == 18 && same_packet(s.packet, packet));
+    }
+}
+
+enum { X_PLUS = 1, X_MINUS = 2, Y_PLUS = 4, Y_MINUS = 8 };
+
+static void hops_back(void) {
+    const nafthurm_shape w = {4, 4, 1, 3}, row = {5, 1, 1, 0};
+    /* From 0 by 3 and 2 to 1: at 1 it has arrived; at 3 the first leg has ended, and a mark on it was stored by no hop. */
+    comes_from(w, (nafthurm_packet){0, 1, {{3, 0}, {2, 0}, {1, 0}}, 3, 3}, 1, 2, 2);
+    comes_only(w, (nafthurm_packet){0, 1, {{3, 0}, {2, 0}, {1, 0}}, 3, 3}, X_MINUS);
+    comes_from(w, (nafthurm_packet){0, 3, {{3, 0}, {2, 0}, {1, 0}}, 3, 1}, 1, 0, 0);
+    comes_only(w, (nafthurm_packet){0, 3, {{3, 0}, {2, 0}, {1, 0}}, 3, 0}, 0);
+    comes_only(w, (nafthurm_packet){0, 0, {{3, 0}, {2, 0}, {1, 0}}, 3, 0}, 0);
+    /* From 0 to 5, by 1 or by 4; of a deterministic leg by 1 alone. */
+    comes_from(w, (nafthurm_packet){0, 5, {{5, 0}}, 1, 1}, 0, 4, 0);
+    comes_from(w, (nafthurm_packet){0, 5, {{5, 0}}, 1, 1}, 2, 1, 0);
+    comes_only(w, (nafthurm_packet){0, 5, {{5, 0}}, 1, 1}, X_PLUS | Y_PLUS);
+    comes_only(w, (nafthurm_packet){0, 5, {{5, 1}}, 1, 1}, Y_PLUS);
+    comes_only(w, (nafthurm_packet){0, 4, {{5, 1}}, 1, 0}, 0);
+    /* Half a ring, from an even place and from an odd one; a packet on the other side goes on, and did not come there. */
+    comes_only(w, (nafthurm_packet){0, 2, {{2, 0}}, 1, 1}, X_PLUS | X_MINUS);
+    comes_only(w, (nafthurm_packet){0, 2, {{2, 1}}, 1, 1}, X_PLUS);
+    comes_only(w, (nafthurm_packet){1, 3, {{3, 1}}, 1, 1}, X_MINUS);
+    comes_only(w, (nafthurm_packet){0, 3, {{2, 0}}, 1, 0}, X_MINUS);
+    comes_only(w, (nafthurm_packet){0, 3, {{2, 1}}, 1, 0}, 0);
+    HOLD(nafthurm_step(w, (nafthurm_packet){0, 3, {{2, 1}}, 1, 0}, 1).number == 0);
+    /* In a row from 2 to 0 and on to 4: at 2 on the second leg it is not new. */
+    comes_from(row, (nafthurm_packet){2, 2, {{0, 0}, {4, 1}}, 2, 1}, 0, 1, 1);
+    comes_from(row, (nafthurm_packet){2, 1, {{0, 0}, {4, 1}}, 2, 1}, 0, 0, 1);
+    comes_from(row, (nafthurm_packet){2, 0, {{0, 0}, {4, 1}}, 2, 1}, 1, 1, 0);
+    comes_only(row, (nafthurm_packet){2, 2, {{0, 0}, {4, 1}}, 2, 0}, 0);
+    /* Legs that end where they begin: the mark passes them with the hop before, and back. */
+    comes_from(row, (nafthurm_packet){0, 1, {{1, 0}, {1, 1}, {2, 0}}, 3, 2}, 0, 0, 0);
+    comes_only(row, (nafthurm_packet){0, 1, {{1, 0}, {1, 1}, {2, 0}}, 3, 1}, 0);
+    comes_from(row, (nafthurm_packet){0, 1, {{1, 0}, {1, 1}, {1, 0}}, 3, 3}, 0, 0, 0);
+    comes_from(row, (nafthurm_packet){0, 1, {{0, 0}, {0, 1}, {2, 0}}, 3, 2}, 0, 0, 2);
+    comes_only(row, (nafthurm_packet){0, 0, {{0, 0}, {0, 1}, {2, 0}}, 3, 2}, 0);
+    /* To the node itself, without a leg, and past the last leg elsewhere than at its target. */
+    comes_only(row, nafthurm_new_packet(3, 3, (nafthurm_route){0, 0, {0, 0}}), 0);
+    comes_only(row, (nafthurm_packet){3, 3, {{3, 0}}, 0, 0}, 0);
+    comes_only(row, (nafthurm_packet){3, 4, {{3, 0}}, 0, 0}, 0);
+    comes_only(row, (nafthurm_packet){0, 3, {{4, 0}}, 1, 1}, 0);
+    /* Legs behind the route are kept, and a mode as it was. */
+    comes_from(row, (nafthurm_packet){0, 1, {{2, 200}, {65535, 9}, {5, 7}}, 1, 0}, 0, 0, 0);
+    /* 5 and 6 come first. */
+    nafthurm_packet bad = {9, 1, {{2, 0}}, 1, 2};
+    HOLD(nafthurm_take_back((nafthurm_shape){17, 1, 1, 0}, bad, 6).number == 5);
+    HOLD(nafthurm_take_back((nafthurm_shape){2, 1, 1, 1}, bad, 6).number == 6);
+    HOLD(nafthurm_take_back(row, bad, 6).number == 14);
+}
+
+/* A new packet's mark is on the first leg whose target is not its source. */
+static void new_marks(void) {
+    for (uint8_t kind = 0; kind < 3; kind++)
+        for (int ends = 0; ends < 8; ends++) {
+            uint16_t stops[3];
+            int mark = 0;
+            for (int leg = 0; leg < 3; leg++) stops[leg] = ends >> leg & 1 ? 3 : (uint16_t)(5 + leg);
+            uint16_t destination = stops[kind];
+            while (mark <= kind && stops[mark] == 3) mark++;
+            nafthurm_packet packet = nafthurm_new_packet(3, destination, (nafthurm_route){0, (uint8_t)(16 * kind), {stops[0], stops[1]}});
+            HOLD(packet.source == 3 && packet.node == 3 && packet.count == kind + 1 && packet.mark == mark);
+        }
+}
+
 /* ---- The stack ---- */
 
 static uint8_t stack[1 << 19] __attribute__((aligned(64)));
@@ -748,11 +873,11 @@ static uint8_t big_input[2 + NAFTHURM_PLAN_BYTES], *const big_plan = big_input +
 static uint8_t big_out[NAFTHURM_LISTING_BYTES], run_of_45[45];
 static uint16_t big_work[NAFTHURM_ALL_WORDS];
 static size_t big_sheet_size;
-static ucontext_t back, on_stack;
+static ucontext_t main_stack, on_stack;
 static volatile size_t answer;
 
 static const nafthurm_shape CUBE = {16, 16, 16, 7};
-static const nafthurm_packet THREE_LEGS = {0, {{7, 0}, {9, 1}, {11, 0}}, 3};
+static const nafthurm_packet THREE_LEGS = {0, 0, {{7, 0}, {9, 1}, {11, 0}}, 3, 0}, ARRIVED = {0, 11, {{7, 0}, {9, 1}, {11, 0}}, 3, 3};
 
 static void no_call(void) { answer = 0; }
 static void calls_plan_check(void) { answer = nafthurm_plan_check(big_plan, NAFTHURM_PLAN_BYTES); }
@@ -778,6 +903,7 @@ static void calls_lookup_route(void) { answer = nafthurm_lookup_route(big_plan, 
 static void calls_convert(void) { answer = nafthurm_convert(big_plan, NAFTHURM_PLAN_BYTES, big_old, sizeof big_old, big_out, sizeof big_out).size; }
 static void calls_packet_check(void) { answer = nafthurm_packet_check(CUBE, THREE_LEGS); }
 static void calls_step(void) { answer = nafthurm_step(CUBE, THREE_LEGS, 0).number; }
+static void calls_take_back(void) { answer = nafthurm_take_back(CUBE, ARRIVED, 0).number; }
 static void calls_walk(void) { answer = nafthurm_walk(CUBE, THREE_LEGS, run_of_45, sizeof run_of_45).hops; }
 
 /* The bytes of stack that the call changes. */
@@ -786,9 +912,9 @@ static size_t stack_of(void (*call)(void)) {
     HOLD(getcontext(&on_stack) == 0);
     on_stack.uc_stack.ss_sp = stack;
     on_stack.uc_stack.ss_size = sizeof stack;
-    on_stack.uc_link = &back;
+    on_stack.uc_link = &main_stack;
     makecontext(&on_stack, call, 0);
-    HOLD(swapcontext(&back, &on_stack) == 0);
+    HOLD(swapcontext(&main_stack, &on_stack) == 0);
     size_t untouched = 0;
     while (untouched < sizeof stack && stack[untouched] == 0xC3) untouched++;
     return sizeof stack - untouched;
@@ -832,7 +958,7 @@ static void make_big(void) {
 
 static void stack_use(void) {
     void (*small[])(void) = {calls_plan_check, calls_plan_shape, calls_plan_weights, calls_dead_node, calls_dead_link, calls_plan_write_back,
-                             calls_sheet_check, calls_sheet_write_back, calls_lookup, calls_lookup_route, calls_convert, calls_packet_check, calls_step, calls_walk};
+                             calls_sheet_check, calls_sheet_write_back, calls_lookup, calls_lookup_route, calls_convert, calls_packet_check, calls_step, calls_take_back, calls_walk};
     make_big();
     size_t without = stack_of(no_call), most = 0;
     for (size_t i = 0; i < sizeof small / sizeof *small; i++) {
@@ -873,6 +999,8 @@ int main(int count, char **words) {
     worked_packets();
     half_rings();
     half_ring_route();
-    puts("W and its edges are as documents 01 and 02 have them, a machine with weights goes by weight, half a ring by where it begins, old sheets keep their walks");
+    hops_back();
+    new_marks();
+    puts("W and its edges are as documents 01 and 02 have them, a machine with weights goes by weight, half a ring by where it begins, old sheets keep their walks, hops are taken back");
     return 0;
 }

@@ -1,4 +1,4 @@
-//! Document 01's worked machine W and its edges, a machine with weights, half rings, and old route sheets.
+//! Document 01's worked machine W and its edges, a machine with weights, half rings, old route sheets, and hops taken back.
 use nafthurm::Mode::{Adaptive, Deterministic};
 use nafthurm::*;
 
@@ -207,18 +207,49 @@ fn packets() {
         assert_eq!((packet.node, taken.len()), (destination, planned.length as usize));
         let walked = new.walk(shape, &taken);
         assert_eq!((walked.packet.node, walked.hops, walked.ending), (destination, taken.len(), Ending::Arrived));
+        while let Some(direction) = taken.pop() {
+            let before = packet.take_back(shape, direction).unwrap();
+            assert_eq!(before.step(shape, direction), Ok(packet));
+            packet = before;
+        }
+        assert_eq!(packet, new);
+        assert!((0..=255).all(|direction| new.take_back(shape, direction) == Err(Refused(18))));
     }
     let packet = Packet::new(0, 2, Route::Via(3, Adaptive, Adaptive));
     assert_eq!(packet.walk(shape, &[1]).ending, Ending::UsedUp);
     assert_eq!(packet.walk(shape, &[1, 0]).ending, Ending::NotAllowed);
     assert_eq!(packet.step(shape, 6), Err(Refused(15)));
     let three = Packet::new(0, 1, Route::Vias(3, 2, Adaptive, Deterministic, Adaptive));
-    assert_eq!((three.left, three.legs.map(|leg| (leg.target, leg.mode))), (3, [(3, Adaptive), (2, Deterministic), (1, Adaptive)]));
-    assert_eq!(three.walk(shape, &[1, 1]).packet.left, 1);
+    assert_eq!((three.count, three.legs.map(|leg| (leg.target, leg.mode))), (3, [(3, Adaptive), (2, Deterministic), (1, Adaptive)]));
+    assert_eq!((three.source, three.node, three.mark, three.walk(shape, &[1, 1]).packet.mark), (0, 0, 0, 2));
+    assert_eq!(Packet::new(3, 3, Route::Direct(Adaptive)).mark, 1);
     assert_eq!((three.walk(shape, &[1, 1, 1]).packet.node, three.walk(shape, &[1, 1, 1]).ending), (1, Ending::Arrived));
-    let four = Packet { left: 4, ..packet };
+    let four = Packet { count: 4, ..packet };
     assert_eq!(four.walk(shape, &[1]), Walked { packet: four, hops: 0, ending: Ending::Refused(Refused(14)) });
     assert_eq!(four.step(Shape { x: 17, ..shape }, 1), Err(Refused(5)));
+}
+
+/// By any direction in which an allowed walk of the route ends at the packet.
+#[test]
+fn hops_back() {
+    let shape = plan_shape(&W);
+    let back = |source, node, legs: &[(u16, Mode)], mark| {
+        let mut all = [Leg { target: 60000, mode: Adaptive }; 3];
+        for (i, &(target, mode)) in legs.iter().enumerate() {
+            all[i] = Leg { target, mode };
+        }
+        let packet = Packet { source, node, legs: all, count: legs.len() as u8, mark };
+        let before = |d| packet.take_back(shape, d).ok().map(|b| (d, b.node, b.mark));
+        (0..=255).filter_map(before).collect::<Vec<(u8, u16, u8)>>()
+    };
+    assert_eq!(back(0, 5, &[(5, Adaptive)], 1), [(0, 4, 0), (2, 1, 0)]);
+    assert_eq!(back(0, 5, &[(5, Deterministic)], 1), [(2, 1, 0)]);
+    assert_eq!((back(0, 2, &[(2, Deterministic)], 1), back(1, 3, &[(3, Deterministic)], 1)), (vec![(0, 1, 0)], vec![(1, 0, 0)]));
+    assert_eq!(back(0, 3, &[(2, Deterministic)], 0), []);
+    assert_eq!(back(0, 1, &[(1, Adaptive), (1, Deterministic), (2, Adaptive)], 2), [(0, 0, 0)]);
+    assert_eq!(back(0, 1, &[(1, Adaptive), (1, Deterministic), (2, Adaptive)], 1), []);
+    assert_eq!(back(0, 0, &[(1, Adaptive), (3, Deterministic)], 1), [(1, 1, 1)]);
+    assert_eq!(Packet { mark: 2, ..Packet::new(0, 5, Route::Direct(Adaptive)) }.take_back(shape, 6), Err(Refused(14)));
 }
 
 #[test]

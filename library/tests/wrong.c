@@ -476,30 +476,45 @@ AROUND(nafthurm_converted, nafthurm_convert, const uint8_t *plan, size_t plan_si
 
 AROUND(nafthurm_packet, nafthurm_new_packet, uint16_t source, uint16_t destination, nafthurm_route route) {
     nafthurm_packet packet = __real_nafthurm_new_packet(source, destination, route);
-    if (wrong(35) && packet.left == 255) packet.left = 0;
-    if (wrong(164) && packet.left == 3) packet.legs[1].mode = packet.legs[2].mode;
+    if (wrong(35) && packet.count == 255) packet.count = 0;
+    if (wrong(164) && packet.count == 3) packet.legs[1].mode = packet.legs[2].mode;
+    if (wrong(170)) packet.mark = 0; /* on the first leg, be it at its end or not */
     return packet;
+}
+
+/* Whether a packet that is 14 would not be without a look at its source, at its mark, or at its legs from one number on, up to another. */
+static int good_but(nafthurm_shape s, nafthurm_packet packet, int source, int mark, int from, int to) {
+    if (source) packet.source = 0;
+    for (int leg = from; leg < to; leg++) packet.legs[leg].target = 0;
+    if (mark) packet.mark = 0;
+    return packet_number(s, packet) == 0;
 }
 
 AROUND(uint8_t, nafthurm_packet_check, nafthurm_shape shape, nafthurm_packet packet) {
     uint8_t number = __real_nafthurm_packet_check(shape, packet);
-    if (wrong(36) && (number == 5 || number == 6) && packet.left > 3) return 14;                                    /* 14 before 5 and 6 */
-    if (wrong(37) && number == 14 && packet.left <= 3 && packet.node == nodes_of(shape)) return 0;                  /* just outside the shape */
-    if (wrong(38) && number == 14 && packet.left == 2 && packet.node < nodes_of(shape) && packet.legs[1].target < nodes_of(shape)) return 0;
-    if (wrong(39) && number == 0 && packet.left < 3 && packet.legs[0].target >= nodes_of(shape)) return 14;         /* of a leg that is not left */
-    if (wrong(165) && number == 0 && packet.left == 3) return 14;                                                   /* two legs at most */
-    if (wrong(166) && number == 14 && packet.left == 3 && packet.node < nodes_of(shape) && packet.legs[0].target < nodes_of(shape) && packet.legs[1].target < nodes_of(shape)) return 0;
+    if (wrong(36) && (number == 5 || number == 6) && packet.count > 3) return 14;                                   /* 14 before 5 and 6 */
+    if (wrong(37) && number == 14 && packet.count <= 3 && packet.node == nodes_of(shape)) return 0;                 /* just outside the shape */
+    if (wrong(38) && number == 14 && packet.count == 2 && good_but(shape, packet, 0, 0, 1, 2)) return 0;
+    if (wrong(39) && number == 0 && packet.count < 3 && packet.legs[2].target >= nodes_of(shape)) return 14;        /* of a leg behind the route */
+    if (wrong(165) && number == 0 && packet.count == 3) return 14;                                                  /* two legs at most */
+    if (wrong(166) && number == 14 && packet.count == 3 && good_but(shape, packet, 0, 0, 2, 3)) return 0;
+    if (wrong(171) && number == 14 && packet.mark == packet.count + 1 && good_but(shape, packet, 0, 1, 0, 0)) return 0;
+    if (wrong(172) && number == 14 && good_but(shape, packet, 1, 0, 0, 0)) return 0;
+    if (wrong(173) && number == 14 && packet.mark <= 3 && good_but(shape, packet, 0, 0, 0, packet.mark)) return 0; /* travelled legs are not judged */
     return number;
 }
 
 static int most_extent(nafthurm_shape s) { return s.x > s.y ? (s.x > s.z ? s.x : s.z) : s.y > s.z ? s.y : s.z; }
 
-/* Whether the front leg has its target half a ring away in the direction's dimension. */
+/* Whether the current leg has its target half a ring away in the direction's dimension. */
 static int at_half(nafthurm_shape s, nafthurm_packet packet, int direction) {
-    int left = dropped(packet).left, dim = direction / 2;
-    if (left == 0 || direction > 5 || !wrapped(s, dim)) return 0;
-    return 2 * abs(place(s, packet.node, dim) - place(s, packet.legs[MOST_LEGS - left].target, dim)) == extent(s, dim);
+    int dim = direction / 2;
+    if (arrived(packet) || direction > 5 || !wrapped(s, dim)) return 0;
+    return 2 * abs(place(s, packet.node, dim) - place(s, packet.legs[dropped(packet).mark].target, dim)) == extent(s, dim);
 }
+
+/* With the drops stored, of a packet with no more legs than it holds. */
+static nafthurm_packet settled(nafthurm_packet packet) { return packet.count <= MOST_LEGS ? dropped(packet) : packet; }
 
 static nafthurm_stepped step_by(half_rule *rule, nafthurm_shape shape, nafthurm_packet packet, uint8_t direction) {
     begin_rule(rule, packet.node);
@@ -511,19 +526,23 @@ static nafthurm_stepped step_by(half_rule *rule, nafthurm_shape shape, nafthurm_
 AROUND(nafthurm_stepped, nafthurm_step, nafthurm_shape shape, nafthurm_packet packet, uint8_t direction) {
     if (wrong(40) && most_extent(shape) > 6) return (nafthurm_stepped){packet, 5};
     if (wrong(41) && most_extent(shape) > 6) shape.wrap &= 0xF8; /* long rings as if they were open */
-    if (wrong(42) && packet.left == 4) packet.left = 3;       /* a fourth leg is not counted */
+    if (wrong(42) && packet.count == 4) packet.count = 3;     /* a fourth leg is not counted */
     half_rule *rule = wrong(46) ? always_plus : wrong(77) ? from_odd : wrong(78) ? by_target : wrong(79) ? by_number : NULL;
     if (rule != NULL) return step_by(rule, shape, packet, direction);
     nafthurm_stepped s = __real_nafthurm_step(shape, packet, direction);
-    nafthurm_packet ready = dropped(packet);
-    if (wrong(43) && s.number == 15 && packet.left == 2 && ready.left == 1) s.packet = ready;                                   /* a refusal stores drops */
-    if (wrong(44) && s.number == 0 && packet.left == 2 && ready.left == 2 && s.packet.left == 1) s.packet.left = 2;             /* a via dropped late */
-    if (wrong(167) && s.number == 0 && packet.left == 3 && ready.left == 3 && s.packet.left == 1) s.packet.left = 2;            /* two legs never dropped at once */
-    if (wrong(168) && s.number == 0 && packet.left == 3 && ready.left == 1) s.packet.left = (uint8_t)(s.packet.left + 1);
-    if (wrong(45) && s.number == 0 && ready.left < packet.left) return (nafthurm_stepped){packet, 15};                          /* not judged after drops */
+    nafthurm_packet ready = settled(packet);
+    int drops = ready.mark - packet.mark, further = s.packet.mark - ready.mark;
+    if (wrong(43) && s.number == 15 && drops == 1) s.packet = ready;                                                            /* a refusal stores drops */
+    if (wrong(44) && s.number == 0 && packet.count == 2 && drops == 0 && further == 1) s.packet.mark--;                         /* a via dropped late */
+    if (wrong(167) && s.number == 0 && drops == 0 && further == 2) s.packet.mark--;                                             /* two legs never dropped at once */
+    if (wrong(168) && s.number == 0 && drops == 2) s.packet.mark--;
+    if (wrong(45) && s.number == 0 && drops > 0) return (nafthurm_stepped){packet, 15};                                         /* not judged after drops */
     if (wrong(47) && s.number == 0 && at_half(shape, packet, direction) && direction % 2) return (nafthurm_stepped){packet, 15}; /* half a ring as one direction */
     if (wrong(80) && s.number == 0 && at_half(shape, packet, direction) && direction % 2 != place(shape, packet.node, direction / 2) % 2)
         return (nafthurm_stepped){packet, 15}; /* adaptive legs by the coordinate too */
+    if (wrong(174) && s.number == 0) s.packet.source = packet.node;
+    if (wrong(175) && s.number == 0 && packet.count < 3) s.packet.legs[2] = (nafthurm_leg){0, 0};
+    if (wrong(176) && s.number == 0 && !reached(shape, packet)) return (nafthurm_stepped){packet, 15}; /* no allowed hops reach it */
     return s;
 }
 
@@ -545,5 +564,80 @@ AROUND(nafthurm_walked, nafthurm_walk, nafthurm_shape shape, nafthurm_packet pac
     if (wrong(51) && w.ending == NAFTHURM_ARRIVED && w.hops < directions_size) w.ending = NAFTHURM_NOT_ALLOWED, w.number = 15; /* bytes past the arrival judged */
     if (wrong(52) && w.ending == NAFTHURM_ARRIVED && w.hops == directions_size) w.ending = NAFTHURM_USED_UP;                   /* used up before arrived */
     if (wrong(53) && w.ending != NAFTHURM_REFUSED && w.hops == 0) w.packet = dropped(packet); /* drops stored without a hop */
+    if (wrong(177) && w.ending == NAFTHURM_ARRIVED && packet.count < 3) w.packet.mark = 3;
     return w;
+}
+
+/* ---- Hops taken back ---- */
+
+static nafthurm_stepped back_by(half_rule *rule, nafthurm_shape shape, nafthurm_packet packet, uint8_t direction) {
+    begin_rule(rule, packet.source);
+    nafthurm_stepped b = model_take_back(shape, packet, direction);
+    end_rule();
+    return b;
+}
+
+/* Any packet at the node before from which the hop leads here, on its leg's walks or not. */
+static nafthurm_stepped back_from_anywhere(nafthurm_shape shape, nafthurm_packet packet, uint8_t direction) {
+    nafthurm_packet before = packet;
+    before.node = (uint16_t)over(shape, packet.node, direction ^ 1);
+    for (before.mark = 0; before.mark <= packet.mark; before.mark++) {
+        nafthurm_stepped hop = model_step(shape, before, direction);
+        if (hop.number == 0 && same_packet(hop.packet, packet)) return (nafthurm_stepped){before, 0};
+    }
+    return (nafthurm_stepped){packet, 18};
+}
+
+/* As if the walk up to the hop could have been an adaptive one. */
+static nafthurm_stepped back_as_adaptive(nafthurm_shape shape, nafthurm_packet packet, uint8_t direction) {
+    nafthurm_packet adaptive = packet;
+    for (int leg = 0; leg < MOST_LEGS; leg++) adaptive.legs[leg].mode = 0;
+    nafthurm_stepped b = model_take_back(shape, adaptive, direction);
+    memcpy(b.packet.legs, packet.legs, sizeof packet.legs);
+    return b.number == 0 && same_packet(model_step(shape, b.packet, direction).packet, packet) ? b : (nafthurm_stepped){packet, 18};
+}
+
+/* Whether the leg of the hop, if it began at the source, could have been taken by it. */
+static int back_from_source(nafthurm_shape shape, nafthurm_packet packet, nafthurm_packet before, uint8_t direction) {
+    nafthurm_packet alone = {packet.source, packet.node, {packet.legs[before.mark]}, 1, packet.mark > before.mark};
+    return model_take_back(shape, alone, direction).number == 0;
+}
+
+static int begins(nafthurm_packet packet) { return packet.mark == 0 ? packet.source : packet.legs[packet.mark - 1].target; }
+
+/* Of a packet that no check declines, where 18 is the answer or where it is not. */
+static nafthurm_stepped wrong_of_back(nafthurm_stepped b, nafthurm_shape shape, nafthurm_packet packet, uint8_t direction) {
+    const nafthurm_stepped none = {packet, 18};
+    if (wrong(185) && direction < 6 && over(shape, packet.node, direction ^ 1) >= 0) return back_from_anywhere(shape, packet, direction);
+    if (wrong(186)) return back_as_adaptive(shape, packet, direction);
+    if (wrong(187) && b.number == 18) b.packet = dropped(packet);           /* a refusal stores drops */
+    if (wrong(188) && b.number == 18) b.number = 15;
+    if (b.number != 0) return b;
+    nafthurm_leg leg = packet.legs[b.packet.mark];
+    if (wrong(189)) b.packet.mark = packet.mark;
+    if (wrong(190) && b.packet.mark + 1 < packet.mark) b.packet.mark = (uint8_t)(packet.mark - 1); /* onto an empty leg */
+    if (wrong(191)) b.packet.source = packet.node;
+    if (wrong(192) && packet.count < 3) b.packet.legs[2] = (nafthurm_leg){0, 0};
+    if (wrong(193) && packet.mark == packet.count) return none;             /* not where it has arrived */
+    if (wrong(194) && packet.node == packet.source) return none;            /* not where it passes the source again */
+    if (wrong(195) && b.packet.node == packet.source && b.packet.mark > 0) return none;
+    if (wrong(196) && hops(shape, begins(b.packet), leg.target) > 12) return none;
+    if (wrong(197) && b.packet.mark > 0 && !back_from_source(shape, packet, b.packet, direction)) return none;
+    for (uint8_t d = 0; wrong(198) && d < direction; d++)
+        if (model_take_back(shape, packet, d).number == 0) return none;          /* one direction alone */
+    if (wrong(199) && b.packet.mark == 2) return none;
+    if (wrong(200) && over(shape, b.packet.node, direction) != b.packet.node + (direction % 2 ? -1 : 1) * stride(shape, direction / 2)) return none; /* over a closing link */
+    return b;
+}
+
+AROUND(nafthurm_stepped, nafthurm_take_back, nafthurm_shape shape, nafthurm_packet packet, uint8_t direction) {
+    if (wrong(178)) return __real_nafthurm_take_back(shape, settled(packet), direction); /* judged after drops */
+    if (wrong(179) && direction > 5) direction = (uint8_t)(direction - 6);
+    if (wrong(180) && packet.mark == packet.count + 1) packet.mark--;
+    half_rule *rule = wrong(181) ? always_plus : wrong(182) ? from_odd : wrong(183) ? by_target : wrong(184) ? by_first : NULL;
+    if (rule != NULL) return back_by(rule, shape, packet, direction);
+    nafthurm_stepped b = __real_nafthurm_take_back(shape, packet, direction);
+    if (wrong(201) && b.number == 14 && direction > 5) b.number = 18;                    /* 18 before 14 */
+    if (wrong(202) && (b.number == 5 || b.number == 6) && packet.mark > packet.count) b.number = 14;
+    return b.number == 0 || b.number == 18 ? wrong_of_back(b, shape, packet, direction) : b;
 }

@@ -16,9 +16,11 @@ use Rattle.machine.specs.Torus.{leg, torus}
 use Rattle.machine.proofs.Nodes.{node-of}
 use Rattle.machine.proofs.Torus.{torus-laws}
 use Rattle.packet.specs.declared.route.Route.{Route}
-use Rattle.packet.specs.Packet.{stored, WellStored}
+use Rattle.legs.specs.Backward.{backward}
+use Rattle.legs.proofs.Backward.{torus-backward}
+use Rattle.packet.specs.Packet.{kept, WellStored}
 use Rattle.packet.specs.New.{legsTo, newPacket}
-use Rattle.packet.proofs.Stored.{stored-laws}
+use Rattle.packet.proofs.Stored.{kept-laws, check-laws}
 use Rattle.packet.proofs.New.{new-is}
 use Rattle.weights.specs.declared.weights.Weights.{Weights}
 use Rattle.weights.specs.Weights.{ones}
@@ -98,7 +100,7 @@ module _ (L : Limits) (p : List ℕ) (S D : ℕ) (e : planError L p ≡ 0) (hS :
       let from = node-of s S hS in
       let to = node-of s D hD in
       let planned =
-      planned-is (torus s) (torus-laws s (from .sound)) (stored s) WellStored (stored-laws s (from .sound)) (soundIn p)
+      planned-is (torus s) (torus-laws s (from .sound)) (backward s) (torus-backward s (from .sound)) (kept s) (kept-laws s) WellStored (check-laws s (from .sound)) (soundIn p)
       (before (farIn p) S) (before-order (farIn p) S) (AdmitsIn s S D) (choices s S D) (λ c. (admits-lists mostVias (nodeCount s) S D c, lists-admits mostVias (nodeCount s) S D c))
       S D (from .below) (admits-inside s S D (to .below)) (λ c h. h .ends)
       (newPacket S) (λ c h. new-is s S c (admits-few s S D c h))

@@ -8,7 +8,8 @@ use Rattle.theory.specs.Plan.{Planned}
 use Rattle.shape.specs.declared.shape.Shape.{Shape}
 use Rattle.machine.specs.Torus.{torus}
 use Rattle.packet.specs.declared.route.Route.{Route}
-use Rattle.packet.specs.Packet.{stored, WellStored}
+use Rattle.legs.specs.Backward.{backward}
+use Rattle.packet.specs.Packet.{kept, WellStored}
 use Rattle.packet.specs.New.{legsTo, newPacket}
 use Rattle.weights.specs.declared.weights.Weights.{Weights}
 use Rattle.weights.specs.Weights.{ones}
@@ -30,10 +31,10 @@ pub record Tells (w : Weights) (s : Shape) (S D : ℕ) (a : Answer) (c : Choice)
   pub hops : w ≡ ones → lengthFrom (distance w s) S c ≡ hopsOf (torus s) S c
 
 -- Of an answer for S and D under the plan p: it refuses with 11 exactly when no admitted choice is clear; otherwise it gives one that is admitted,
--- clear, first in the order and to D, with a new packet of it, and of every new packet and every list of step and walk calls the whole claim. The order
--- is by weight, the runs are by hops.
+-- clear, first in the order and to D, with a new packet of it, and of every new packet and every list of step and walk calls the whole claim, also where
+-- hops are taken back among them. The order is by weight, the runs are by hops.
 pub record PlannedIn (p : List ℕ) (S D : ℕ) (a : Answer) : Type 0 where
-  pub planned : Planned (torus (shapeOf p)) (stored (shapeOf p)) WellStored (soundIn p) (before (farIn p) S) (AdmitsIn (shapeOf p) S D) S D (a ≡ Refused noClearChoice) (λ c. a ≡ Given c) (newPacket S)
+  pub planned : Planned (torus (shapeOf p)) (backward (shapeOf p)) (kept (shapeOf p)) WellStored (soundIn p) (before (farIn p) S) (AdmitsIn (shapeOf p) S D) S D (a ≡ Refused noClearChoice) (λ c. a ≡ Given c) (newPacket S)
   pub tells : (c : Choice) → a ≡ Given c → Tells (weightsOf p) (shapeOf p) S D a c
 
 abbrev pub Demand : Limits → List ℕ → ℕ → ℕ → Type 0

@@ -25,6 +25,9 @@ fn operation(given: &[u8], out: &mut [u8], at: usize) -> usize {
     if same(name, b"walk") {
         return walk::answer(given, out, at);
     }
+    if same(name, b"takeback") {
+        return step::answer_back(given, out, at);
+    }
     plan_operation(name, given, out, at)
 }
 
@@ -85,6 +88,9 @@ fn planner_operation(name: &[u8], given: &[u8], out: &mut [u8], at: usize) -> us
 // The operations that run packets along planned routes.
 fn run_operation(name: &[u8], given: &[u8], out: &mut [u8], at: usize) -> usize {
     if same(name, b"run") {
+        return run_cases::answer_pair(given, out, at);
+    }
+    if same(name, b"runback") {
         return run_cases::answer_pair(given, out, at);
     }
     if same(name, b"sheetrun") {

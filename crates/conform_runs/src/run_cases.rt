@@ -1,4 +1,4 @@
-// The operations `run` and `sheetrun`: the new packet of a planned route is given to a list of step and walk calls under the plan's extents and wrap. The
+// The operations `run`, `runback` and `sheetrun`: the new packet of a planned route is given to a list of calls under the plan's extents and wrap. The
 // route is what planning a pair gives, or what the sheet that planning from the source writes says of the destination.
 use crate::along_route::put_run;
 use choice::Outcome;
@@ -31,7 +31,7 @@ fn run_pair(line: &[u8], plan: &[u8], source: u16, dest: u16, out: &mut [u8], at
     }
 }
 
-// Writes the answer to a line `run plan=.. source=.. destination=.. calls=..`.
+// Writes the answer to a line `run plan=.. source=.. destination=.. calls=..`; `runback` is the same.
 pub fn answer_pair(line: &[u8], out: &mut [u8], at: usize) -> usize {
     let mut bytes = [0u8; PLAN_BYTES];
     let PairField::Pair(size, source, dest) = read_pair(line, &mut bytes) else {

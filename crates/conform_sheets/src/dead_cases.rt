@@ -1,5 +1,6 @@
 // The operations `dead` and `masks`: what a plan's faults make dead.
 use conform_fields::answers::unreadable;
+use conform_fields::directions::read_direction;
 use conform_fields::sheets::PLAN_BYTES;
 use conform_fields::sheets::read_plan;
 use dead::dead_masks;
@@ -29,7 +30,7 @@ pub fn answer_dead(line: &[u8], out: &mut [u8], at: usize) -> usize {
     let Word::Value(node) = decimal::read_word(field::value(line, b"node=")) else {
         return unreadable(out, at);
     };
-    let Byte::Value(direction) = decimal::read_byte(field::value(line, b"direction=")) else {
+    let Byte::Value(direction) = read_direction(line) else {
         return unreadable(out, at);
     };
     let sheet = front(&bytes, size);

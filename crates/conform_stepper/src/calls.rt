@@ -1,7 +1,8 @@
-// Lists of step and walk calls as text, `s00,w0001,w`: `s` and a direction, `w` and a run; `-` for none.
+// Lists of calls on a packet as text, `s00,w0001,w,b00`: `s` and a direction is a step, `w` and a run a walk, `b` and a direction a hop taken back; `-` for none.
 use crate::endings::put_ending;
 use conform_fields::lists::put_comma;
 use packet::Packet;
+use packet::Stepped;
 use shape::Shape;
 use text::compare::same;
 use text::compare::starts_with;
@@ -31,16 +32,26 @@ fn run_of(readable: bool, packet: Packet, end: usize) -> Run {
     }
 }
 
-// Writes the number that a step answers.
-fn step(directions: &[u8], shape: Shape, packet: Packet, out: &mut [u8], at: usize) -> Run {
-    if directions.len() != 1 {
-        return run_of(false, packet, at);
-    }
-    let stepped = packet.step(shape, directions[0]);
+// Writes the number that a step, or taking a hop back, answers.
+fn put_stepped(stepped: Stepped, out: &mut [u8], at: usize) -> Run {
     let after = stepped.packet;
     let answer = stepped.answer;
     let end = decimal::put(out, at, answer.number() as u64);
     run_of(true, after, end)
+}
+
+fn step(directions: &[u8], shape: Shape, packet: Packet, out: &mut [u8], at: usize) -> Run {
+    if directions.len() != 1 {
+        return run_of(false, packet, at);
+    }
+    put_stepped(packet.step(shape, directions[0]), out, at)
+}
+
+fn take_back(directions: &[u8], shape: Shape, packet: Packet, out: &mut [u8], at: usize) -> Run {
+    if directions.len() != 1 {
+        return run_of(false, packet, at);
+    }
+    put_stepped(packet.take_back(shape, directions[0]), out, at)
 }
 
 // Writes `hops+ending` of a walk.
@@ -74,6 +85,9 @@ fn call(s: &[u8], shape: Shape, packet: Packet, out: &mut [u8], at: usize) -> Ru
     }
     if starts_with(s, b"w") {
         return walk(directions, shape, packet, out, at);
+    }
+    if starts_with(s, b"b") {
+        return take_back(directions, shape, packet, out, at);
     }
     run_of(false, packet, at)
 }

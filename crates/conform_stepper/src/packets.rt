@@ -1,4 +1,4 @@
-// Packets as text: `node;target:mode,target:mode`.
+// Packets as text, `source;node;mark;target:mode,target:mode`: the legs are the whole route, and the mark is the number of one, counted from 0.
 use conform_fields::answers::put_number;
 use conform_fields::legs::put_leg;
 use conform_fields::lists::put_comma;
@@ -9,8 +9,10 @@ use machine::leg::Mode;
 use packet::Legs;
 use packet::MOST_LEGS;
 use packet::Packet;
+use packet::Stepped;
 use shape::Shape;
 use text::decimal;
+use text::decimal::Byte;
 use text::decimal::Word;
 use text::field;
 use text::part::after;
@@ -18,6 +20,8 @@ use text::part::before;
 use text::part::part;
 use text::put;
 use text::scan;
+ghost use Prim.Native.Nat.{_≤_};
+ghost use Rattle.packet.specs.Packet.{mostLegs};
 
 // The shape and the packet of a line, if both can be read.
 pub(crate) struct Case {
@@ -68,31 +72,30 @@ fn leg(s: &[u8]) -> LegField {
 }
 
 // A packet with no legs.
-fn resting(node: u16) -> Packet {
+fn without_legs(source: u16, node: u16, mark: u8) -> Packet {
     let leg = Leg {
         target: 0,
         mode: Mode::Adaptive,
     };
-    Packet::with(node, [leg; MOST_LEGS], 0)
+    Packet::with(source, node, [leg; MOST_LEGS], 0, mark)
 }
 
-// The legs, each a place nearer to the front, and one more behind them.
-fn moved_up(legs: Legs, leg: Leg) -> Legs {
+// The legs with another at place i, if there is such a place.
+fn put_at(legs: Legs, i: usize, leg: Leg) -> Legs {
     let mut next = legs;
-    let mut i = 1;
-    while i < MOST_LEGS {
-        next[i - 1] = legs[i];
-        i += 1;
+    if i < MOST_LEGS {
+        next[i] = leg;
     }
-    next[MOST_LEGS - 1] = leg;
     next
 }
 
 // The packet with one more leg behind those that it has. Of more legs than it can hold it keeps the count, which the stepper declines.
 fn with_leg(packet: Packet, leg: Leg) -> Packet {
-    let left = packet.left;
-    let legs = moved_up(packet.legs, leg);
-    Packet::with(packet.node, legs, if left < 255 { left + 1 } else { left })
+    let count = packet.count;
+    let route = packet.legs;
+    let longer = put_at(route, count as usize, leg);
+    let more = if count < 255 { count + 1 } else { count };
+    Packet::with(packet.source, packet.node, longer, more, packet.mark)
 }
 
 fn readable(packet: Packet) -> PacketField {
@@ -105,13 +108,13 @@ fn readable(packet: Packet) -> PacketField {
 fn bad_packet() -> PacketField {
     PacketField {
         readable: false,
-        packet: resting(0),
+        packet: without_legs(0, 0, 0),
     }
 }
 
-// A packet at `node` with the legs of `s`, with commas between them; none where `s` is empty.
-fn with_legs(node: u16, s: &[u8]) -> PacketField {
-    let mut packet = resting(node);
+// The packet, which has no legs, with those of `s`, with commas between them; none where `s` is empty.
+fn with_legs(bare: Packet, s: &[u8]) -> PacketField {
+    let mut packet = bare;
     if s.len() == 0 {
         return readable(packet);
     }
@@ -132,15 +135,31 @@ fn packet_text(line: &[u8]) -> &[u8] {
     field::value(line, b"packet=")
 }
 
-// A packet `node;legs`.
+// A packet `source;node;mark;legs`.
 fn packet(s: &[u8]) -> PacketField {
-    if scan::find(s, 0, b';') == s.len() {
+    let Word::Value(source) = decimal::read_word(before(s, b';')) else {
         return bad_packet();
-    }
+    };
+    at_source(source, after(s, b';'))
+}
+
+// The rest `node;mark;legs` of a packet.
+fn at_source(source: u16, s: &[u8]) -> PacketField {
     let Word::Value(node) = decimal::read_word(before(s, b';')) else {
         return bad_packet();
     };
-    with_legs(node, after(s, b';'))
+    at_node(source, node, after(s, b';'))
+}
+
+// The rest `mark;legs` of a packet.
+fn at_node(source: u16, node: u16, s: &[u8]) -> PacketField {
+    if scan::find(s, 0, b';') == s.len() {
+        return bad_packet();
+    }
+    let Byte::Value(mark) = decimal::read_byte(before(s, b';')) else {
+        return bad_packet();
+    };
+    with_legs(without_legs(source, node, mark), after(s, b';'))
 }
 
 // Reads the fields `extents`, `wrap` and `packet`.
@@ -172,23 +191,21 @@ fn put_next(out: &mut [u8], at: usize, first: bool, leg: Leg) -> usize {
     put_leg(out, start, leg.target, mode)
 }
 
-// Where the legs left begin; at the front where they are more than a packet can hold.
-fn first_left(left: usize) -> usize {
-    if left < MOST_LEGS {
-        MOST_LEGS - left
-    } else {
-        0
-    }
+// How many of `count` legs a packet can hold.
+fn held(count: usize) -> usize
+    ensures { λ r. ⌜ r ≤ mostLegs ⌝ }
+{
+    if count < MOST_LEGS { count } else { MOST_LEGS }
 }
 
-// Writes the legs left of a packet, as many as it can hold.
+// Writes the legs of a packet's route, as many as it can hold.
 pub fn put_legs(out: &mut [u8], at: usize, packet: Packet) -> usize {
     let legs = packet.legs;
-    let first = first_left(packet.left as usize);
+    let count = held(packet.count as usize);
     let mut next = at;
-    let mut i = first;
-    while i < MOST_LEGS {
-        next = put_next(out, next, i == first, legs[i]);
+    let mut i = 0;
+    while i < count {
+        next = put_next(out, next, i == 0, legs[i]);
         i += 1;
     }
     next
@@ -196,14 +213,16 @@ pub fn put_legs(out: &mut [u8], at: usize, packet: Packet) -> usize {
 
 // Writes a packet.
 pub fn put_packet(out: &mut [u8], at: usize, packet: Packet) -> usize {
-    let node = decimal::put(out, at, packet.node as u64);
-    let next = put::byte(out, node, b';');
+    let source = decimal::put(out, at, packet.source as u64);
+    let node = field::put_number(out, source, b";", packet.node as u64);
+    let mark = field::put_number(out, node, b";", packet.mark as u64);
+    let next = put::byte(out, mark, b';');
     put_legs(out, next, packet)
 }
 
 // Writes a packet. One with more legs than a packet can hold is written as it was given, in `text`.
 fn put_any(out: &mut [u8], at: usize, packet: Packet, text: &[u8]) -> usize {
-    if MOST_LEGS < packet.left as usize {
+    if MOST_LEGS < packet.count as usize {
         return put::bytes(out, at, text);
     }
     put_packet(out, at, packet)
@@ -220,4 +239,10 @@ pub(crate) fn put_answer(
     let end = put_number(out, at, number);
     let key = put::bytes(out, end, b" packet=");
     put_any(out, key, packet, packet_text(line))
+}
+
+// Writes the same fields of what a step, or taking a hop back, answers.
+pub(crate) fn put_stepped(out: &mut [u8], at: usize, stepped: Stepped, line: &[u8]) -> usize {
+    let answer = stepped.answer;
+    put_answer(out, at, answer.number(), stepped.packet, line)
 }

@@ -1,21 +1,41 @@
-// The operation `step`: one call of the stepper's step.
+// The operations `step` and `takeback`: one hop, forth or back.
 use crate::packets;
 use conform_fields::answers::unreadable;
-use text::decimal;
+use conform_fields::directions::read_direction;
+use packet::Packet;
+use packet::Stepped;
+use shape::Shape;
 use text::decimal::Byte;
-use text::field;
 
-// Writes the answer to a line `step extents=.. wrap=.. packet=.. direction=..`.
-pub fn answer(line: &[u8], out: &mut [u8], at: usize) -> usize {
+fn moved(packet: Packet, shape: Shape, direction: u8, back: bool) -> Stepped {
+    if back {
+        return packet.take_back(shape, direction);
+    }
+    packet.step(shape, direction)
+}
+
+fn answer_by(line: &[u8], back: bool, out: &mut [u8], at: usize) -> usize {
     let case = packets::read_case(line);
     if !case.readable {
         return unreadable(out, at);
     }
-    let Byte::Value(direction) = decimal::read_byte(field::value(line, b"direction=")) else {
+    let Byte::Value(direction) = read_direction(line) else {
         return unreadable(out, at);
     };
-    let packet = case.packet;
-    let stepped = packet.step(case.shape, direction);
-    let answer = stepped.answer;
-    packets::put_answer(out, at, answer.number(), stepped.packet, line)
+    packets::put_stepped(
+        out,
+        at,
+        moved(case.packet, case.shape, direction, back),
+        line,
+    )
+}
+
+// Writes the answer to a line `step extents=.. wrap=.. packet=.. direction=..`.
+pub fn answer(line: &[u8], out: &mut [u8], at: usize) -> usize {
+    answer_by(line, false, out, at)
+}
+
+// Writes the answer to a line `takeback extents=.. wrap=.. packet=.. direction=..`.
+pub fn answer_back(line: &[u8], out: &mut [u8], at: usize) -> usize {
+    answer_by(line, true, out, at)
 }

@@ -6,20 +6,19 @@ use mathlib.Core.List.{List}
 use lib.ListN.{length}
 use borrow.Author.Tests.{not-false}
 use Rattle.theory.specs.Run.{Call}
-use Rattle.theory.specs.Plan.{New}
-use Rattle.theory.specs.Packet.{PacketLaws}
+use Rattle.theory.specs.Marks.{New}
 use Rattle.theory.specs.Alike.{SameLegs, RunsAlike}
 use Rattle.theory.proofs.Bools.{and-true}
 use Rattle.theory.proofs.Checks.{then-zero, declined-zero}
-use Rattle.theory.proofs.Alike.{packets-same, runs-alike}
+use Rattle.theory.proofs.Alike.{hops-same, runs-alike}
+use Rattle.theory.proofs.Marks.{marked-hops, new-node, new-judged}
 use Rattle.sheet.specs.Head.{version}
 use Rattle.shape.specs.declared.shape.Shape.{Shape}
 use Rattle.machine.specs.Node.{isNode}
 use Rattle.machine.specs.Torus.{torus}
-use Rattle.machine.proofs.Nodes.{node-of}
 use Rattle.packet.specs.declared.packet.Packet.{Packet}
-use Rattle.packet.specs.Packet.{stored, WellStored}
-use Rattle.packet.proofs.Stored.{stored-laws}
+use Rattle.packet.specs.Packet.{kept, stored, WellStored}
+use Rattle.packet.proofs.Stored.{kept-laws}
 use Rattle.plan.specs.Layout.{shapeOf}
 use Rattle.plan.specs.Checks.{Limits}
 use Rattle.choice.specs.Choice.{Choice}
@@ -89,16 +88,14 @@ module _ (L : Limits) (p s : List ℕ) (h : keepError L p s ≡ 0) where
   stands : (D : ℕ) → isNode m D ≡ true → Stands m (source s) (saidBefore L p s D)
   stands D n = rw (said-node D n) (says-stands m (source s) (old .from) D (entriesIn first s) 0 (old .entries) every)
 
-  old-laws : PacketLaws (oldTorus m) (stored m) WellStored
-  old-laws = packets-same (torus m) _ (stored m) WellStored (stored-laws m (node-of m (source s) (old .from) .sound))
-
   runs :
       (D : ℕ) → isNode m D ≡ true → (c : Choice) → saidBefore L p s D ≡ Given c →
-      (q : Packet) → New (stored m) WellStored (source s) c q → (calls : List Call) →
+      (q : Packet) → New (torus m) (kept m) WellStored (source s) c q → (calls : List Call) →
       RunsAlike (oldTorus m) (torus m) (stored m) (source s) c q calls
   runs D n c e q new calls =
       let legs : SameLegs (oldTorus m) (torus m) (source s) c = rw e at (stands D n) in
-      runs-alike (oldTorus m) _ (stored m) WellStored old-laws (source s) c q new legs calls
+      runs-alike (oldTorus m) _ (stored m) (hops-same (torus m) _ (stored m) (marked-hops (torus m) (kept m) (kept-laws m))) (source s) c q
+      (new-node (torus m) (kept m) (kept-laws m) WellStored (source s) c q new) (new-judged (torus m) (kept m) (kept-laws m) WellStored (source s) c q new) legs calls
 
   -- The theorem.
   pub conversion-kept : Kept L p s

@@ -9,13 +9,13 @@ use lib.ListN.{drop}
 use Rattle.numbers.specs.Numbers.{nodeOutside, noClearChoice, entryNotKept}
 use Rattle.theory.specs.Checks.{declined, _then_}
 use Rattle.theory.specs.Run.{Call}
-use Rattle.theory.specs.Plan.{New}
+use Rattle.theory.specs.Marks.{New}
 use Rattle.theory.specs.Alike.{SameLegs, RunsAlike}
 use Rattle.shape.specs.declared.shape.Shape.{Shape}
 use Rattle.machine.specs.Node.{isNode}
 use Rattle.machine.specs.Torus.{torus}
 use Rattle.packet.specs.declared.packet.Packet.{Packet}
-use Rattle.packet.specs.Packet.{stored, WellStored}
+use Rattle.packet.specs.Packet.{kept, stored, WellStored}
 use Rattle.plan.specs.Layout.{shapeOf}
 use Rattle.plan.specs.Checks.{Limits}
 use Rattle.choice.specs.Choice.{Choice}
@@ -56,7 +56,7 @@ pub record Kept (L : Limits) (p s : List ℕ) : Type 0 where
   pub stands : (D : ℕ) → isNode (shapeOf p) D ≡ true → Stands (shapeOf p) (source s) (saidBefore L p s D)
   pub runs :
       (D : ℕ) → isNode (shapeOf p) D ≡ true → (c : Choice) → saidBefore L p s D ≡ Given c →
-      (q : Packet) → New (stored (shapeOf p)) WellStored (source s) c q → (calls : List Call) →
+      (q : Packet) → New (torus (shapeOf p)) (kept (shapeOf p)) WellStored (source s) c q → (calls : List Call) →
       RunsAlike (oldTorus (shapeOf p)) (torus (shapeOf p)) (stored (shapeOf p)) (source s) c q calls
 
 -- Of a sheet s that is a good version 1 sheet under p. kept: it is accepted exactly if what every entry says stands as it was. otherwise: else it is 17.

@@ -94,7 +94,7 @@ module _ (s : Shape) (h : shapeError s ≡ 0) (t : ℕ) (ht : t < nodeCount s) w
               rw (both .0) (of-all (partAlong s U plus A T k) (λ d. part-of s U plus A T k d (box s h a u t ha hu ht .0 (m .0)) (both .1))),
         )
 
-  adaptive-crossings : (ties : ℕ → Bool) → Crossings (torusBy ties s) (leg t Adaptive) can
+  pub adaptive-crossings : (ties : ℕ → Bool) → Crossings (torusBy ties s) (leg t Adaptive) can
   unfolding allowedBy
   adaptive-crossings ties = record {
     first = λ p d at a. adaptive-crosses p p at at d .1 (omega (arith, hops-self s p), a);

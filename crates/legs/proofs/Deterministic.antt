@@ -50,7 +50,7 @@ module _ (ties : ℕ → Bool) (s : Shape) where
     abbrev can : ℕ → ℕ → ℕ → Bool
     can p u d = deterministicCrosses ties s (coordsOf s u) d (coordsOf s p) (coordsOf s t)
 
-    deterministic-crossings : Crossings (torusBy ties s) (leg t Deterministic) can
+    pub deterministic-crossings : Crossings (torusBy ties s) (leg t Deterministic) can
     unfolding deterministicCrosses deterministicAlong
     deterministic-crossings = record {
       first = λ p d at a.

@@ -7,3 +7,4 @@ pub mod OneWalk
 pub mod Deterministic
 pub mod Clearing
 pub mod Modes
+pub mod Backward

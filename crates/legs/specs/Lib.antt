@@ -1,2 +1,5 @@
 pub mod Between
 pub mod Crossing
+pub mod Backward
+-- The code's own steps.
+pub mod Steps

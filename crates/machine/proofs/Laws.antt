@@ -136,6 +136,20 @@ neighbour-from : (s : Shape) (n dir : ℕ) → neighbour s n dir ≡ numberOf s 
 unfolding neighbour
 neighbour-from s n dir = refl
 
+module _ (s : Shape) (h : shapeError s ≡ 0) (n dir : ℕ) (hn : n < nodeCount s) where
+  back-coords : movedAlong s (movedAlong s (coordsOf s n) (dirDim dir) (dirPlus dir)) (dirDim dir) (not (dirPlus dir)) ≡ coordsOf s n
+  back-coords =
+      let d = dirDim dir in
+      rw (put-at (coordsOf s n) d _, back-place (extentOf s d) (coordOf (coordsOf s n) d) (dirPlus dir) (inside-at s _ (inside s h n hn) d))
+      (put-back (coordsOf s n) d _)
+
+  -- Also where there is no link: past an end a place is the other end's.
+  pub there-and-back : dir ≤ 5 → neighbour s (neighbour s n dir) (opposite dir) ≡ n
+  unfolding movedAt
+  there-and-back low =
+      let o = opposite-is dir low in
+      neighbour-from s (neighbour s n dir) (opposite dir) ∙ rw (neighbour-coords s h n hn dir, o .dim, o .way, back-coords) (number-coords s h n)
+
 module _ (s : Shape) (h : shapeError s ≡ 0) (n dir : ℕ) (hn : n < nodeCount s) (l : link s n dir ≡ true) where
   pub low : dir ≤ 5
   unfolding link
@@ -153,17 +167,8 @@ module _ (s : Shape) (h : shapeError s ≡ 0) (n dir : ℕ) (hn : n < nodeCount 
       rw (neighbour-coords s h n hn dir, o .dim, o .way, le-leb (opposite dir) 5 (o .low), put-at (coordsOf s n) d _)
       (back-link (extentOf s d) (wrappedIn s d) _ (dirPlus dir) (inside-at s _ (inside s h n hn) d) held)
 
-  back-coords : movedAlong s (movedAlong s (coordsOf s n) (dirDim dir) (dirPlus dir)) (dirDim dir) (not (dirPlus dir)) ≡ coordsOf s n
-  back-coords =
-      let d = dirDim dir in
-      rw (put-at (coordsOf s n) d _, back-place (extentOf s d) (coordOf (coordsOf s n) d) (dirPlus dir) (inside-at s _ (inside s h n hn) d))
-      (put-back (coordsOf s n) d _)
-
   pub neighbour-back : neighbour s (neighbour s n dir) (opposite dir) ≡ n
-  unfolding movedAt
-  neighbour-back =
-      let o = opposite-is dir low in
-      neighbour-from s (neighbour s n dir) (opposite dir) ∙ rw (neighbour-coords s h n hn dir, o .dim, o .way, back-coords) (number-coords s h n)
+  neighbour-back = there-and-back s h n dir hn low
 
   -- a hop changes the hops to any node by one at most
   pub hops-step : (t : ℕ) → t < nodeCount s → hops s n t ≤ hops s (neighbour s n dir) t + 1

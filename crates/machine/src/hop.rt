@@ -17,7 +17,7 @@ ghost use Rattle.machine.specs.Hop.{dirDim, dirPlus, plusDir, minusDir, 
 ghost use Rattle.shape.specs.Steps.{goes};
 ghost use Rattle.machine.specs.ByCoords.{inDim, hopsAlong, hopsAt, linkAt, movedAt, usefulAt, towardAt, firstAt, allowedAt};
 
-fn dim_of(dir: u8) -> Dim
+pub fn dim_of(dir: u8) -> Dim
     ensures { λ r. ⌜ r ≡ dirDim dir ⌝ }
 {
     if dir < 2 {
@@ -37,7 +37,7 @@ fn in_dim(dir: u8, x: u8, y: u8, z: u8) -> u8
     pick(i == 0, x, pick(i == 1, y, z))
 }
 
-fn is_plus(dir: u8) -> bool
+pub fn is_plus(dir: u8) -> bool
     ensures { λ r. ⌜ r ≡ dirPlus dir ⌝ }
 {
     dir % 2 == 0

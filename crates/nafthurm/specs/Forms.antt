@@ -59,11 +59,18 @@ abbrev pub noForm : LegForm
 noForm = record { target = 0; mode = 0 }
 
 unfoldable pub packetOf : PacketForm → Packet
-packetOf q = record { node = q .node; legs = legOf (getD (q .legs) 0 noForm) ∷ legOf (getD (q .legs) 1 noForm) ∷ legOf (getD (q .legs) 2 noForm) ∷ []; left = q .left }
+packetOf q =
+    record {
+      source = q .source;
+      node = q .node;
+      legs = legOf (getD (q .legs) 0 noForm) ∷ legOf (getD (q .legs) 1 noForm) ∷ legOf (getD (q .legs) 2 noForm) ∷ [];
+      count = q .count;
+      mark = q .mark;
+    }
 
--- A packet that a call returns or leaves has the array of legs that was lent.
+-- A packet that a call returns or leaves has the source, the array of legs and the count that were lent.
 abbrev pub packetFor : PacketForm → Packet → PacketForm
-packetFor lent q = record { node = q .node; legs = lent .legs; left = q .left }
+packetFor lent q = record { source = lent .source; node = q .node; legs = lent .legs; count = lent .count; mark = q .mark }
 
 unfoldable pub steppedFor : PacketForm → Stepped → SteppedForm
 steppedFor lent w = record { packet = packetFor lent (w .packet); number = answerNumber (w .answer) }
@@ -114,11 +121,18 @@ outcomeIn D f = toldAs 0 (answered (f .number) (saidBy (entryIn D f)))
 -- The new packet of a route from S to D; of a refusal a packet that every call declines.
 unfoldable pub packetIn : ℕ → ℕ → Outcome → Packet
 packetIn S D (Outcome.Given r len) = newPacket S (legsTo D r)
-packetIn S D (Outcome.Refused e) = packetWith S (replicate mostLegs (leg D Adaptive)) 255
+packetIn S D (Outcome.Refused e) = packetWith S S (replicate mostLegs (leg D Adaptive)) 255 0
 
 -- A packet that was made here, and not lent.
 abbrev pub legFor : Leg → LegForm
 legFor l = record { target = l .target; mode = det (l .mode) }
 
 unfoldable pub madeFor : Packet → PacketForm
-madeFor q = record { node = q .node; legs = legFor (getD (q .legs) 0 noLeg) ∷ legFor (getD (q .legs) 1 noLeg) ∷ legFor (getD (q .legs) 2 noLeg) ∷ []; left = q .left }
+madeFor q =
+    record {
+      source = q .source;
+      node = q .node;
+      legs = legFor (getD (q .legs) 0 noLeg) ∷ legFor (getD (q .legs) 1 noLeg) ∷ legFor (getD (q .legs) 2 noLeg) ∷ [];
+      count = q .count;
+      mark = q .mark;
+    }

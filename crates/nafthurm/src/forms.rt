@@ -41,9 +41,11 @@ pub struct LegForm {
 
 #[repr(C)]
 pub struct PacketForm {
+    pub source: u16,
     pub node: u16,
     pub legs: [LegForm; MOST_LEGS],
-    pub left: u8,
+    pub count: u8,
+    pub mark: u8,
 }
 
 #[repr(C)]
@@ -157,7 +159,13 @@ pub fn packet_of(form: PacketForm) -> Packet
     let first = leg_of(legs[0]);
     let second = leg_of(legs[1]);
     let third = leg_of(legs[2]);
-    Packet::with(form.node, [first, second, third], form.left)
+    Packet::with(
+        form.source,
+        form.node,
+        [first, second, third],
+        form.count,
+        form.mark,
+    )
 }
 
 fn packet_for(lent: PacketForm, packet: Packet) -> PacketForm
@@ -165,9 +173,11 @@ fn packet_for(lent: PacketForm, packet: Packet) -> PacketForm
 {
     let legs = lent.legs;
     PacketForm {
+        source: lent.source,
         node: packet.node,
         legs: legs,
-        left: packet.left,
+        count: lent.count,
+        mark: packet.mark,
     }
 }
 
@@ -302,7 +312,7 @@ pub fn outcome_in(destination: u16, form: RouteForm) -> Outcome
     )
 }
 
-// The new packet of a route; of a refusal one with 255 legs, which every call declines.
+// The new packet of a route; of a refusal one at the source with 255 legs and mark 0, which every call declines.
 pub fn packet_in(source: u16, destination: u16, outcome: Outcome) -> Packet
     ensures { λ r. ⌜ r ≡ packetIn source destination outcome ⌝ }
 {
@@ -313,7 +323,7 @@ pub fn packet_in(source: u16, destination: u16, outcome: Outcome) -> Packet
                 target: destination,
                 mode: Mode::Adaptive,
             };
-            Packet::with(source, [leg; MOST_LEGS], 255)
+            Packet::with(source, source, [leg; MOST_LEGS], 255, 0)
         }
     }
 }
@@ -343,8 +353,10 @@ pub fn made_for(packet: Packet) -> PacketForm
     let second = leg_for(legs[1]);
     let third = leg_for(legs[2]);
     PacketForm {
+        source: packet.source,
         node: packet.node,
         legs: [first, second, third],
-        left: packet.left,
+        count: packet.count,
+        mark: packet.mark,
     }
 }

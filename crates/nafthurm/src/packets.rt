@@ -1,4 +1,4 @@
-// Packets: the new packet of a route, the step and the walk.
+// Packets: the new packet of a route, the step, the walk, and a hop taken back.
 use crate::forms::PacketForm;
 use crate::forms::RouteForm;
 use crate::forms::ShapeForm;
@@ -13,8 +13,10 @@ use crate::forms::stepped_for;
 use crate::forms::walked_for;
 ghost use mathlib.Core.Path.{_≡_};
 ghost use Rattle.theory.specs.Packet.{step, walk};
+ghost use Rattle.theory.specs.Back.{back};
 ghost use Rattle.machine.specs.Torus.{torus};
-ghost use Rattle.packet.specs.Packet.{packetError, stored};
+ghost use Rattle.legs.specs.Backward.{backward};
+ghost use Rattle.packet.specs.Packet.{packetError, kept, stored};
 ghost use Rattle.packet.specs.Answers.{told, toldWalk};
 ghost use Rattle.nafthurm.specs.Forms.{shapeOf, packetOf, steppedFor, walkedFor, outcomeIn, packetIn, madeFor};
 
@@ -48,4 +50,18 @@ pub extern "C" fn nafthurm_walk(
     ensures { λ r. ⌜ r ≡ walkedFor packet (toldWalk (walk (torus (shapeOf shape)) (stored (shapeOf shape)) (packetOf packet) (now (directions .entry)))) ⌝ }
 {
     walked_for(packet, packet_of(packet).walk(shape_of(shape), directions))
+}
+
+#[no_mangle]
+pub extern "C" fn nafthurm_take_back(
+    shape: ShapeForm,
+    packet: PacketForm,
+    direction: u8,
+) -> SteppedForm
+    ensures { λ r. ⌜ r ≡ steppedFor packet (told (back (torus (shapeOf shape)) (backward (shapeOf shape)) (kept (shapeOf shape)) (packetOf packet) direction)) ⌝ }
+{
+    stepped_for(
+        packet,
+        packet_of(packet).take_back(shape_of(shape), direction),
+    )
 }

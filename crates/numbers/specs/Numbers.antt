@@ -53,7 +53,7 @@ outputShort = 12
 abbrev pub wrongRouteSheet : ℕ
 wrongRouteSheet = 13
 
--- Packet naming a node outside the shape, or with over two legs.
+-- Packet naming a node outside the shape, or with over three legs; or a mark further than just past the last leg.
 abbrev pub wrongPacket : ℕ
 wrongPacket = 14
 
@@ -68,3 +68,7 @@ weightOutside = 16
 -- An entry that cannot be kept.
 abbrev pub entryNotKept : ℕ
 entryNotKept = 17
+
+-- No allowed walk from the packet's source ends at this packet by that hop, a direction above 5 included.
+abbrev pub notBack : ℕ
+notBack = 18

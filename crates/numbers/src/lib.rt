@@ -39,7 +39,7 @@ pub const OUTPUT_SHORT: u8 = 12;
 // Route sheet not of the layout, a node outside the plan, or a via equal to an end.
 pub const WRONG_ROUTE_SHEET: u8 = 13;
 
-// Packet naming a node outside the shape, or with over two legs.
+// Packet naming a node outside the shape, or with over three legs; or a mark further than just past the last leg.
 pub const WRONG_PACKET: u8 = 14;
 
 // Direction not allowed, or above 5.
@@ -50,3 +50,6 @@ pub const WEIGHT_OUTSIDE: u8 = 16;
 
 // An entry that cannot be kept.
 pub const ENTRY_NOT_KEPT: u8 = 17;
+
+// No allowed walk from the packet's source ends at this packet by that hop, a direction above 5 included.
+pub const NOT_BACK: u8 = 18;

@@ -1,11 +1,11 @@
 -- What a walk carries stays what its packet says.
-use Prim.Native.Nat.{ℕ, _+_, _-_, _%_, _<_}
+use Prim.Native.Nat.{ℕ, _+_, _-_, _%_, _≤_, _<_}
 use native.Mathlib.Omega.{arith}
 use mathlib.Core.Path.{_≡_, refl, sym, ap, _∙_}
 use mathlib.Core.Bool.{Bool, true, false, cond}
 use mathlib.Core.List.{List}
-use lib.Dec.{eqb}
-use borrow.Author.Tests.{eq-eqb, ne-eqb, eqb-false}
+use lib.Dec.{leb}
+use borrow.Author.Tests.{le-leb, lt-leb, leb-false}
 use Rattle.theory.specs.Machine.{allows}
 use Rattle.shape.specs.declared.shape.Shape.{Shape}
 use Rattle.shape.specs.declared.shape.Coords.{Coords}
@@ -25,28 +25,28 @@ use Rattle.machine.proofs.Torus.{allowed-useful}
 use Rattle.machine.proofs.HopsLeft.{standing-is, ways-allow, ways-moved}
 use Rattle.packet.specs.declared.packet.Packet.{Packet}
 use Rattle.packet.specs.declared.course.Course.{Course}
-use Rattle.packet.specs.Packet.{noLeg, legsLeft}
+use Rattle.packet.specs.Packet.{noLeg, put}
 use Rattle.packet.specs.Steps.{frontOf, frontOr, settled, moved, Fine}
 use Rattle.packet.specs.Course.{packetOf, endOf, courseOf, waysOf, On}
-use Rattle.packet.proofs.Drops.{settled-same, fine-moved, fine-front, allows-front}
+use Rattle.packet.proofs.Drops.{legsLeft, settled-same, fine-moved, fine-front, allows-front}
 
 -- ---- the front leg
-pub front-none : (q : Packet) → q .left ≡ 0 → noLeg ≡ frontOr q
+pub front-none : (q : Packet) → q .count ≤ q .mark → noLeg ≡ frontOr q
 unfolding frontOr
-front-none q e = rw (eq-eqb (q .left) 0 e)
+front-none q h = rw (le-leb (q .count) (q .mark) h)
 
-pub front-some : (q : Packet) → (q .left ≡ 0 → ⊥) → frontOf q ≡ frontOr q
+pub front-some : (q : Packet) → q .mark < q .count → frontOf q ≡ frontOr q
 unfolding frontOr
-front-some q ne = rw (ne-eqb (q .left) 0 ne)
+front-some q h = rw (lt-leb (q .count) (q .mark) h)
 
 -- Its target is a node, also of the leg of zeros.
 front-node : (s : Shape) (q : Packet) → Fine s q → frontOr q .target < nodeCount s
 unfolding frontOr
-front-node s q f = go (eqb (q .left) 0) refl
+front-node s q f = go (leb (q .count) (q .mark)) refl
   where
-    go : (b : Bool) → eqb (q .left) 0 ≡ b → cond b noLeg (frontOf q) .target < nodeCount s
+    go : (b : Bool) → leb (q .count) (q .mark) ≡ b → cond b noLeg (frontOf q) .target < nodeCount s
     go true e = omega (arith, f .node)
-    go false e = let ne : q .left ≡ 0 → ⊥ = eqb-false (q .left) 0 e in fine-front s q f (omega arith)
+    go false e = fine-front s q f (leb-false (q .count) (q .mark) e)
 
 front-moved : (s : Shape) (q : Packet) (d : ℕ) → frontOr (moved s q d) ≡ frontOr q
 unfolding frontOr
@@ -57,23 +57,24 @@ node-number : (s : Shape) (n : ℕ) → shapeError s ≡ 0 → n < nodeCount s �
 node-number s n h hn = number-fits s h (coordsOf s n) (inside s h n hn) ∙ number-coords s h n
 
 -- ---- a hop as the code makes it, from the coordinates of its leg's ends
-module _ (s : Shape) (q : Packet) (f : Fine s q) (h : 0 < q .left) (at to : Coords) (ea : at ≡ coordsBy s (q .node)) (et : to ≡ coordsBy s (frontOf q .target)) where
+module _ (s : Shape) (q : Packet) (f : Fine s q) (h : q .mark < q .count) (at to : Coords) (ea : at ≡ coordsBy s (q .node)) (et : to ≡ coordsBy s (frontOf q .target)) where
   pub ends-allow : (d : ℕ) → allowedAt rule (frontOf q .mode) s at to d ≡ allows (torus s) (q .node) (legsLeft q) d
   ends-allow d =
       rw (ea, et, coords-by s (f .sound) (q .node) (f .node), coords-by s (f .sound) (frontOf q .target) (fine-front s q f h))
       (sym (allows-front s q d h ∙ allowed-at s (f .sound) (q .node) (f .node) (frontOf q .target) rule (frontOf q .mode) d))
 
-  pub ends-moved : (d n : ℕ) (next : Coords) → next ≡ movedAt s at d → n ≡ numberOf s next % 65536 → _≡_ {A = Packet} (record { node = n; legs = q .legs; left = q .left }) (moved s q d)
+  pub ends-moved : (d n : ℕ) (next : Coords) → next ≡ movedAt s at d → n ≡ numberOf s next % 65536 → put q n (q .mark) ≡ moved s q d
   ends-moved d n next en eq =
       let e : n ≡ neighbour s (q .node) d = eq ∙ rw (en, ea, coords-by s (f .sound) (q .node) (f .node)) (neighbour-number s (f .sound) (q .node) (f .node) d) in
-      rw e
+      ap (λ n. put q n (q .mark)) e
 
 -- ---- the course of a packet
 module _ (s : Shape) (q : Packet) (f : Fine s q) where
-  pub packet-course : (legs : List Leg) → legs ≡ q .legs → packetOf s legs (courseOf s q) (waysOf s q) ≡ q
+  -- The packet lent is one of which q has another node and mark.
+  pub packet-course : (lent : Packet) → put lent (q .node) (q .mark) ≡ q → packetOf s lent (courseOf s q) (waysOf s q) ≡ q
   unfolding packetOf courseOf waysOf
-  packet-course legs e =
-      rw (e, standing-is rule (frontOr q .mode) s (coordsOf s (q .node)) (coordsOf s (frontOr q .target)) (inside s (f .sound) (q .node) (f .node)) (inside s (f .sound) (frontOr q .target) (front-node s q f)) (f .sound), node-number s (q .node) (f .sound) (f .node))
+  packet-course lent e =
+      rw (standing-is rule (frontOr q .mode) s (coordsOf s (q .node)) (coordsOf s (frontOr q .target)) (inside s (f .sound) (q .node) (f .node)) (inside s (f .sound) (frontOr q .target) (front-node s q f)) (f .sound), node-number s (q .node) (f .sound) (f .node)) e
 
   -- As the code makes it.
   pub of-course :
@@ -84,7 +85,7 @@ module _ (s : Shape) (q : Packet) (f : Fine s q) where
       to ≡ coordsBy s (front .target) →
       n ≡ hopsAt s at to →
       ws ≡ waysAt rule mode s at to →
-      (_≡_ {A = Course} (record { left = q .left; mode = mode; hops = n; to = to }) (courseOf s q)) × (ws ≡ waysOf s q)
+      (_≡_ {A = Course} (record { mark = q .mark; mode = mode; hops = n; to = to }) (courseOf s q)) × (ws ≡ waysOf s q)
   unfolding courseOf waysOf
   of-course front mode at to n ws ef em ea et en ew =
       let here = coords-by s (f .sound) (q .node) (f .node) in
@@ -96,9 +97,9 @@ module _ (s : Shape) (q : Packet) (c : Course) (ws : List ℕ) (on : On s q c ws
   abbrev target : ℕ
   target = frontOr q .target
 
-  pub left-is : c .left ≡ q .left
+  pub mark-is : c .mark ≡ q .mark
   unfolding courseOf
-  left-is = ap (λ c. c .left) (on .course)
+  mark-is = ap (λ c. c .mark) (on .course)
 
   mode-is : c .mode ≡ frontOr q .mode
   unfolding courseOf
@@ -116,10 +117,10 @@ module _ (s : Shape) (q : Packet) (c : Course) (ws : List ℕ) (on : On s q c ws
   unfolding waysOf
   ways-are = on .ways
 
-  pub packet-on : (legs : List Leg) → legs ≡ q .legs → packetOf s legs c ws ≡ q
-  packet-on legs e = rw (on .course, on .ways) (packet-course s q (on .fine) legs e)
+  pub packet-on : (lent : Packet) → put lent (q .node) (q .mark) ≡ q → packetOf s lent c ws ≡ q
+  packet-on lent e = rw (on .course, on .ways) (packet-course s q (on .fine) lent e)
 
-  module _ (some : c .left ≡ 0 → ⊥) (d : ℕ) where
+  module _ (some : q .mark < q .count) (d : ℕ) where
     sound : shapeError s ≡ 0
     sound = on .fine .sound
 
@@ -130,7 +131,7 @@ module _ (s : Shape) (q : Packet) (c : Course) (ws : List ℕ) (on : On s q c ws
     there = inside s sound target (front-node s q (on .fine))
 
     front-is : frontOf q ≡ frontOr q
-    front-is = front-some q (λ e. some (left-is ∙ e))
+    front-is = front-some q some
 
     -- The directions allowed.
     by-mode : allowedIn (c .mode) ws d ≡ allowedBy rule (frontOr q .mode) s (q .node) target d
@@ -140,7 +141,7 @@ module _ (s : Shape) (q : Packet) (c : Course) (ws : List ℕ) (on : On s q c ws
         ∙ sym (allowed-at s sound (q .node) (on .fine .node) target rule (frontOr q .mode) d))
 
     pub on-allows : allowedIn (c .mode) ws d ≡ allows (torus s) (q .node) (legsLeft q) d
-    on-allows = by-mode ∙ sym (allows-front s q d (omega (arith, left-is)) ∙ rw front-is)
+    on-allows = by-mode ∙ sym (allows-front s q d some ∙ rw front-is)
 
     -- A hop that is allowed leaves one hop fewer: at none the leg's target is reached, and legs are dropped.
     module _ (a : allowedIn (c .mode) ws d ≡ true) where
@@ -156,11 +157,11 @@ module _ (s : Shape) (q : Packet) (c : Course) (ws : List ℕ) (on : On s q c ws
           let b : allowedIn (frontOr q .mode) (waysAt rule (frontOr q .mode) s (coordsOf s (q .node)) (coordsOf s target)) d ≡ true = rw (mode-is, ways-are) at a in
           rw (mode-is, ways-are, ways-moved rule (frontOr q .mode) s (coordsOf s (q .node)) (coordsOf s target) here there d b, front-moved s q d, neighbour-coords s sound (q .node) (on .fine .node) d)
 
-      pub hop-stays : (c .hops - 1 ≡ 0 → ⊥) → On s (settled (moved s q d)) (record { left = c .left; mode = c .mode; hops = c .hops - 1; to = c .to }) (taken (c .mode) ws d)
+      pub hop-stays : (c .hops - 1 ≡ 0 → ⊥) → On s (settled (moved s q d)) (record { mark = c .mark; mode = c .mode; hops = c .hops - 1; to = c .to }) (taken (c .mode) ws d)
       unfolding courseOf
-      hop-stays more = rw (settled-same (moved s q d) (omega (arith, left-is)) other) (record {
+      hop-stays more = rw (settled-same (moved s q d) some other) (record {
         fine = fine-moved s q d (on .fine);
-        course = rw (left-is, mode-is, to-is, front-moved s q d, ← fewer, less);
+        course = rw (mark-is, mode-is, to-is, front-moved s q d, ← fewer, less);
         ways = ways-next;
       })
         where
@@ -173,8 +174,8 @@ module _ (s : Shape) (q : Packet) (c : Course) (ws : List ℕ) (on : On s q c ws
           other : frontOf (moved s q d) .target ≡ neighbour s (q .node) d → ⊥
           other e = more (omega (arith, fewer, none (sym e ∙ ap (λ l. l .target) front-is)))
 
-      pub hop-ends : (legs : List Leg) → legs ≡ q .legs → c .hops - 1 ≡ 0 → endOf s legs (record { left = c .left; mode = c .mode; hops = c .hops - 1; to = c .to }) ≡ moved s q d
+      pub hop-ends : (lent : Packet) → put lent (q .node) (q .mark) ≡ q → c .hops - 1 ≡ 0 → endOf s lent (record { mark = c .mark; mode = c .mode; hops = c .hops - 1; to = c .to }) ≡ moved s q d
       unfolding endOf
-      hop-ends legs el z =
+      hop-ends lent el z =
           let e : neighbour s (q .node) d ≡ target = hops-zero s sound (neighbour s (q .node) d) target (neighbour-below s sound (q .node) (on .fine .node) d) (front-node s q (on .fine)) (omega (arith, fewer)) in
-          rw (el, left-is, to-is, node-number s target sound (front-node s q (on .fine)), e)
+          rw (mark-is, to-is, node-number s target sound (front-node s q (on .fine)), ← e) (ap (λ r. put r (neighbour s (q .node) d) (q .mark)) el)

@@ -5,3 +5,5 @@ pub mod Walks
 pub mod Answers
 pub mod Claim
 pub mod New
+pub mod LastHop
+pub mod Worked

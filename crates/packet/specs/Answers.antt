@@ -3,20 +3,20 @@ use Prim.Native.Nat.{ℕ, zero, suc}
 use Rattle.theory.specs.Packet as T
 use Rattle.packet.specs.declared.packet.Packet.{Packet}
 use Rattle.packet.specs.declared.stepper.Answer.{Answer}
-use Rattle.packet.specs.declared.stepper.Answer.the-variants.{Hopped}
+use Rattle.packet.specs.declared.stepper.Answer.the-variants.{Done}
 use Rattle.packet.specs.declared.stepper.Stepped.{Stepped}
 use Rattle.packet.specs.declared.stepper.Ending.{Ending}
 use Rattle.packet.specs.declared.stepper.Ending.the-variants.{Arrived, NotAllowed, UsedUp}
 use Rattle.packet.specs.declared.stepper.Walked.{Walked}
 
--- A step's number: 0 for a hop.
+-- The number of a step, or of a hop taken back: 0 where it is done.
 abbrev pub answerNumber : Answer → ℕ
-answerNumber Answer.Hopped = 0
+answerNumber Answer.Done = 0
 answerNumber (Answer.Refused e) = e
 
--- A number as a step's answer.
+-- A number as such an answer.
 unfoldable pub answered : ℕ → Answer
-answered zero = Hopped
+answered zero = Done
 answered (suc e) = Answer.Refused (suc e)
 
 unfoldable pub told : T.Stepped Packet → Stepped

@@ -5,22 +5,22 @@ use mathlib.Core.Bool.{cond}
 use mathlib.Core.List.{List}
 use lib.Dec.{eqb}
 use Rattle.shape.specs.declared.shape.Shape.{Shape}
-use Rattle.machine.specs.declared.leg.Leg.{Leg}
 use Rattle.machine.specs.Number.{numberOf, coordsOf}
 use Rattle.machine.specs.Hop.{hops, rule}
 use Rattle.machine.specs.Ways.{waysAt, standingAt}
 use Rattle.packet.specs.declared.packet.Packet.{Packet}
 use Rattle.packet.specs.declared.course.Course.{Course}
 use Rattle.packet.specs.declared.course.Start.{Start}
+use Rattle.packet.specs.Packet.{put}
 use Rattle.packet.specs.Steps.{frontOr, Fine}
 
 abbrev pub courseIn : Start → Course
-courseIn r = record { left = r .left; mode = r .mode; hops = r .hops; to = record { x = r .x; y = r .y; z = r .z } }
+courseIn r = record { mark = r .mark; mode = r .mode; hops = r .hops; to = record { x = r .x; y = r .y; z = r .z } }
 
 -- The course of a packet, and the hops left in each direction.
 unfoldable pub courseOf : Shape → Packet → Course
 courseOf s q = record {
-  left = q .left;
+  mark = q .mark;
   mode = frontOr q .mode;
   hops = hops s (q .node) (frontOr q .target);
   to = coordsOf s (frontOr q .target);
@@ -29,12 +29,12 @@ courseOf s q = record {
 unfoldable pub waysOf : Shape → Packet → List ℕ
 waysOf s q = waysAt rule (frontOr q .mode) s (coordsOf s (q .node)) (coordsOf s (frontOr q .target))
 
--- The packet of a course, its array of legs beside it; and at the end of its leg.
-unfoldable pub packetOf : Shape → List Leg → Course → List ℕ → Packet
-packetOf s legs c ws = record { node = numberOf s (standingAt s ws (c .to)) % 65536; legs = legs; left = c .left }
+-- The packet of a course, of which the packet that was lent tells the rest; and at the end of its leg.
+unfoldable pub packetOf : Shape → Packet → Course → List ℕ → Packet
+packetOf s lent c ws = put lent (numberOf s (standingAt s ws (c .to)) % 65536) (c .mark)
 
-unfoldable pub endOf : Shape → List Leg → Course → Packet
-endOf s legs c = record { node = numberOf s (c .to) % 65536; legs = legs; left = c .left }
+unfoldable pub endOf : Shape → Packet → Course → Packet
+endOf s lent c = put lent (numberOf s (c .to) % 65536) (c .mark)
 
 -- The course and the hops left are those of a packet that no check declines.
 pub record On (s : Shape) (q : Packet) (c : Course) (ws : List ℕ) : Type 0 where

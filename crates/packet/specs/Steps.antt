@@ -1,10 +1,11 @@
 -- The code's own steps: drops one at a time, and packets that no check declines.
-use Prim.Native.Nat.{ℕ, _-_, _≤_, _<_}
+use Prim.Native.Nat.{ℕ, _≤_, _<_}
 use mathlib.Core.Path.{_≡_}
 use mathlib.Core.Bool.{Bool, cond, _&&_}
-use lib.ListN.{length, getD}
-use lib.Dec.{ltb, eqb}
-use Rattle.theory.specs.Machine.{Inside, dropped}
+use lib.ListN.{getD}
+use lib.Dec.{ltb, leb, eqb}
+use Rattle.theory.specs.Machine.{Inside}
+use Rattle.theory.specs.Marks.{settle}
 use Rattle.shape.specs.declared.shape.Shape.{Shape}
 use Rattle.machine.specs.declared.leg.Leg.{Leg}
 use Rattle.shape.specs.Shape.{shapeError}
@@ -12,34 +13,36 @@ use Rattle.machine.specs.Number.{nodeCount}
 use Rattle.machine.specs.Hop.{neighbour}
 use Rattle.machine.specs.Torus.{torus}
 use Rattle.packet.specs.declared.packet.Packet.{Packet}
-use Rattle.packet.specs.Packet.{mostLegs, noLeg, legsLeft}
+use Rattle.packet.specs.Packet.{mostLegs, noLeg, routeOf, put}
 
 abbrev pub legAt : Packet → ℕ → Leg
 legAt q i = getD (q .legs) i noLeg
 
--- The front leg, where one is left.
+-- The current leg, where one is left.
 abbrev pub frontOf : Packet → Leg
-frontOf q = legAt q (mostLegs - q .left)
+frontOf q = legAt q (q .mark)
 
--- A leg is left, and the front leg's target is the present node.
+-- A leg is left, and the current leg's target is the present node.
 unfoldable pub endsHere : Packet → Bool
-endsHere q = ltb 0 (q .left) && eqb (frontOf q .target) (q .node)
+endsHere q = ltb (q .mark) (q .count) && eqb (frontOf q .target) (q .node)
 
 -- The packet with the drops stored.
 unfoldable pub settled : Packet → Packet
-settled q = record { node = q .node; legs = q .legs; left = length (dropped (λ l. l .target) (q .node) (legsLeft q)) }
+settled q = put q (q .node) (settle (λ l. l .target) (routeOf q) (q .node) (q .mark))
 
 -- A packet that neither 5, 6 nor 14 declines.
 pub record Fine (s : Shape) (q : Packet) : Type 0 where
   pub sound : shapeError s ≡ 0
-  pub few : q .left ≤ mostLegs
+  pub few : q .count ≤ mostLegs
+  pub mark : q .mark ≤ q .count
+  pub source : q .source < nodeCount s
   pub node : q .node < nodeCount s
-  pub legs : Inside (torus s) (legsLeft q)
+  pub route : Inside (torus s) (routeOf q)
 
 -- The packet at the other end of a link.
 abbrev pub moved : Shape → Packet → ℕ → Packet
-moved s q d = record { node = neighbour s (q .node) d; legs = q .legs; left = q .left }
+moved s q d = put q (neighbour s (q .node) d) (q .mark)
 
--- The front leg; a leg of zeros where none is left.
+-- The current leg; a leg of zeros where none is left.
 unfoldable pub frontOr : Packet → Leg
-frontOr q = cond (eqb (q .left) 0) noLeg (frontOf q)
+frontOr q = cond (leb (q .count) (q .mark)) noLeg (frontOf q)

@@ -1,6 +1,5 @@
 // A packet on its way, as a walk carries it along a leg: the hops left to the leg's target, and beside them those of each direction (`Ways`). The
 // coordinates of the leg's ends are worked out once a leg.
-use crate::packet::Legs;
 use crate::packet::Packet;
 use machine::hop::hops_at;
 use machine::hop::number_at;
@@ -19,7 +18,7 @@ ghost use Rattle.packet.specs.Steps.{Fine, frontOr, settled};
 ghost use Rattle.packet.specs.Course.{courseIn, packetOf, endOf, courseOf, waysOf};
 
 pub struct Course {
-    pub left: u8,
+    pub mark: u8,
     pub mode: Mode,
     pub hops: u16,
     pub to: Coords,
@@ -28,7 +27,7 @@ pub struct Course {
 // A course and its ways, as they are worked out where a leg begins. Flat, so that a walk reads each field as it was stored: one read of several that were
 // just stored apart waits for them.
 pub struct Start {
-    pub left: u8,
+    pub mark: u8,
     pub mode: Mode,
     pub hops: u16,
     pub x: u8,
@@ -43,7 +42,7 @@ impl Start {
     {
         let mode = self.mode;
         Course {
-            left: self.left,
+            mark: self.mark,
             mode: mode,
             hops: self.hops,
             to: Coords {
@@ -55,12 +54,12 @@ impl Start {
     }
 }
 
-// The front leg; a leg of zeros where none is left.
+// The current leg; a leg of zeros where none is left.
 fn front_or(packet: Packet) -> Leg
-    requires { ⌜ packet .left ≤ mostLegs ⌝ }
+    requires { ⌜ packet .count ≤ mostLegs ⌝ }
     ensures { λ r. ⌜ r ≡ frontOr packet ⌝ }
 {
-    if packet.left == 0 {
+    if packet.count <= packet.mark {
         return Leg {
             target: 0,
             mode: Mode::Adaptive,
@@ -82,7 +81,7 @@ impl Course {
         let to = coords_of(shape, front.target);
         let ways = ways(mode, shape, at, to);
         Start {
-            left: ready.left,
+            mark: ready.mark,
             mode: mode,
             hops: hops_at(shape, at, to),
             x: to.x,
@@ -92,26 +91,18 @@ impl Course {
         }
     }
 
-    // The packet at the end of its leg.
-    pub fn end(self, shape: Shape, legs: Legs) -> Packet
-        ensures { λ r. ⌜ r ≡ endOf shape legs self ⌝ }
+    // The packet at the end of its leg. The rest of it is as it was lent.
+    pub fn end(self, shape: Shape, lent: Packet) -> Packet
+        ensures { λ r. ⌜ r ≡ endOf shape lent self ⌝ }
     {
         let to = self.to;
-        Packet {
-            node: number_at(shape, to),
-            legs: legs,
-            left: self.left,
-        }
+        lent.put(number_at(shape, to), self.mark)
     }
 
-    pub fn packet(self, shape: Shape, legs: Legs, ways: &Ways) -> Packet
-        ensures { λ r. ⌜ r ≡ packetOf shape legs self (now (ways .entry)) ⌝ }
+    pub fn packet(self, shape: Shape, lent: Packet, ways: &Ways) -> Packet
+        ensures { λ r. ⌜ r ≡ packetOf shape lent self (now (ways .entry)) ⌝ }
     {
         let to = self.to;
-        Packet {
-            node: number_at(shape, standing(shape, ways, to)),
-            legs: legs,
-            left: self.left,
-        }
+        lent.put(number_at(shape, standing(shape, ways, to)), self.mark)
     }
 }

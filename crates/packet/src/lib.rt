@@ -3,6 +3,7 @@ mod course;
 mod packet;
 mod route;
 mod stepper;
+mod taking_back;
 
 pub use packet::Legs;
 pub use packet::MOST_LEGS;

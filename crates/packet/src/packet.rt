@@ -1,4 +1,4 @@
-// A packet: its present node and the legs left, each a target and a mode.
+// A packet: its source and whole route, each leg a target and a mode, its present node, and a mark on the current leg.
 use logic::either;
 use logic::pick;
 use machine::leg::Leg;
@@ -7,35 +7,53 @@ use numbers::WRONG_PACKET;
 use shape::Shape;
 use shape::shape::shape_error;
 ghost use mathlib.Core.Path.{_≡_};
-ghost use Prim.Native.Nat.{_-_, _≤_, _<_};
-ghost use Rattle.packet.specs.Packet.{mostLegs, legsLeft, outside, packetError, packetWith};
+ghost use Prim.Native.Nat.{_≤_, _<_};
+ghost use Rattle.packet.specs.Packet.{mostLegs, routeOf, packetWith, put, outside, packetError};
 ghost use Rattle.packet.specs.Steps.{legAt, frontOf, endsHere, settled};
 
-// The legs left, at most three.
+// The legs of a route, at most three.
 pub const MOST_LEGS: usize = 3;
 
 pub type Legs = [Leg; MOST_LEGS];
 
-// The legs left are the last `left` of `legs`; the front leg is the first of those.
+// The route is the first `count` of `legs`. The legs left are those from number `mark` on, counted from 0; where `mark` is `count` none is.
 pub struct Packet {
+    pub source: u16,
     pub node: u16,
     pub legs: Legs,
-    pub left: u8,
+    pub count: u8,
+    pub mark: u8,
 }
 
 impl Packet {
     // Any packet, by its fields.
-    pub fn with(node: u16, legs: Legs, left: u8) -> Packet
-        ensures { λ r. ⌜ r ≡ packetWith node legs left ⌝ }
+    pub fn with(source: u16, node: u16, legs: Legs, count: u8, mark: u8) -> Packet
+        ensures { λ r. ⌜ r ≡ packetWith source node legs count mark ⌝ }
     {
         Packet {
+            source: source,
             node: node,
             legs: legs,
-            left: left,
+            count: count,
+            mark: mark,
         }
     }
 
-    fn leg(self, i: usize) -> Leg
+    // The packet at another node with another mark.
+    pub(crate) fn put(self, node: u16, mark: u8) -> Packet
+        ensures { λ r. ⌜ r ≡ put self node mark ⌝ }
+    {
+        let legs = self.legs;
+        Packet {
+            source: self.source,
+            node: node,
+            legs: legs,
+            count: self.count,
+            mark: mark,
+        }
+    }
+
+    pub(crate) fn leg(self, i: usize) -> Leg
         requires { ⌜ i < mostLegs ⌝ }
         ensures { λ r. ⌜ r ≡ legAt self i ⌝ }
     {
@@ -44,19 +62,18 @@ impl Packet {
     }
 
     pub(crate) fn front(self) -> Leg
-        requires { ⌜ (0 < self .left) × (self .left ≤ mostLegs) ⌝ }
+        requires { ⌜ self .mark < mostLegs ⌝ }
         ensures { λ r. ⌜ r ≡ frontOf self ⌝ }
     {
-        let left = self.left as usize;
-        self.leg(MOST_LEGS - left)
+        self.leg(self.mark as usize)
     }
 
-    // A leg is left, and the front leg's target is the present node.
-    fn ends_here(self) -> bool
-        requires { ⌜ self .left ≤ mostLegs ⌝ }
+    // A leg is left, and the current leg's target is the present node.
+    pub(crate) fn ends_here(self) -> bool
+        requires { ⌜ self .count ≤ mostLegs ⌝ }
         ensures { λ r. ⌜ r ≡ endsHere self ⌝ }
     {
-        if self.left == 0 {
+        if self.count <= self.mark {
             return false;
         }
         let leg = self.front();
@@ -65,28 +82,28 @@ impl Packet {
 
     // The packet with the drops stored.
     pub(crate) fn drop_all(self) -> Packet
-        requires { ⌜ self .left ≤ mostLegs ⌝ }
+        requires { ⌜ self .count ≤ mostLegs ⌝ }
         ensures { λ r. ⌜ r ≡ settled self ⌝ }
     {
         let mut next = self;
         while next.ends_here() {
-            next.left = next.left - 1;
+            next.mark = next.mark + 1;
         }
         next
     }
 
-    // A leg that is left names a node outside the shape.
-    fn leg_outside(self, count: u32) -> bool
-        requires { ⌜ self .left ≤ mostLegs ⌝ }
-        ensures { λ r. ⌜ r ≡ outside count (legsLeft self) ⌝ }
+    // A leg of the route names a node outside the shape.
+    fn leg_outside(self, nodes: u32) -> bool
+        requires { ⌜ self .count ≤ mostLegs ⌝ }
+        ensures { λ r. ⌜ r ≡ outside nodes (routeOf self) ⌝ }
     {
-        let left = self.left as usize;
+        let count = self.count as usize;
         let mut bad = false;
-        let mut judged: usize = 0;
-        while judged < left {
-            judged = judged + 1;
-            let leg = self.leg(MOST_LEGS - judged);
-            bad = either(count <= leg.target as u32, bad);
+        let mut left = count;
+        while 0 < left {
+            left = left - 1;
+            let leg = self.leg(left);
+            bad = either(nodes <= leg.target as u32, bad);
         }
         bad
     }
@@ -99,14 +116,12 @@ impl Packet {
         if error != 0 {
             return error;
         }
-        if MOST_LEGS < self.left as usize {
+        if MOST_LEGS < self.count as usize {
             return WRONG_PACKET;
         }
         let nodes = node_count(shape);
-        pick(
-            either(nodes <= self.node as u32, self.leg_outside(nodes)),
-            WRONG_PACKET,
-            0,
-        )
+        let named = either(nodes <= self.node as u32, self.leg_outside(nodes));
+        let outside = either(nodes <= self.source as u32, named);
+        pick(either(self.count < self.mark, outside), WRONG_PACKET, 0)
     }
 }

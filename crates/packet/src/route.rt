@@ -4,7 +4,8 @@ use crate::packet::Packet;
 use machine::leg::Leg;
 use machine::leg::Mode;
 ghost use mathlib.Core.Path.{_≡_};
-ghost use Rattle.packet.specs.New.{legsTo, newPacket};
+ghost use Rattle.machine.specs.Torus.{leg};
+ghost use Rattle.packet.specs.New.{legsTo, sourcePacket, newPacket};
 
 // A route to a destination: one leg, two legs by a via, or three by two vias.
 pub enum Route {
@@ -13,62 +14,44 @@ pub enum Route {
     Vias(u16, u16, Mode, Mode, Mode),
 }
 
+// A leg to `target` in mode `mode`.
+fn leg_to(target: u16, mode: Mode) -> Leg
+    ensures { λ r. ⌜ r ≡ leg target mode ⌝ }
+{
+    Leg {
+        target: target,
+        mode: mode,
+    }
+}
+
+// The packet at the source with its mark on the first leg, which may end there.
+fn at_source(source: u16, dest: u16, route: Route) -> Packet
+    ensures { λ r. ⌜ r ≡ sourcePacket source (legsTo dest route) ⌝ }
+{
+    match route {
+        Route::Direct(mode) => {
+            let leg = leg_to(dest, mode);
+            Packet::with(source, source, [leg; MOST_LEGS], 1, 0)
+        }
+        Route::Via(via, first, second) => {
+            let front = leg_to(via, first);
+            let last = leg_to(dest, second);
+            Packet::with(source, source, [front, last, front], 2, 0)
+        }
+        Route::Vias(via, further, first, second, third) => {
+            let front = leg_to(via, first);
+            let middle = leg_to(further, second);
+            let last = leg_to(dest, third);
+            Packet::with(source, source, [front, middle, last], 3, 0)
+        }
+    }
+}
+
 impl Packet {
-    // A new packet is at the source of its route with all the route's legs left.
+    // A new packet is at the source of its route, with the mark on its first leg still to travel.
     pub fn new(source: u16, dest: u16, route: Route) -> Packet
         ensures { λ r. ⌜ r ≡ newPacket source (legsTo dest route) ⌝ }
     {
-        match route {
-            Route::Direct(mode) => {
-                let leg = Leg {
-                    target: dest,
-                    mode: mode,
-                };
-                Packet {
-                    node: source,
-                    legs: [leg; MOST_LEGS],
-                    left: 1,
-                }
-            }
-            Route::Via(via, first, second) => {
-                let front = Leg {
-                    target: via,
-                    mode: first,
-                };
-                let last = Leg {
-                    target: dest,
-                    mode: second,
-                };
-                let mut legs = [front; MOST_LEGS];
-                legs[MOST_LEGS - 1] = last;
-                Packet {
-                    node: source,
-                    legs: legs,
-                    left: 2,
-                }
-            }
-            Route::Vias(via, further, first, second, third) => {
-                let front = Leg {
-                    target: via,
-                    mode: first,
-                };
-                let middle = Leg {
-                    target: further,
-                    mode: second,
-                };
-                let last = Leg {
-                    target: dest,
-                    mode: third,
-                };
-                let mut legs = [front; MOST_LEGS];
-                legs[MOST_LEGS - 2] = middle;
-                legs[MOST_LEGS - 1] = last;
-                Packet {
-                    node: source,
-                    legs: legs,
-                    left: 3,
-                }
-            }
-        }
+        at_source(source, dest, route).drop_all()
     }
 }

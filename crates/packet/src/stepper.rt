@@ -19,9 +19,9 @@ ghost use Rattle.packet.specs.Answers.{answerNumber, endingNumber, told,
 ghost use Rattle.packet.specs.Steps.{Fine};
 ghost use Rattle.packet.specs.Course.{packetOf, keptOf};
 
-// What a step answers of the direction: hopped, or the number of the refusal.
+// What a step, or taking a hop back, answers: done, or the number of the refusal.
 pub enum Answer {
-    Hopped,
+    Done,
     Refused(u8),
 }
 
@@ -30,7 +30,7 @@ impl Answer {
         ensures { λ r. ⌜ r ≡ answerNumber self ⌝ }
     {
         match self {
-            Answer::Hopped => 0,
+            Answer::Done => 0,
             Answer::Refused(number) => number,
         }
     }
@@ -70,13 +70,12 @@ pub struct Walked {
 
 // The packet that a walk hands back: only a hop stores the drops.
 fn kept(lent: Packet, shape: Shape, hops: usize, course: Course, ways: &Ways) -> Packet
-    ensures { λ r. ⌜ r ≡ keptOf lent hops (packetOf shape (lent .legs) course (now (ways .entry))) ⌝ }
+    ensures { λ r. ⌜ r ≡ keptOf lent hops (packetOf shape lent course (now (ways .entry))) ⌝ }
 {
     if hops == 0 {
         return lent;
     }
-    let legs = lent.legs;
-    course.packet(shape, legs, ways)
+    course.packet(shape, lent, ways)
 }
 
 // One hop a byte, until the packet has arrived, a direction is not allowed or the bytes are used up.
@@ -84,13 +83,13 @@ fn walk_on(lent: Packet, shape: Shape, dirs: &[u8]) -> Walked
     requires { ⌜ Fine shape lent ⌝ }
     ensures { λ r. ⌜ r ≡ toldWalk (goes (torus shape) (stored shape) lent (now (dirs .entry))) ⌝ }
 {
-    let legs = lent.legs;
+    let count = lent.count;
     let start = Course::of(lent, shape);
     let mut way = start.course();
     let mut ways = start.ways;
     let mut hops: usize = 0;
     while hops < dirs.len() {
-        if way.left == 0 {
+        if count <= way.mark {
             return Walked {
                 packet: kept(lent, shape, hops, way, &ways),
                 hops: hops,
@@ -108,12 +107,12 @@ fn walk_on(lent: Packet, shape: Shape, dirs: &[u8]) -> Walked
         hops = hops + 1;
         way.hops = way.hops - 1;
         if way.hops == 0 {
-            let next = Course::of(way.end(shape, legs), shape);
+            let next = Course::of(way.end(shape, lent), shape);
             way = next.course();
             ways = next.ways;
         }
     }
-    if way.left == 0 {
+    if count <= way.mark {
         return Walked {
             packet: kept(lent, shape, hops, way, &ways),
             hops: hops,
@@ -141,7 +140,7 @@ impl Packet {
             };
         }
         let ready = self.drop_all();
-        if ready.left == 0 {
+        if ready.count <= ready.mark {
             return Stepped {
                 packet: self,
                 answer: Answer::Refused(NOT_ALLOWED),
@@ -157,15 +156,10 @@ impl Packet {
                 answer: Answer::Refused(NOT_ALLOWED),
             };
         }
-        let legs = ready.legs;
-        let moved = Packet {
-            node: number_at(shape, moved_at(shape, at, dir)),
-            legs: legs,
-            left: ready.left,
-        };
+        let moved = ready.put(number_at(shape, moved_at(shape, at, dir)), ready.mark);
         Stepped {
             packet: moved.drop_all(),
-            answer: Answer::Hopped,
+            answer: Answer::Done,
         }
     }
 

@@ -4,10 +4,9 @@ use mathlib.Core.Path.{_≡_, refl, sym, ap, _∙_}
 use mathlib.Core.Bool.{Bool, true, false≢true}
 use mathlib.Core.List.{List, [], _∷_}
 use lib.Dec.{eqb}
-use Rattle.theory.specs.Machine.{Machine, Inside, dropped, allows}
+use Rattle.theory.specs.Machine.{Machine, dropped, allows}
 use Rattle.theory.specs.Run.{Call, Step, Walk, Run, at, start, takes, moved, offered, called, ran}
-use Rattle.theory.specs.Packet.{Packets, PacketLaws, judged, mayGo, arrived, tried, step, goes, walk, after, afterAll}
-use Rattle.theory.specs.Plan.{New}
+use Rattle.theory.specs.Packet.{Packets, HopLaws, judged, mayGo, arrived, tried, step, goes, walk, after, afterAll}
 use Rattle.theory.specs.Alike.{allowing, SameWalks, SameLegs, SameAnswer, SameAnswers, RunsAlike}
 use Rattle.theory.proofs.Cases.{test}
 use Rattle.theory.proofs.Drops.{dropped-keeps}
@@ -81,34 +80,22 @@ module _ {Leg : Type 0} (M : Machine Leg) (other : Leg → ℕ → ℕ → Bool)
   same-ran r (c ∷ cs) k = let one = same-called r c k in rw (← (one .0)) (same-ran (called M r c) cs (one .1))
 
   -- ---- packets
-  same-inside : (ls : List Leg) → Inside N ls → Inside M ls
-  same-inside [] i = tt
-  same-inside (l ∷ ls) i = (i .0, same-inside ls (i .1))
+  -- The laws of hops do not ask which directions are allowed.
+  pub hops-same : {P : Type 0} (K : Packets Leg P) → HopLaws M K → HopLaws N K
+  hops-same K S = record { node-hop = S .node-hop; legs-hop = S .legs-hop }
 
-  -- The laws of packets do not ask which directions are allowed.
-  pub packets-same : {P : Type 0} (K : Packets Leg P) (Good : P → Type 0) → PacketLaws M K Good → PacketLaws N K Good
-  packets-same K Good S = record {
-    good-hop = S .good-hop;
-    node-hop = S .node-hop;
-    legs-hop = S .legs-hop;
-    good-check = λ q g at i. S .good-check q g at (same-inside (K .legs q) i);
-  }
-
-  module _ {P : Type 0} (K : Packets Leg P) (Good : P → Type 0) (S : PacketLaws M K Good) where
-    record Kept (q : P) : Type 0 where
-      good : Good q
-      legs : Same (K .node q) (judged M K q)
+  module _ {P : Type 0} (K : Packets Leg P) (S : HopLaws M K) where
+    -- The legs left have the same walks in both.
+    abbrev Kept : P → Type 0
+    Kept q = Same (K .node q) (judged M K q)
 
     same-way : (q : P) (d : ℕ) → Kept q → mayGo M K q d ≡ mayGo N K q d
-    same-way q d k = same-allows (K .node q) d (judged M K q) (k .legs)
+    same-way q d k = same-allows (K .node q) d (judged M K q) k
 
     kept-hop : (q : P) (d : ℕ) → mayGo M K q d ≡ true → Kept q → Kept (K .hop q d)
     kept-hop q d t k =
         let next = M .next (K .node q) d in
-        record {
-          good = S .good-hop q d (k .good);
-          legs = rw (S .node-hop q d (k .good), S .legs-hop q d (k .good)) (same-dropped next _ (same-dropped next _ (same-on (K .node q) d (judged M K q) t (k .legs))));
-        }
+        rw (S .node-hop q d, S .legs-hop q d) (same-dropped next _ (same-dropped next _ (same-on (K .node q) d (judged M K q) t k)))
 
     same-goes : (q : P) (ds : List ℕ) → Kept q → (goes M K q ds ≡ goes N K q ds) × Kept (goes M K q ds .packet)
     unfolding goes
@@ -144,9 +131,11 @@ module _ {Leg : Type 0} (M : Machine Leg) (other : Leg → ℕ → ℕ → Bool)
         let rest = same-calls (after M K q c) cs (one .2) in
         ((one .0, rest .0), rw (← (one .1)) (rest .1))
 
-    -- The theorem: of every new packet of the route.
-    pub runs-alike : (source : ℕ) (route : List Leg) (new : P) → New K Good source route new → SameLegs M N source route → (calls : List Call) → RunsAlike M N K source route new calls
+    -- The theorem: of every packet at the source with the route's legs left, as they are judged.
+    pub runs-alike :
+        (source : ℕ) (route : List Leg) (new : P) → K .node new ≡ source → judged M K new ≡ dropped (M .target) source route → SameLegs M N source route →
+        (calls : List Call) → RunsAlike M N K source route new calls
     unfolding at
-    runs-alike source route new n k calls =
-        let both = same-calls new calls (record { good = n .good; legs = rw (n .at, n .with) (same-dropped source route k) }) in
+    runs-alike source route new node legs k calls =
+        let both = same-calls new calls (rw (legs, node) (same-dropped source route k)) in
         record { answers = both .0; packet = both .1; run = same-ran (start M source route) calls (same-dropped source route k) }

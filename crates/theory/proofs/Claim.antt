@@ -1,7 +1,7 @@
 -- The claim about a list of calls holds.
 use Prim.Native.Nat.{ℕ, suc, _+_, _<_}
 use native.Mathlib.Omega.{arith}
-use mathlib.Core.Path.{_≡_, refl}
+use mathlib.Core.Path.{_≡_, refl, _∙_}
 use mathlib.Core.Logic.{_↔_}
 use mathlib.Core.Bool.{Bool, true, false, cond, false≢true}
 use mathlib.Core.List.{List, [], _∷_, _++_}
@@ -11,31 +11,20 @@ use Rattle.theory.specs.Clear.{Sound, ClearLegs, lead}
 use Rattle.theory.specs.Run.{Call, Step, Walk, Run, count, at, start, takes, moved, offered, called, ran}
 use Rattle.numbers.specs.Numbers.{notAllowed}
 use Rattle.theory.specs.Packet.{Packets, PacketLaws, Walked, judged, mayGo, arrived, isNone, Ending, Arrived, NotAllowed, UsedUp, halt, further, tried, step, goes, walk, after, afterAll}
-use Rattle.theory.specs.Claim.{Tells, Told, Claim}
+use Rattle.theory.specs.Claim.{Tells, Told, Holds, Claim}
 use Rattle.theory.proofs.Cases.{test}
 use Rattle.theory.proofs.Drops.{dropped-keeps, Settled, dropped-settled, settled-dropped}
 use Rattle.theory.proofs.Clear.{clear-on}
-
--- One more hop at the end of a walk.
-module _ {Leg : Type 0} (M : Machine Leg) (d : ℕ) where
-  lead-one : (p : ℕ) (ds : List ℕ) → lead M p (ds ++ (d ∷ [])) ≡ M .next (lead M p ds) d
-  unfolding lead
-  lead-one p [] = refl
-  lead-one p (e ∷ ds) = lead-one (M .next p e) ds
-
-  sound-one : (sound : ℕ → ℕ → Bool) (p : ℕ) (ds : List ℕ) → Sound M sound p ds → sound (lead M p ds) d ≡ true → Sound M sound p (ds ++ (d ∷ []))
-  unfolding lead
-  sound-one sound p [] s h = (h, tt)
-  sound-one sound p (e ∷ ds) s h = (s .0, sound-one sound (M .next p e) ds (s .1) h)
+use Rattle.theory.proofs.OneMore.{lead-one, sound-one}
 
 module _ {Leg : Type 0} (M : Machine Leg) (L : Laws M) (sound : ℕ → ℕ → Bool) (whole end : ℕ) where
   -- What lies ahead at p with the legs ls left after n hops.
-  record Ahead (n p : ℕ) (ls : List Leg) : Type 0 where
-    at : p < M .size
-    inside : Inside M ls
-    total : n + hopsOf M p ls ≡ whole
-    goal : endOf M p ls ≡ end
-    clear : ClearLegs M sound p ls
+  pub record Ahead (n p : ℕ) (ls : List Leg) : Type 0 where
+    pub at : p < M .size
+    pub inside : Inside M ls
+    pub total : n + hopsOf M p ls ≡ whole
+    pub goal : endOf M p ls ≡ end
+    pub clear : ClearLegs M sound p ls
 
   ahead-drop : (n p : ℕ) (l : Leg) (ls : List Leg) → M .target l ≡ p → Ahead n p (l ∷ ls) → Ahead n p ls
   unfolding sumBy endBy
@@ -86,17 +75,21 @@ module _ {Leg : Type 0} (M : Machine Leg) (L : Laws M) (sound : ℕ → ℕ → 
         onward = λ _. L .onward l p (a .at) (a .inside .0) s;
       }
 
-  module _ {P : Type 0} (K : Packets Leg P) (Good : P → Type 0) (S : PacketLaws M K Good) (source : ℕ) where
+  -- `Along q r`: what else goes with the packet and the run, over every hop that is taken.
+  module _
+      {P : Type 0} (K : Packets Leg P) (Good : P → Type 0) (S : PacketLaws M K Good) (source : ℕ)
+      (Along : P → Run Leg → Type 0) (along-hop : (q : P) (r : Run Leg) (d : ℕ) → mayGo M K q d ≡ true → takes M r d ≡ true → Along q r → Along (K .hop q d) (moved M r d)) where
     -- A packet and a run that go together.
-    record Joined (q : P) (r : Run Leg) : Type 0 where
-      good : Good q
-      targets : Inside M (K .legs q)
-      same-place : K .node q ≡ r .place
-      same-legs : judged M K q ≡ r .legs
-      settled : Settled (M .target) (r .place) (r .legs)
-      ahead : Ahead (count r) (r .place) (r .legs)
-      led : lead M source (r .taken) ≡ r .place
-      crossed : Sound M sound source (r .taken)
+    pub record Joined (q : P) (r : Run Leg) : Type 0 where
+      pub along : Along q r
+      pub good : Good q
+      pub targets : Inside M (K .legs q)
+      pub same-place : K .node q ≡ r .place
+      pub same-legs : judged M K q ≡ r .legs
+      pub settled : Settled (M .target) (r .place) (r .legs)
+      pub ahead : Ahead (count r) (r .place) (r .legs)
+      pub led : lead M source (r .taken) ≡ r .place
+      pub crossed : Sound M sound source (r .taken)
 
     -- They agree on what is allowed, and stay together over a hop.
     same-way : (q : P) (r : Run Leg) (d : ℕ) → Joined q r → mayGo M K q d ≡ takes M r d
@@ -110,10 +103,11 @@ module _ {Leg : Type 0} (M : Machine Leg) (L : Laws M) (sound : ℕ → ℕ → 
     joined-hop q r d h j =
         let on = ahead-hop (count r) (r .place) d (r .legs) h (j .ahead) in
         let down = ahead-dropped (suc (count r)) (M .next (r .place) d) (r .legs) (on .1) in
-        let place : K .node (K .hop q d) ≡ M .next (r .place) d = cc (S .node-hop q d (j .good)) in
-        let legs : K .legs (K .hop q d) ≡ dropped (M .target) (M .next (r .place) d) (r .legs) = cc (S .legs-hop q d (j .good)) in
+        let place : K .node (K .hop q d) ≡ M .next (r .place) d = cc (S .hops .node-hop q d) in
+        let legs : K .legs (K .hop q d) ≡ dropped (M .target) (M .next (r .place) d) (r .legs) = cc (S .hops .legs-hop q d) in
         let one : length (r .taken ++ (d ∷ [])) ≡ suc (count r) = omega (arith, length-append (r .taken) (d ∷ [])) in
         record {
+          along = along-hop q r d (same-way q r d j ∙ h) h (j .along);
           good = S .good-hop q d (j .good);
           targets = rw legs (down .inside);
           same-place = place;
@@ -176,43 +170,70 @@ module _ {Leg : Type 0} (M : Machine Leg) (L : Laws M) (sound : ℕ → ℕ → 
         let rest = told (after M K q c) (called M r c) cs (one .1) in
         ((one .0, rest .0), rest .1)
 
--- The theorem: of a new packet of a clear route, at its source.
-module _ {Leg P : Type 0} (M : Machine Leg) (L : Laws M) (K : Packets Leg P) (Good : P → Type 0) (S : PacketLaws M K Good) (sound : ℕ → ℕ → Bool) where
-  pub claim :
-      (source : ℕ) (route : List Leg) (new : P) →
-      source < M .size →
-      Inside M route →
-      ClearLegs M sound source route →
-      Good new →
-      K .node new ≡ source →
-      K .legs new ≡ route →
-      (calls : List Call) →
-      Claim M K sound source route new calls
-  unfolding at lead
-  claim source route new at inside clear good node legs calls =
-      let whole = hopsOf M source route in
-      let end = endOf M source route in
-      let first : Ahead M L sound whole end 0 source route = record { at = at; inside = inside; total = omega arith; goal = refl; clear = clear } in
-      let begin : Joined M L sound whole end K Good S source new (start M source route) = record {
-        good = good;
-        targets = rw legs inside;
-        same-place = node;
-        same-legs = rw (node, legs);
-        settled = dropped-settled (M .target) source route;
-        ahead = ahead-dropped M L sound whole end 0 source route first;
-        led = refl;
-        crossed = tt;
-      } in
-      let all = told M L sound whole end K Good S source new (start M source route) calls begin in
-      let j = all .1 in
-      let judge = ahead-judged M L sound whole end _ _ _ (j .settled) (j .ahead) in
-      record {
-        told = all .0;
-        same-place = j .same-place;
-        led = cc;
-        crossed = j .crossed;
-        within = omega (arith, j .ahead .total);
-        not-stuck = rw (j .same-legs, j .same-place) (judge .onward);
-        when-arrived = rw (j .same-legs) (judge .none);
-        at-end = rw (j .same-place) (judge .at-end);
-      }
+    -- What is claimed of them; whole and end are the route's.
+    joined-holds : (route : List Leg) (q : P) (r : Run Leg) → whole ≡ hopsOf M source route → end ≡ endOf M source route → Joined q r → Holds M K sound source route q r
+    joined-holds route q r ew ee j =
+        let judge = ahead-judged _ _ _ (j .settled) (j .ahead) in
+        record {
+          same-place = j .same-place;
+          led = cc (j .same-place, j .led);
+          crossed = j .crossed;
+          within = omega (arith, j .ahead .total);
+          not-stuck = rw (← ew, j .same-legs, j .same-place) (judge .onward);
+          when-arrived = rw (← ew, j .same-legs) (judge .none);
+          at-end = rw (← ew, ← ee, j .same-place) (judge .at-end);
+        }
+
+-- The theorem: of a packet at the source of a clear route, with the route's legs left, as they are judged.
+module _ {Leg P : Type 0} (M : Machine Leg) (L : Laws M) (K : Packets Leg P) (Good : P → Type 0) (S : PacketLaws M K Good) (sound : ℕ → ℕ → Bool) (source : ℕ) (route : List Leg) where
+  -- The packet is well stored, and the route clear.
+  pub record Starts (new : P) : Type 0 where
+    pub at : source < M .size
+    pub inside : Inside M route
+    pub clear : ClearLegs M sound source route
+    pub good : Good new
+    pub targets : Inside M (K .legs new)
+    pub node : K .node new ≡ source
+    pub legs : judged M K new ≡ dropped (M .target) source route
+
+  module _ (Along : P → Run Leg → Type 0) (along-hop : (q : P) (r : Run Leg) (d : ℕ) → mayGo M K q d ≡ true → takes M r d ≡ true → Along q r → Along (K .hop q d) (moved M r d)) where
+    abbrev pub Together : P → Run Leg → Type 0
+    Together = Joined M L sound (hopsOf M source route) (endOf M source route) K Good S source Along along-hop
+
+    pub together-start : (new : P) → Starts new → Along new (start M source route) → Together new (start M source route)
+    unfolding at lead
+    together-start new n along =
+        let first : Ahead M L sound (hopsOf M source route) (endOf M source route) 0 source route = record { at = n .at; inside = n .inside; total = omega arith; goal = refl; clear = n .clear } in
+        record {
+          along = along;
+          good = n .good;
+          targets = n .targets;
+          same-place = n .node;
+          same-legs = n .legs;
+          settled = dropped-settled (M .target) source route;
+          ahead = ahead-dropped M L sound _ _ 0 source route first;
+          led = refl;
+          crossed = tt;
+        }
+
+    -- They agree on what is allowed, no check declines the packet, and they stay together over a hop.
+    pub together-way : (q : P) (r : Run Leg) (d : ℕ) → Together q r → mayGo M K q d ≡ takes M r d
+    together-way = same-way M L sound (hopsOf M source route) (endOf M source route) K Good S source Along along-hop
+
+    pub together-check : (q : P) (r : Run Leg) → Together q r → K .check q ≡ 0
+    together-check = joined-check M L sound (hopsOf M source route) (endOf M source route) K Good S source Along along-hop
+
+    pub together-hop : (q : P) (r : Run Leg) (d : ℕ) → takes M r d ≡ true → Together q r → Together (K .hop q d) (moved M r d)
+    together-hop = joined-hop M L sound (hopsOf M source route) (endOf M source route) K Good S source Along along-hop
+
+    pub together-holds : (q : P) (r : Run Leg) → Together q r → Holds M K sound source route q r
+    together-holds q r = joined-holds M L sound (hopsOf M source route) (endOf M source route) K Good S source Along along-hop route q r refl refl
+
+    pub together-call : (q : P) (r : Run Leg) (c : Call) → Together q r → Tells M K q r c × Together (after M K q c) (called M r c)
+    together-call = tells M L sound (hopsOf M source route) (endOf M source route) K Good S source Along along-hop
+
+  pub claim : (new : P) → Starts new → (calls : List Call) → Claim M K sound source route new calls
+  claim new n calls =
+      let all = told M L sound (hopsOf M source route) (endOf M source route) K Good S source (λ _ _. Unit {0}) (λ _ _ _ _ _ _. tt) new (start M source route) calls
+      (together-start (λ _ _. Unit {0}) (λ _ _ _ _ _ _. tt) new n tt) in
+      record { told = all .0; holds = together-holds (λ _ _. Unit {0}) (λ _ _ _ _ _ _. tt) _ _ (all .1) }

@@ -3,8 +3,13 @@ pub mod Checks
 pub mod Bools
 pub mod Drops
 pub mod Clear
+pub mod OneMore
 pub mod Steps
 pub mod Claim
+pub mod Marks
+pub mod Reached
+pub mod Back
+pub mod BackClaim
 pub mod Choice
 pub mod Plan
 pub mod Alike

@@ -21,22 +21,20 @@ module _ {Leg P : Type 0} (M : Machine Leg) (K : Packets Leg P) where
   Told q r [] = Unit {0}
   Told q r (c ∷ cs) = Tells q r c × Told (after M K q c) (called M r c) cs
 
-  module _ (sound : ℕ → ℕ → Bool) (source : ℕ) (route : List Leg) (new : P) (calls : List Call) where
-    abbrev pub theRun : Run Leg
-    theRun = ran M (start M source route) calls
-
-    abbrev pub thePacket : P
-    thePacket = afterAll M K new calls
-
-    -- told, same-place: the packet's node is the place of the run, and every call tells the truth about it.
+  module _ (sound : ℕ → ℕ → Bool) (source : ℕ) (route : List Leg) where
+    -- Of a packet q and the run r of its hops. same-place: the packet's node is the place of the run.
     -- crossed: each hop taken crosses a sound link. led: the packet is where the hops lead. within: they are never more than the route's hops.
     -- not-stuck: while fewer some direction is allowed. when-arrived, at-end: it has arrived, at the destination, exactly when they are that many.
-    pub record Claim : Type 0 where
+    pub record Holds (q : P) (r : Run Leg) : Type 0 where
+      pub same-place : K .node q ≡ r .place
+      pub crossed : Sound M sound source (r .taken)
+      pub led : K .node q ≡ lead M source (r .taken)
+      pub within : count r ≤ hopsOf M source route
+      pub not-stuck : count r < hopsOf M source route → (d : ℕ) × (d < M .ways) × (mayGo M K q d ≡ true)
+      pub when-arrived : (arrived M K q ≡ true) ↔ (count r ≡ hopsOf M source route)
+      pub at-end : count r ≡ hopsOf M source route → K .node q ≡ endOf M source route
+
+    -- told: every call tells the truth about the run. holds: after the calls, all of the above.
+    pub record Claim (new : P) (calls : List Call) : Type 0 where
       pub told : Told new (start M source route) calls
-      pub same-place : K .node thePacket ≡ theRun .place
-      pub crossed : Sound M sound source (theRun .taken)
-      pub led : K .node thePacket ≡ lead M source (theRun .taken)
-      pub within : count theRun ≤ hopsOf M source route
-      pub not-stuck : count theRun < hopsOf M source route → (d : ℕ) × (d < M .ways) × (mayGo M K thePacket d ≡ true)
-      pub when-arrived : (arrived M K thePacket ≡ true) ↔ (count theRun ≡ hopsOf M source route)
-      pub at-end : count theRun ≡ hopsOf M source route → K .node thePacket ≡ endOf M source route
+      pub holds : Holds (afterAll M K new calls) (ran M (start M source route) calls)

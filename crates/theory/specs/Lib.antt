@@ -4,6 +4,9 @@ pub mod Clear
 pub mod Packet
 pub mod Run
 pub mod Claim
+pub mod Marks
+pub mod Back
+pub mod BackClaim
 pub mod Choice
 pub mod Plan
 pub mod Alike

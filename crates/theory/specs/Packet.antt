@@ -15,7 +15,7 @@ pub record Packets (Leg P : Type 0) : Type 0 where
   pub check : P → ℕ
   pub hop : P → ℕ → P
 
--- What a step answers: the packet, and the number of the refusal or 0.
+-- What a step, or taking a hop back, answers: the packet, and the number of the refusal or 0.
 pub record Stepped (P : Type 0) : Type 0 where
   pub packet : P
   pub number : ℕ
@@ -56,12 +56,15 @@ module _ {Leg P : Type 0} (M : Machine Leg) (K : Packets Leg P) where
   abbrev pub arrived : P → Bool
   arrived q = isNone (judged q)
 
-  -- What the storage has to meet, of packets that are well stored: a hop stores the drops, before it and again after it, and no check declines a
-  -- packet whose nodes are all nodes of the machine.
+  -- What the storage has to meet. Of any packet: a hop leads over its link, and stores the drops, before it and again after it.
+  pub record HopLaws : Type 0 where
+    pub node-hop : (q : P) (d : ℕ) → K .node (K .hop q d) ≡ M .next (K .node q) d
+    pub legs-hop : (q : P) (d : ℕ) → K .legs (K .hop q d) ≡ dropped (M .target) (M .next (K .node q) d) (judged q)
+
+  -- Of packets that are well stored: so they are after a hop, and no check declines one whose nodes are all nodes of the machine.
   pub record PacketLaws (Good : P → Type 0) : Type 0 where
+    pub hops : HopLaws
     pub good-hop : (q : P) (d : ℕ) → Good q → Good (K .hop q d)
-    pub node-hop : (q : P) (d : ℕ) → Good q → K .node (K .hop q d) ≡ M .next (K .node q) d
-    pub legs-hop : (q : P) (d : ℕ) → Good q → K .legs (K .hop q d) ≡ dropped (M .target) (M .next (K .node q) d) (judged q)
     pub good-check : (q : P) → Good q → K .node q < M .size → Inside M (K .legs q) → K .check q ≡ 0
 
   -- A step returns the packet after one allowed hop. A refusal leaves the packet as it was.

@@ -1,4 +1,4 @@
-//! Nafthurm for a board's program in Rust: plan and route sheets, planned routes, packets, steps and walks. Every call takes any bytes and any
+//! Nafthurm for a board's program in Rust: plan and route sheets, planned routes, packets, steps, walks, and hops taken back. Every call takes any bytes and any
 //! numbers; what each checks, and in which order, stands in library/nafthurm.h, and the numbers of refusals in docs/NUMBERS.md.
 mod raw;
 
@@ -13,7 +13,7 @@ pub const LISTING_BYTES: usize = 94222;
 pub const ALL_WORDS_A_BOARD: usize = 512;
 pub const ALL_WORDS: usize = 2097152;
 
-/// The number of a refusal, 1 to 17.
+/// The number of a refusal, 1 to 18.
 #[derive(Clone, Copy, Debug, PartialEq, Eq)]
 pub struct Refused(pub u8);
 
@@ -85,12 +85,15 @@ pub struct Leg {
     pub mode: Mode,
 }
 
-/// A packet: its present node and the legs left, the last `left` of the array. With none left it has arrived.
+/// A packet: the source of its route, its present node, and the route, which is the first `count` of the legs. `mark` is the number of the current leg, from 0 on;
+/// where it is `count`, just past the last leg, the packet has arrived. Legs behind the route are not judged, and kept.
 #[derive(Clone, Copy, Debug, PartialEq, Eq)]
 pub struct Packet {
+    pub source: u16,
     pub node: u16,
     pub legs: [Leg; 3],
-    pub left: u8,
+    pub count: u8,
+    pub mark: u8,
 }
 
 #[derive(Clone, Copy, Debug, PartialEq, Eq)]
@@ -235,7 +238,7 @@ pub fn convert(plan: &[u8], sheet: &[u8], out: &mut [u8]) -> Result<usize, NotCo
 // ---- Packets
 
 impl Packet {
-    /// At the source of its route with all the route's legs left.
+    /// At the source of its route, with the mark on its first leg still to travel.
     pub fn new(source: u16, destination: u16, route: Route) -> Packet {
         unsafe { raw::nafthurm_new_packet(source, destination, raw::Route::of(route)) }.read()
     }
@@ -249,6 +252,12 @@ impl Packet {
     pub fn step(self, shape: Shape, direction: u8) -> Result<Packet, Refused> {
         let stepped = unsafe { raw::nafthurm_step(shape, raw::Packet::of(self), direction) };
         accepted(stepped.number).map(|()| stepped.packet.read())
+    }
+
+    /// The packet before its last hop, which was made in the direction.
+    pub fn take_back(self, shape: Shape, direction: u8) -> Result<Packet, Refused> {
+        let taken = unsafe { raw::nafthurm_take_back(shape, raw::Packet::of(self), direction) };
+        accepted(taken.number).map(|()| taken.packet.read())
     }
 
     /// One hop a byte.

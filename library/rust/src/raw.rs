@@ -54,9 +54,11 @@ pub struct RawLeg {
 
 #[repr(C)]
 pub struct Packet {
+    pub source: u16,
     pub node: u16,
     pub legs: [RawLeg; 3],
-    pub left: u8,
+    pub count: u8,
+    pub mark: u8,
 }
 
 #[repr(C)]
@@ -92,6 +94,7 @@ extern "C" {
     pub fn nafthurm_new_packet(source: u16, destination: u16, route: Route) -> Packet;
     pub fn nafthurm_packet_check(shape: Shape, packet: Packet) -> u8;
     pub fn nafthurm_step(shape: Shape, packet: Packet, direction: u8) -> Stepped;
+    pub fn nafthurm_take_back(shape: Shape, packet: Packet, direction: u8) -> Stepped;
     pub fn nafthurm_walk(shape: Shape, packet: Packet, directions: *const u8, directions_size: usize) -> Walked;
 }
 
@@ -143,10 +146,10 @@ fn leg(raw: RawLeg) -> Leg {
 
 impl Packet {
     pub fn of(packet: crate::Packet) -> Packet {
-        Packet { node: packet.node, legs: packet.legs.map(raw_leg), left: packet.left }
+        Packet { source: packet.source, node: packet.node, legs: packet.legs.map(raw_leg), count: packet.count, mark: packet.mark }
     }
 
     pub fn read(self) -> crate::Packet {
-        crate::Packet { node: self.node, legs: self.legs.map(leg), left: self.left }
+        crate::Packet { source: self.source, node: self.node, legs: self.legs.map(leg), count: self.count, mark: self.mark }
     }
 }

@@ -1,4 +1,4 @@
-use Prim.Native.Nat.{_-_}
+use Prim.Native.Nat.{_≤_, _-_}
 use mathlib.Core.Path.{_≡_}
 use lib.ListN.{length}
 use native.Mathlib.Omega.{arith}
@@ -7,16 +7,16 @@ use Rattle.conform_stepper.proofs.packets.put_legs.Statement.{statement
 use Rattle.conform_stepper.proofs.packets.put_legs.Tie as tie
 
 abbrev Inv-loop : tie.InvT-loop
-Inv-loop out₀ at legs first next₀ i₀ out next i = length out ≡ length out₀
+Inv-loop out₀ at legs count next₀ i₀ out next i = (length out ≡ length out₀) × (count ≤ mostLegs)
 
 abbrev μ-loop : tie.MeasureT-loop
-μ-loop out₀ at legs first next₀ i₀ out next i = mostLegs - i
+μ-loop out₀ at legs count next₀ i₀ out next i = count - i
 
-cast-first-left : tie.Need-cast-first-left Inv-loop μ-loop
-cast-first-left c = omega arith
+cast-held : tie.Need-cast-held Inv-loop μ-loop
+cast-held c = omega arith
 
-first-left-requires : tie.Need-first-left-requires Inv-loop μ-loop
-first-left-requires c κs = tt
+held-requires : tie.Need-held-requires Inv-loop μ-loop
+held-requires c κs = tt
 
 loop-holds : tie.Need-loop-holds Inv-loop μ-loop
 loop-holds c = omega arith
@@ -51,8 +51,8 @@ put-legs-spec =
     (tie.spec
     Inv-loop
     μ-loop
-    cast-first-left
-    first-left-requires
+    cast-held
+    held-requires
     loop-holds
     mul-put-next
     array-copy-out-put-next

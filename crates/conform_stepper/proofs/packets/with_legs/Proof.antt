@@ -5,13 +5,10 @@ use Rattle.conform_stepper.proofs.packets.with_legs.Statement.{statemen
 use Rattle.conform_stepper.proofs.packets.with_legs.Tie as tie
 
 abbrev Inv-loop : tie.InvT-loop
-Inv-loop node s packet₀ start₀ packet start = Unit {0}
+Inv-loop s packet₀ start₀ packet start = Unit {0}
 
 abbrev μ-loop : tie.MeasureT-loop
-μ-loop node s packet₀ start₀ packet start = length s + 1 - start
-
-resting-requires : tie.Need-resting-requires Inv-loop μ-loop
-resting-requires c κs = tt
+μ-loop s packet₀ start₀ packet start = length s + 1 - start
 
 readable-requires : tie.Need-readable-requires Inv-loop μ-loop
 readable-requires c κs = tt
@@ -67,7 +64,6 @@ with-legs-spec =
     (tie.spec
     Inv-loop
     μ-loop
-    resting-requires
     readable-requires
     returns
     loop-holds

@@ -13,7 +13,7 @@ packet-requires c κs = search needs
 
 returns-2 : tie.Need-returns-2
 unfolding keptOf
-returns-2 c = rw (ne-eqb _ _ (c .before .before .if1 .left)) (c .packet .ensures)
+returns-2 c = rw (ne-eqb _ _ (c .before .if1 .left)) (c .packet .ensures)
 
 pub kept-spec : {M : Type 1} → statement M
 kept-spec = tie.close (tie.spec returns packet-requires returns-2)

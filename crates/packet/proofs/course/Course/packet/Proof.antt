@@ -9,9 +9,12 @@ standing-requires c κs = search needs
 number-at-requires : tie.Need-number-at-requires
 number-at-requires c κs = search needs
 
+put-requires : tie.Need-put-requires
+put-requires c κs = search needs
+
 returns : tie.Need-returns
 unfolding packetOf
-returns c = rw (c .number-at .ensures, c .before .standing .ensures)
+returns c = rw (c .put .ensures, c .before .number-at .ensures, c .before .before .standing .ensures)
 
 pub packet-spec : {M : Type 1} → statement M
-packet-spec = tie.close (tie.spec standing-requires number-at-requires returns)
+packet-spec = tie.close (tie.spec standing-requires number-at-requires put-requires returns)

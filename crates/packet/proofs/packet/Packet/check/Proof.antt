@@ -34,11 +34,20 @@ leg-outside-requires c κs = search needs
 either-requires : tie.Need-either-requires
 either-requires c κs = search needs
 
+cast-either-2 : tie.Need-cast-either-2
+cast-either-2 c = search needs
+
+either-requires-2 : tie.Need-either-requires-2
+either-requires-2 c κs = search needs
+
+either-requires-3 : tie.Need-either-requires-3
+either-requires-3 c κs = search needs
+
 pick-requires : tie.Need-pick-requires
 pick-requires c κs = search needs
 
 returns-3 : tie.Need-returns-3
-returns-3 c = error-rest _ _ _ _ _ (omega arith) (omega arith) (c .before .before .before .before .node-count .ensures) (c .before .before .leg-outside .ensures) (rw (c .pick .ensures, c .before .either .ensures))
+returns-3 c = error-rest _ _ _ _ _ _ _ (omega arith) (omega arith) (c .before .before .before .before .before .before .before .before .node-count .ensures) (c .before .before .before .before .before .before .leg-outside .ensures) (c .before .before .before .before .before .either .ensures) (c .before .before .before .either2 .ensures) (rw (c .pick .ensures, c .before .either3 .ensures))
 
 pub check-spec : {M : Type 1} → statement M
 check-spec =
@@ -52,5 +61,8 @@ check-spec =
     cast-either
     leg-outside-requires
     either-requires
+    cast-either-2
+    either-requires-2
+    either-requires-3
     pick-requires
     returns-3)

@@ -1,6 +1,7 @@
 use native.Mathlib.Omega.{arith}
+use Prim.Native.Nat.{_-_}
 use mathlib.Core.Path.{sym, _∙_}
-use Rattle.packet.proofs.Drops.{Dropping, dropping, ends-left, dropping-on, dropping-all}
+use Rattle.packet.proofs.Drops.{Dropping, dropping, ends-here, dropping-on, dropping-all}
 use Rattle.packet.proofs.packet.Packet.drop_all.Statement.{statement}
 use Rattle.packet.proofs.packet.Packet.drop_all.Tie as tie
 
@@ -8,7 +9,7 @@ abbrev Inv-loop : tie.InvT-loop
 Inv-loop next₀ next = Dropping next₀ next
 
 abbrev μ-loop : tie.MeasureT-loop
-μ-loop next₀ next = next .left
+μ-loop next₀ next = next .count - next .mark
 
 loop-holds : tie.Need-loop-holds Inv-loop μ-loop
 loop-holds c = dropping _ (c .pre)
@@ -16,11 +17,11 @@ loop-holds c = dropping _ (c .pre)
 ends-here-requires : tie.Need-ends-here-requires Inv-loop μ-loop
 ends-here-requires c κs = c .loop .inv .few
 
-sub-next : tie.Need-sub-next Inv-loop μ-loop
-sub-next c = ends-left _ (sym (c .before .before .ends-here .ensures) ∙ c .before .if1 .taken)
+add-next : tie.Need-add-next Inv-loop μ-loop
+add-next c = let e = ends-here _ (sym (c .before .before .ends-here .ensures) ∙ c .before .if1 .taken) in omega (arith, e .left, c .before .before .before .loop .inv .few)
 
 loop-less : tie.Need-loop-less Inv-loop μ-loop
-loop-less c = omega (arith, ends-left _ (sym (c .before .before .ends-here .ensures) ∙ c .before .if1 .taken))
+loop-less c = omega (arith, ends-here _ (sym (c .before .before .ends-here .ensures) ∙ c .before .if1 .taken) .left)
 
 loop-again : tie.Need-loop-again Inv-loop μ-loop
 loop-again c = dropping-on _ _ (c .before .before .before .loop .inv) (sym (c .before .before .ends-here .ensures) ∙ c .before .if1 .taken)
@@ -31,4 +32,4 @@ returns c = dropping-all _ _ (c .before .before .loop .inv) (sym (c .before .end
 pub drop-all-spec : {M : Type 1} → statement M
 drop-all-spec =
     tie.close
-    (tie.spec Inv-loop μ-loop loop-holds ends-here-requires sub-next loop-less loop-again returns)
+    (tie.spec Inv-loop μ-loop loop-holds ends-here-requires add-next loop-less loop-again returns)

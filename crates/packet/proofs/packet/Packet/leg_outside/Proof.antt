@@ -1,29 +1,26 @@
 use native.Mathlib.Omega.{arith}
-use Prim.Native.Nat.{_-_}
+use mathlib.Core.Path.{refl}
 use Rattle.packet.proofs.Drops.{Judging, judging, judging-on, judging-all}
 use Rattle.packet.proofs.packet.Packet.leg_outside.Statement.{statement}
 use Rattle.packet.proofs.packet.Packet.leg_outside.Tie as tie
 
 abbrev Inv-loop : tie.InvT-loop
-Inv-loop self count left bad₀ judged₀ bad judged = Judging count self bad judged
+Inv-loop self nodes count bad₀ left₀ bad left = Judging nodes self bad left
 
 abbrev μ-loop : tie.MeasureT-loop
-μ-loop self count left bad₀ judged₀ bad judged = self .left - judged
+μ-loop self nodes count bad₀ left₀ bad left = left
 
-cast-left : tie.Need-cast-left Inv-loop μ-loop
-cast-left c = omega arith
+cast-count : tie.Need-cast-count Inv-loop μ-loop
+cast-count c = omega arith
 
 loop-holds : tie.Need-loop-holds Inv-loop μ-loop
-loop-holds c = judging _ _
+loop-holds c = judging _ _ _ refl
 
-add-judged : tie.Need-add-judged Inv-loop μ-loop
-add-judged c = omega arith
-
-sub-leg : tie.Need-sub-leg Inv-loop μ-loop
-sub-leg c = omega arith
+sub-left : tie.Need-sub-left Inv-loop μ-loop
+sub-left c = omega arith
 
 leg-requires : tie.Need-leg-requires Inv-loop μ-loop
-leg-requires c κs = omega arith
+leg-requires c κs = let i = c .before .loop .inv in omega (arith, i .within)
 
 cast-either : tie.Need-cast-either Inv-loop μ-loop
 cast-either c = omega arith
@@ -46,10 +43,9 @@ leg-outside-spec =
     (tie.spec
     Inv-loop
     μ-loop
-    cast-left
+    cast-count
     loop-holds
-    add-judged
-    sub-leg
+    sub-left
     leg-requires
     cast-either
     either-requires

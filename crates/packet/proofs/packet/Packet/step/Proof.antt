@@ -1,5 +1,6 @@
 use native.Mathlib.Omega.{arith}
-use mathlib.Core.Path.{sym, _∙_}
+use mathlib.Core.Path.{sym, ap, _∙_}
+use Rattle.packet.specs.Steps.{settled}
 use borrow.Author.Tests.{not-true, not-false}
 use Rattle.packet.proofs.Walks.{step-refused, ready-fine, step-arrived, step-declined, step-hopped}
 use Rattle.packet.proofs.Answers.{step-told}
@@ -21,7 +22,7 @@ returns-2 : tie.Need-returns-2
 returns-2 c = step-told _ _ (step-arrived _ _ (fine-of _ _ (sym (c .before .before .before .before .check .ensures) ∙ c .before .before .before .if1 .left)) _ (c .before .before .drop-all .ensures) _ (c .if2 .taken))
 
 front-requires : tie.Need-front-requires
-front-requires c κs = (omega arith, ready-fine _ _ (fine-of _ _ (sym (c .before .before .before .before .check .ensures) ∙ c .before .before .before .if1 .left)) _ (c .before .before .drop-all .ensures) .few)
+front-requires c κs = let f = ready-fine _ _ (fine-of _ _ (sym (c .before .before .before .before .check .ensures) ∙ c .before .before .before .if1 .left)) _ (c .before .before .drop-all .ensures) in omega (arith, f .few)
 
 coords-of-requires : tie.Need-coords-of-requires
 coords-of-requires c κs = search needs
@@ -41,11 +42,14 @@ moved-at-requires c κs = search needs
 number-at-requires : tie.Need-number-at-requires
 number-at-requires c κs = search needs
 
+put-requires : tie.Need-put-requires
+put-requires c κs = search needs
+
 drop-all-requires-2 : tie.Need-drop-all-requires-2
-drop-all-requires-2 c κs = ready-fine _ _ (fine-of _ _ (sym (c .before .before .before .before .before .before .before .before .before .before .before .before .check .ensures) ∙ c .before .before .before .before .before .before .before .before .before .before .before .if1 .left)) _ (c .before .before .before .before .before .before .before .before .before .before .drop-all .ensures) .few
+drop-all-requires-2 c κs = rw (c .put .ensures) (ready-fine _ _ (fine-of _ _ (sym (c .before .before .before .before .before .before .before .before .before .before .before .before .check .ensures) ∙ c .before .before .before .before .before .before .before .before .before .before .before .if1 .left)) _ (c .before .before .before .before .before .before .before .before .before .before .drop-all .ensures) .few)
 
 returns-4 : tie.Need-returns-4
-returns-4 c = step-told _ _ (step-hopped _ _ (fine-of _ _ (sym (c .before .before .before .before .before .before .before .before .before .before .before .before .before .check .ensures) ∙ c .before .before .before .before .before .before .before .before .before .before .before .before .if1 .left)) _ (c .before .before .before .before .before .before .before .before .before .before .before .drop-all .ensures) _ (c .before .before .before .before .before .before .before .before .before .if2 .left) _ (c .before .before .before .before .before .before .before .before .front .ensures) _ _ (c .before .before .before .before .before .before .before .coords-of .ensures) (c .before .before .before .before .before .before .coords-of2 .ensures) _ (c .before .before .before .before .before .allowed-at .ensures) (not-false _ (c .before .before .before .before .if3 .left)) _ _ _ (c .before .before .moved-at .ensures) (c .before .number-at .ensures) (c .drop-all2 .ensures))
+returns-4 c = step-told _ _ (step-hopped _ _ (fine-of _ _ (sym (c .before .before .before .before .before .before .before .before .before .before .before .before .before .check .ensures) ∙ c .before .before .before .before .before .before .before .before .before .before .before .before .if1 .left)) _ (c .before .before .before .before .before .before .before .before .before .before .before .drop-all .ensures) _ (c .before .before .before .before .before .before .before .before .before .if2 .left) _ (c .before .before .before .before .before .before .before .before .front .ensures) _ _ (c .before .before .before .before .before .before .before .coords-of .ensures) (c .before .before .before .before .before .before .coords-of2 .ensures) _ (c .before .before .before .before .before .allowed-at .ensures) (not-false _ (c .before .before .before .before .if3 .left)) _ _ _ (c .before .before .before .moved-at .ensures) (c .before .before .number-at .ensures) (c .drop-all2 .ensures ∙ ap settled (c .before .put .ensures)))
 
 pub step-spec : {M : Type 1} → statement M
 step-spec =
@@ -62,5 +66,6 @@ step-spec =
     returns-3
     moved-at-requires
     number-at-requires
+    put-requires
     drop-all-requires-2
     returns-4)
