@@ -3,7 +3,7 @@ use std::io::Write;
 use std::process::{Command, Stdio};
 
 /// What the two call these rules.
-pub const STAGE: &str = "E5";
+pub const STAGE: &str = "E6";
 const STAGE_NUMBER: u32 = 5;
 
 #[allow(warnings)]

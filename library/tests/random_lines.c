@@ -49,20 +49,24 @@ static uint8_t some_way_back(nafthurm_shape s, nafthurm_packet packet) {
     return (uint8_t)ONE_OF(0, 1, 2, 3, 4, 5, 6, 255);
 }
 
-static void packet_line(const char *operation) {
-    nafthurm_shape s = *operation == 't' ? made_shape(64) : packet_shape(), given = chance(10) ? hurt_shape(s) : s; /* taking back, the reference searches every walk */
+static void packet_line(int walked) {
+    nafthurm_shape s = packet_shape(), given = chance(10) ? hurt_shape(s) : s;
     nafthurm_packet packet = any_packet(s);
     bytes run = {.size = 0};
-    int good = packet_number(s, packet) == 0;
-    say("%s", operation);
+    if (packet_number(s, packet) == 0) run.size = made_run(s, packet, run.at);
+    say(walked ? "walk" : "step");
     say_packet(given, packet);
-    if (*operation == 't') {
-        say(" direction=%d", good && chance(80) ? some_way_back(s, packet) : ONE_OF(0, 1, 2, 3, 4, 5, 6, 255));
-        return;
-    }
-    if (good) run.size = made_run(s, packet, run.at);
-    if (*operation == 'w') say_bytes("run", &run);
+    if (walked) say_bytes("run", &run);
     else say(" direction=%d", run.size > 0 && chance(70) ? run.at[0] : ONE_OF(0, 1, 2, 3, 4, 5, 6, 255));
+}
+
+/* On a machine of few nodes, since the reference searches every walk. */
+static void takeback_line(void) {
+    nafthurm_shape s = made_shape(64), given = chance(10) ? hurt_shape(s) : s;
+    nafthurm_packet packet = any_packet(s);
+    say("takeback");
+    say_packet(given, packet);
+    say(" direction=%d", packet_number(s, packet) == 0 && chance(80) ? some_way_back(s, packet) : ONE_OF(0, 1, 2, 3, 4, 5, 6, 255));
 }
 
 /* ---- Runs ---- */
@@ -202,9 +206,9 @@ static void make_line(void) {
     case 7: route_line("back", SHEET_VERSION), say_room(); break;
     case 8: route_line("convert", OLD_VERSION), say_room(); break;
     case 9: route_line("lost", OLD_VERSION); break;
-    case 10: packet_line("step"); break;
-    case 11: packet_line("walk"); break;
-    case 12: packet_line("takeback"); break;
+    case 10: packet_line(0); break;
+    case 11: packet_line(1); break;
+    case 12: takeback_line(); break;
     default: plan_line(); break;
     }
 }
