@@ -17,7 +17,7 @@ STORED = os.path.join(HERE, '..', 'crates', 'conform', 'stdout')
 SLOW = 'sheet', 'listing', 'sheetrun'
 TRIED_FIRST = {'packets': 'step', 'taking back': 'takeback', 'conversions': 'convert', 'lost': 'lost', 'sheets': 'sheet', 'listing': 'listing', 'writing back': 'back',
                'entries': 'back'}                      # by what a slip's name begins with
-SECONDS = 60                   # a case that takes longer, since a search does not end, is noticed
+SECONDS = 60                   # of the processor: a case that takes more, since a search does not end, is noticed
 
 SHAPE_CHECK = '    number = check_shape(extents, wrap)\n    return number or check_packet(stage, shape_of(extents, wrap), packet)'
 NAMED = '    named = [packet.node] + [target for target, _ in packet.legs]'
@@ -653,7 +653,7 @@ def in_turn(name, lines):
 def noticed(answers, lines):
     """How many cases were answered until one was answered otherwise; 0 where none was."""
     for i, (case, wanted) in enumerate(lines, 1):
-        signal.alarm(SECONDS)
+        signal.setitimer(signal.ITIMER_VIRTUAL, SECONDS)
         try:
             if answers.answer(case) != wanted:
                 return i
@@ -668,7 +668,7 @@ def too_long(*_):
 
 def main():
     lines, missed = stored(), 0
-    signal.signal(signal.SIGALRM, too_long)
+    signal.signal(signal.SIGVTALRM, too_long)
     assert not noticed(answers_with(SEARCHES, BY_LEGS + SEARCHES), [line for line in lines if line[0].split(' ')[0] == 'takeback'])        # it is no slip
     words = ' '.join(sys.argv[1:])
     for name, old, new in SLIPS:
