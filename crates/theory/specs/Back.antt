@@ -91,7 +91,7 @@ module _ {Leg P : Type 0} (M : Machine Leg) (B : Backward Leg) (K : Marks Leg P)
 
   -- undone: from a packet that allowed hops, or none, reach from a new one at its source, an allowed step and then its direction taken back give the first
   -- packet. redone: taking back, where granted, then stepping gives the later one. refused: 18 exactly where no allowed walk from the packet's source ends
-  -- at this packet by that hop.
+  -- at this packet by that hop. otherwise: a packet that passes the checks gets no other refusal.
   pub record Undoing : Type 0 where
     pub undone : (q : P) (d : ℕ) → Reached M K q → step M (marked M K) q d .number ≡ 0 → back (step M (marked M K) q d .packet) d ≡ record { packet = q; number = 0 }
     pub redone : (q e : P) (d : ℕ) → back q d ≡ record { packet = e; number = 0 } → step M (marked M K) e d ≡ record { packet = q; number = 0 }
