@@ -1,9 +1,9 @@
-//! The planners in plain Rust, `reference/fast.rs` and `reference/shadows.rs` under document 01's rules with E1 to E7, called from here and as programs.
+//! The planners in plain Rust, `reference/fast.rs` and `reference/shadows.rs` under document 01's rules with E1 to E6, called from here and as programs.
 use std::io::Write;
 use std::process::{Command, Stdio};
 
 /// What the two call these rules.
-pub const STAGE: &str = "E7";
+pub const STAGE: &str = "E6";
 const STAGE_NUMBER: u32 = 5;
 
 #[allow(warnings)]

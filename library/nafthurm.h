@@ -11,17 +11,12 @@
  *   - the bytes lent as output or workspace overlap none of the others, and nobody alters lent bytes during a call.
  * Nothing is allocated, no state is kept between calls and no pointer is kept after one: calls may run at the same time in several threads.
  * A call uses at most NAFTHURM_STACK bytes of stack; nafthurm_pair NAFTHURM_STACK_PAIR, nafthurm_write_sheet NAFTHURM_STACK_SHEET,
- * nafthurm_all_sheets NAFTHURM_STACK_ALL, nafthurm_listing NAFTHURM_STACK_LISTING, nafthurm_small_pair NAFTHURM_STACK_SMALL_PAIR and
- * nafthurm_small_write_sheet NAFTHURM_STACK_SMALL_SHEET.
+ * nafthurm_all_sheets NAFTHURM_STACK_ALL and nafthurm_listing NAFTHURM_STACK_LISTING.
  *
- * A field or result `number` is 0, or the number of a refusal, 1 to 19: docs/NUMBERS.md. A call that is refused writes no lent byte, but to a
+ * A field or result `number` is 0, or the number of a refusal, 1 to 18: docs/NUMBERS.md. A call that is refused writes no lent byte, but to a
  * workspace.
  *
- * There are two callers. The large one takes plans of up to 4,096 nodes and 256 faults, which is every plan. The small one, a controller with little memory, takes
- * plans of up to NAFTHURM_SMALL_NODES nodes and NAFTHURM_SMALL_FAULTS faults, by the calls nafthurm_small_..; it refuses any other plan with 19. On a plan within its
- * limits both callers get the same answers and the same bytes. Calls that take no plan, those of packets, are for both.
- *
- * The checks of a plan are 1 to 6, 16, of the small caller then 19, and then 7 and 8 fault by fault, in this order.
+ * The checks of a plan are 1 to 6, 16, and then 7 and 8 fault by fault, in this order.
  *
  * Directions are 0 X+, 1 X-, 2 Y+, 3 Y-, 4 Z+, 5 Z-. The kind of a route, as in a route sheet of version 3 and in the listing, is 16 times its vias plus a
  * bit for each deterministic leg, leg one lowest: 0 direct adaptive, 1 direct deterministic, 16 to 19 by a via, 32 to 39 by two. 160 is a dead destination,
@@ -46,12 +41,6 @@ extern "C" {
 #define NAFTHURM_SHEET_BYTES 28672
 #define NAFTHURM_LISTING_BYTES 94222
 
-/* What the small caller takes: the nodes of the extents, and the faults listed. Its largest plan sheet, and its largest route sheet, with 511 entries. */
-#define NAFTHURM_SMALL_NODES 512
-#define NAFTHURM_SMALL_FAULTS 32
-#define NAFTHURM_SMALL_PLAN_BYTES 108
-#define NAFTHURM_SMALL_SHEET_BYTES 3584
-
 /* The workspace of nafthurm_all_sheets: so many words of 16 bits a board of the plan; the largest plan has 4,096 boards. */
 #define NAFTHURM_ALL_WORDS_A_BOARD 512
 #define NAFTHURM_ALL_WORDS 2097152
@@ -61,12 +50,10 @@ extern "C" {
 
 /* Bytes of stack, held to by library/tests/test.c. */
 #define NAFTHURM_STACK 1024
-#define NAFTHURM_STACK_PAIR 106496
+#define NAFTHURM_STACK_PAIR 98304
 #define NAFTHURM_STACK_SHEET 131072
-#define NAFTHURM_STACK_ALL 163840
+#define NAFTHURM_STACK_ALL 131072
 #define NAFTHURM_STACK_LISTING 262144
-#define NAFTHURM_STACK_SMALL_PAIR 16384
-#define NAFTHURM_STACK_SMALL_SHEET 20480
 
 /* Extents of the dimensions X, Y, Z, each 1 to 16; wrap has bits 0, 1, 2 for X, Y, Z. */
 typedef struct {
@@ -251,25 +238,6 @@ nafthurm_route nafthurm_lookup_route(const uint8_t *plan, size_t plan_size, cons
  * were planned under.
  */
 nafthurm_converted nafthurm_convert(const uint8_t *plan, size_t plan_size, const uint8_t *sheet, size_t sheet_size, uint8_t *out, size_t out_size);
-
-/*
- * ---- The small caller ----
- * Each of these is the call without `small_` in its name, under the small caller's checks of a plan: 19 where the plan has more than NAFTHURM_SMALL_NODES nodes or
- * NAFTHURM_SMALL_FAULTS faults. 257 faults or more are 3 for both callers. A lookup that is refused with 19 gives the empty part at the sheet's start.
- */
-
-uint8_t nafthurm_small_plan_check(const uint8_t *plan, size_t plan_size);
-nafthurm_shape nafthurm_small_plan_shape(const uint8_t *plan, size_t plan_size);
-nafthurm_weights nafthurm_small_plan_weights(const uint8_t *plan, size_t plan_size);
-nafthurm_written nafthurm_small_plan_write_back(const uint8_t *plan, size_t plan_size, uint8_t *out, size_t out_size);
-
-nafthurm_planned nafthurm_small_pair(const uint8_t *plan, size_t plan_size, uint16_t source, uint16_t destination);
-nafthurm_written nafthurm_small_write_sheet(const uint8_t *plan, size_t plan_size, uint16_t source, uint8_t *out, size_t out_size);
-
-uint8_t nafthurm_small_sheet_check(const uint8_t *plan, size_t plan_size, const uint8_t *sheet, size_t sheet_size);
-nafthurm_written nafthurm_small_sheet_write_back(const uint8_t *plan, size_t plan_size, const uint8_t *sheet, size_t sheet_size, uint8_t *out, size_t out_size);
-nafthurm_part nafthurm_small_lookup(const uint8_t *plan, size_t plan_size, const uint8_t *sheet, size_t sheet_size, uint16_t destination);
-nafthurm_route nafthurm_small_lookup_route(const uint8_t *plan, size_t plan_size, const uint8_t *sheet, size_t sheet_size, uint16_t destination);
 
 /* ---- Packets ----
  * A step and a walk judge a packet with the current leg dropped, which raises the mark, while its target is the present node. Only a hop stores the drops, before

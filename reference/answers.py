@@ -7,22 +7,18 @@
   masks     plan= => masks=                          a byte a node, with a bit for each direction whose link is dead
   lost      plan= sheet= => number= entry=           the converter's number with room enough; with 17 the first entry that cannot be kept,
                                                      counted from 0, else 0
-
-`caller=small` makes a call of vectors.PLAN_CALLS the small caller's, and `both` puts one to both; the others are the large caller's.
 """
 import functools
 
 import reference as ref
 import vectors
 
-STAGE = ref.E7                 # the last change request that has landed
+STAGE = ref.E6                 # the last change request that has landed
 SHEET_BYTES = 28672            # the largest route sheet
-CALLERS = {'large': ref.LARGE, 'small': ref.SMALL}
 
 ref.LITERAL_NODES = 12         # larger plans are searched by length, with the same answer, since that is quicker
 
-plan_pair, planned_sheet = functools.lru_cache(maxsize=None)(ref.plan_pair), ref.planned_sheet
-sheets = {}
+plan_pair = functools.lru_cache(maxsize=None)(ref.plan_pair)
 
 
 def planned_once(stage, sheet, source, destination, limits=ref.LARGE):
@@ -30,15 +26,7 @@ def planned_once(stage, sheet, source, destination, limits=ref.LARGE):
     return plan_pair(stage, bytes(sheet), source, destination, limits)
 
 
-def sheet_once(stage, plan, source):
-    """And so is a sheet."""
-    key = stage, plan.shape.extents, plan.shape.wrap, plan.weights, tuple(plan.faults), source
-    if key not in sheets:
-        sheets[key] = planned_sheet(stage, plan, source)
-    return sheets[key]
-
-
-ref.plan_pair, ref.planned_sheet = planned_once, sheet_once
+ref.plan_pair = planned_once
 
 
 def raw(text):
@@ -101,12 +89,12 @@ def run_fields(shape, source, legs, calls):
 
 # ---- Plan sheets
 
-def plan(plan, caller='large'):
-    return vectors.read_answer(STAGE, raw(plan), CALLERS[caller])
+def plan(plan):
+    return vectors.read_answer(STAGE, raw(plan), ref.LARGE)
 
 
-def planback(plan, room, caller='large'):
-    return vectors.planback_answer(STAGE, raw(plan), int(room), CALLERS[caller])
+def planback(plan, room):
+    return vectors.planback_answer(STAGE, raw(plan), int(room), ref.LARGE)
 
 
 def planwrite(version, extents, wrap, weights, faults, room):
@@ -134,24 +122,24 @@ def masks(plan):
 
 # ---- Planning and route sheets
 
-def pair(plan, source, destination, caller='large'):
-    return vectors.pair_answer(STAGE, raw(plan), int(source), int(destination), CALLERS[caller])
+def pair(plan, source, destination):
+    return vectors.pair_answer(STAGE, raw(plan), int(source), int(destination), ref.LARGE)
 
 
-def sheet(plan, source, room, caller='large'):
-    return vectors.sheet_answer(STAGE, raw(plan), int(source), int(room), CALLERS[caller])
+def sheet(plan, source, room):
+    return vectors.sheet_answer(STAGE, raw(plan), int(source), int(room), ref.LARGE)
 
 
 def listing(input):
     return {'text': vectors.listing_text(ref.listing(STAGE, raw(input)))}
 
 
-def lookup(plan, sheet, destination, caller='large'):
-    return vectors.lookup_answer(STAGE, raw(plan), raw(sheet), int(destination), CALLERS[caller])
+def lookup(plan, sheet, destination):
+    return vectors.lookup_answer(STAGE, raw(plan), raw(sheet), int(destination), ref.LARGE)
 
 
-def back(plan, sheet, room, caller='large'):
-    return vectors.back_answer(STAGE, raw(plan), raw(sheet), int(room), CALLERS[caller])
+def back(plan, sheet, room):
+    return vectors.back_answer(STAGE, raw(plan), raw(sheet), int(room), ref.LARGE)
 
 
 def convert(plan, sheet, room):
@@ -167,12 +155,6 @@ def first_lost(shape, sheet):
     """The first entry that cannot be kept, of a version 1 sheet that has one."""
     read = ref.read_route_sheet(shape, sheet, [1])
     return next(i for i, entry in enumerate(read.entries) if not ref.kept(shape, read.source, entry))
-
-
-def both(op, **fields):
-    """One input put to both callers."""
-    assert op in vectors.PLAN_CALLS
-    return {'%s_%s' % (caller, key): value for caller in CALLERS for key, value in OPERATIONS[op](**fields, caller=caller).items()}
 
 
 def run(plan, source, destination, calls):
@@ -197,7 +179,7 @@ def sheetrun(plan, source, destination, calls):
 
 
 OPERATIONS = {call.__name__: call for call in (step, walk, takeback, plan, planback, planwrite, weights, dead, masks, pair, sheet, listing, lookup, back,
-                                               convert, lost, both, run, sheetrun)}
+                                               convert, lost, run, sheetrun)}
 OPERATIONS['runback'] = run    # some of its calls are 'back'
 
 

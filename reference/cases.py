@@ -14,7 +14,6 @@ import sys
 sys.dont_write_bytecode = True
 import answers
 import backs
-import callers
 import conversions
 import reference as ref
 import ties
@@ -22,11 +21,11 @@ import vectors
 import vias
 import weighed
 from answers import STAGE
-from lines import W, declined_plans, line, new_routes, of_version, plan_of, plan_write, routes_of, sheet_from
+from lines import W, declined_plans, line, of_version, plan_of, plan_write, routes_of, sheet_from
 
 SEED = '1'
 VECTORS = {'step': 400, 'walk': 400, 'plan': 500, 'planback': 300, 'pair': 500, 'sheet': 200, 'lookup': 350, 'back': 200, 'convert': 150, 'run': 300,
-           'sheetrun': 250, 'listing': 150, 'takeback': 500, 'runback': 250, 'both': 300}
+           'sheetrun': 250, 'listing': 150, 'takeback': 500, 'runback': 250}
 PLANS = 80                     # plan sheets for dead, masks, weights and planwrite
 LARGE = 36                     # machines of more nodes than the vectors plan on
 LINE_BYTES = 131072            # conform's line buffer
@@ -47,7 +46,6 @@ def worked():
     yield from worked_rows()
     yield from worked_conversions()
     yield from worked_backs()
-    yield from worked_callers()
     yield line('listing', input=ref.two(0) + W), 'text=' + vectors.listing_text('0 16 1\n' + W_LISTING.replace(' / ', '\n') + '\n')
     for room, answer in ((63, 'number=0 size=63 out=' + W_ROUTES.hex()), (62, 'number=12 size=0 out=' + 62 * 'ee'),
                          (66, 'number=0 size=63 out=' + W_ROUTES.hex() + 'eeeeee'), (0, 'number=12 size=0 out=-')):
@@ -136,29 +134,6 @@ def worked_backs():
     for destination, calls, answer in ((1, 's01,b01,w010101,b01,b01,b01,b01', 'legs=3:A,2:A,1:A answers=0,0,3+arrived,0,0,0,18 packet=0;0;0;3:A,2:A,1:A'),
                                        (0, 'b00', 'legs=0:A answers=18 packet=0;0;1;0:A'), (16, 'b00', 'number=9')):
         yield line('runback', plan=W, source=0, destination=destination, calls=calls), answer
-
-
-def worked_callers():
-    """The small caller's limits, 512 nodes and 32 faults, and that 19 is tested after 16 and before 7; within them both callers answer alike."""
-    def plan(number, *given, **weights):
-        yield line('plan', caller='small', plan=plan_of(*given, **weights)), 'number=%d' % number
-
-    def links(count):
-        return [(node, 0) for node in range(count)]
-    for extents in '8,8,8', '2,16,16', '16,16,2', '16,2,16':
-        yield line('plan', caller='small', plan=plan_of(answers.numbers_in(extents), 0)), 'number=0 extents=%s wrap=0 faults=-' % extents
-    for extents in [9, 8, 8], [16, 16, 3], [5, 8, 13], [16, 16, 16]:
-        yield from plan(19, extents, 0)
-    for count in 33, 256:
-        yield from plan(19, [8, 8, 8], 7, *links(count))
-    yield from plan(3, [8, 8, 8], 7, *links(257))
-    yield from plan(16, [9, 8, 8], 7, weights=[1, 1, 9])
-    yield from plan(6, [9, 8, 8], 8, weights=[1, 1, 9])
-    yield from plan(19, [9, 8, 8], 7, (576, 3), (576, 3))
-    yield from plan(7, [8, 8, 8], 7, (512, 3))
-    same = 'number=0 size=63 out=' + W_ROUTES.hex()
-    yield line('both', op='sheet', plan=W, source=0, room=63), ' '.join('%s_%s' % (caller, field) for caller in ('large', 'small') for field in same.split())
-    yield line('both', op='lookup', plan=plan_of([9, 8, 8], 0), sheet=new_routes(0, (5, 1)), destination=5), 'large_part=7:14 large_number=0 large_source=0 large_legs=5:D small_part=0:0 small_number=19'
 
 
 # ---- What the vectors lack: lines, answered by the reference
@@ -312,7 +287,7 @@ def large_sheets():
 
 
 LACKING = ((many_legs, links, plan_cases, refusals, alike, just_outside, large_pairs, large_sheets) + weighed.LACKING + ties.LACKING + conversions.LACKING + vias.LACKING
-           + backs.LACKING + callers.LACKING)
+           + backs.LACKING)
 
 
 # ---- Lines that no call can be made of
@@ -418,29 +393,6 @@ def unreadable_planning():
         yield 'listing ' + bad
 
 
-def unreadable_callers():
-    fields = {'plan': '', 'planback': ' room=12', 'pair': ' source=0 destination=1', 'sheet': ' source=0 room=63', 'lookup': ' sheet=%s destination=1' % W_ROUTES.hex(),
-              'back': ' sheet=%s room=63' % W_ROUTES.hex()}
-    for operation, rest in fields.items():
-        plan = 'plan=' + W.hex()
-        for caller in 'Small', 'smal', 'smaller', 'medium', '0', 'small,large', 'small;', '-':
-            yield '%s caller=%s %s%s' % (operation, caller, plan, rest)
-        yield '%s caller=small' % operation + rest
-        yield '%s caller=small plan=0%s' % (operation, rest)
-        yield 'both op=%s%s' % (operation, rest)
-        yield 'both op=%s plan=0%s' % (operation, rest)
-        if rest:
-            yield '%s caller=small %s' % (operation, plan)
-            yield 'both op=%s %s' % (operation, plan)
-        for name in '', 'op=', 'op=both', 'op=' + operation.upper(), 'op=%ss' % operation, 'op=weights', 'op=masks', 'op=convert', 'op=lost', 'op=step', 'op=listing':
-            yield 'both %s %s%s' % (name, plan, rest)
-    for bad in 'planback room=1025', 'sheet source=0 room=28737', 'back sheet=%s room=28737' % W_ROUTES.hex(), 'pair source=65536 destination=0', 'lookup sheet=0 destination=1':
-        operation, rest = bad.split(' ', 1)
-        yield '%s caller=small plan=%s %s' % (operation, W.hex(), rest)
-        yield 'both op=%s plan=%s %s' % (operation, W.hex(), rest)
-    yield 'both'
-
-
 def long():
     """(line, answer): a line fits the buffer together with its newline."""
     def padded(size):
@@ -460,8 +412,6 @@ def long():
             yield answered(line('lookup', plan=cube, sheet=full, destination=destination))
     for at, room in (4095, 20481), (4095, 28736), (4094, 0), (4094, 20482), (0, 20482):
         yield answered(line('convert', plan=cube, sheet=conversions.full_sheet(at), room=room))
-    half, full = plan_of([8, 8, 8], 7), vectors.random_route_sheet(random.Random(SEED), STAGE, ref.Shape([8, 8, 8], 7), 3, 512)
-    yield answered(line('both', op='back', plan=half, sheet=full, room=28736))
     for operation in 'convert', 'lost':
         yield answered(line(operation, plan=cube, sheet=bytes(28736), **{'room': 0} if operation == 'convert' else {}))
         yield line(operation, plan=cube, sheet=bytes(28737), room=0), 'unreadable'
@@ -491,7 +441,7 @@ def cases():
         yield from worked()
         for part in lacked.get():
             yield from part
-    for bad in unreadable, unreadable_plans, unreadable_planning, unreadable_callers:
+    for bad in unreadable, unreadable_plans, unreadable_planning:
         for case in bad():
             yield case, 'unreadable'
     yield from loose()
@@ -504,9 +454,6 @@ def loose():
     yield case + ' => number=99 packet=', answer
     yield 'jump a=b => c=d', 'unreadable'
     yield 'step direction=4 packet=0;0;0;13:A wrap=7 note=none extents=3,3,3', answer
-    case, answer = answered(line('pair', plan=plan_of([9, 8, 8], 7), source=0, destination=575))
-    yield case.replace('pair', 'pair caller=large'), answer
-    yield line('pair', plan=plan_of([9, 8, 8], 7), destination=575, caller='small', source=0), 'number=19'
 
 
 def texts(lines):

@@ -16,7 +16,7 @@ HERE = os.path.dirname(os.path.abspath(__file__))
 STORED = os.path.join(HERE, '..', 'crates', 'conform', 'stdout')
 SLOW = 'sheet', 'listing', 'sheetrun'
 TRIED_FIRST = {'packets': 'step', 'taking back': 'takeback', 'conversions': 'convert', 'lost': 'lost', 'sheets': 'sheet', 'listing': 'listing', 'writing back': 'back',
-               'entries': 'back', 'callers': 'both'}  # by what a slip's name begins with
+               'entries': 'back'}                      # by what a slip's name begins with
 SECONDS = 60                   # of the processor: a case that takes more, since a search does not end, is noticed
 
 SHAPE_CHECK = '    number = check_shape(extents, wrap)\n    return number or check_packet(stage, shape_of(extents, wrap), packet)'
@@ -93,33 +93,6 @@ FROM = ("    return not any(mode == 'D' and odd_half_ring(shape, start, target)\
 ODD_HALF = '    return any(shape.wrapped(dim) and 2 * abs(a[dim] - b[dim]) == shape.extents[dim]\n               and a[dim] % 2 == 1 for dim in range(3))'
 LOST = '    return next(i for i, entry in enumerate(read.entries) if not ref.kept(shape, read.source, entry))'
 LOST_NUMBER = ' if number == 17 else 0}'
-COUNT = '    if count > 256:\n'
-LIMITS = '    if stage >= E7 and (shape.nodes > limits[0] or count > limits[1]):\n        return 19, None\n'
-SMALL = 'SMALL = (512, 32)'
-READS = 'def read_answer(stage, plan, limits):\n    number, read = ref.read_plan(stage, plan, limits)\n'
-READ_FAULTS = "            'faults': faults_text(read.faults)}"
-PLAN_BACK = '    number, _ = ref.read_plan(stage, plan, limits)\n    size = 0\n'
-PAIR = '    number, plan = read_plan(stage, sheet, limits)\n    if number:\n        return number, None\n    return pair_in(stage, plan, source, destination)'
-SHEET = '    number, plan = read_plan(stage, sheet, limits)\n    if number:\n        return number, 0\n'
-SHEET_PUT = '    return put(planned_sheet(stage, plan, source), out)'
-FINDS = LOOKS_UP + '    number, plan = read_plan(stage, plan_sheet, limits)\n'
-FINDS_ENTRY = '    _, _, entry = find(stage, plan_sheet, sheet, destination, limits)\n'
-FINDS_ROUTE = '    number, read, entry = find(stage, plan_sheet, sheet, destination, limits)\n'
-FINDS_AMONG = '    for entry in read.entries:\n        if entry.destination == destination:'
-BACK_READ = WRITES_BACK + '    number, plan = read_plan(stage, plan_sheet, limits)\n'
-CONVERT_READ = CONVERTS + '    assert stage >= E3\n    number, plan = read_plan(stage, plan_sheet, limits)\n'
-LISTING = '    number, plan = read_plan(stage, data[2:], limits)\n'
-
-
-def before_19(call, number, test):
-    """A call that has another number before 19, where the large caller's plan passes the test."""
-    return call + '    if number == 19:\n        large = %sread_plan(stage, %s)[1]\n        if large and %s:\n            number = %d\n' % (
-        'ref.' if 'ref.' in call else '', 'plan_sheet' if 'plan_sheet' in call else 'plan' if 'ref.' in call else 'sheet', test, number)
-
-
-def for_large(call):
-    """A call by the large caller's limits."""
-    return call.replace('limits)\n', ('ref.' if 'ref.' in call else '') + 'LARGE)\n')
 
 
 def read_first(text):
@@ -637,80 +610,6 @@ SLIPS = [
     ('lost: the first of kind 11', LOST, LOST.replace('if not ref.kept(shape, read.source, entry)', 'if entry.kind == 11 or not any(e.kind == 11 for e in read.entries)')),
     ('lost: how many are kept', LOST, LOST.replace('next(i for i, entry in enumerate(read.entries) if not', 'sum(1 for entry in read.entries if')),
     ('lost: 17 is told as 13', LOST_NUMBER, " if number == 17 else 0} if number != 17 else {'number': 13, 'entry': 0}"),
-    ('callers: 19 before 16', WEIGHTS, '    shape = shape_of(extents, wrap)\n' + LIMITS + WEIGHTS),
-    ('callers: 19 before 6', SHAPE, SHAPE.replace('    if number:', '    if number == 6 and (extents[0] * extents[1] * extents[2] > limits[0] or count > limits[1]):\n        return 19, None\n    if number:')),
-    ('callers: 19 before 5', SHAPE, SHAPE.replace('    if number:', '    if number == 5 and (extents[0] * extents[1] * extents[2] > limits[0] or count > limits[1]):\n        return 19, None\n    if number:')),
-    ('callers: 19 of faults before 4', LENGTH, '    if count > limits[1]:\n        return 19, None\n' + LENGTH),
-    ('callers: 19 of nodes before 4', LENGTH, '    if limits == SMALL and sheet[3] * sheet[4] * sheet[5] > 512:\n        return 19, None\n' + LENGTH),
-    ('callers: 19 before 3', COUNT, '    if count > limits[1] and limits == SMALL:\n        return 19, None\n' + COUNT),
-    ('callers: 19 of nodes before 1', '    if len(sheet) < 9:\n', '    if limits == SMALL and len(sheet) > 5 and sheet[3] * sheet[4] * sheet[5] > 512:\n        return 19, None\n    if len(sheet) < 9:\n'),
-    ('callers: 3 by the caller\'s limit', COUNT, COUNT.replace('256', 'limits[1]')),
-    ('callers: 19 of faults is 3', LIMITS, LIMITS.replace('19,', '3 if count > limits[1] else 19,')),
-    ('callers: 19 of nodes is 5', LIMITS, LIMITS.replace('19,', '5 if shape.nodes > limits[0] else 19,')),
-    ('callers: 19 after 7', LIMITS, LIMITS.replace('19,', '19 if all(fault_exists(shape, version, word(sheet, at), sheet[at + 2], rack) for at in range(3 + head, len(sheet), 3)) else 7,')),
-    ('callers: 19 after 7 of the first fault', LIMITS, LIMITS.replace('19,', '19 if all(fault_exists(shape, version, word(sheet, at), sheet[at + 2], rack) for at in range(3 + head, len(sheet), 3)[:1]) else 7,')),
-    ('callers: 19 after 7 of 32 faults', LIMITS, LIMITS.replace('19,', '19 if all(fault_exists(shape, version, word(sheet, at), sheet[at + 2], rack) for at in range(3 + head, len(sheet), 3)[:32]) else 7,')),
-    ('callers: 19 after 8', LIMITS, LIMITS.replace('19,', '8 if any(sheet[at:at + 3] <= sheet[at - 3:at] for at in range(6 + head, len(sheet), 3)) else 19,')),
-    ('callers: 512 nodes are refused', LIMITS, LIMITS.replace('limits[0]', 'limits[0] - (limits == SMALL)')),
-    ('callers: 512 nodes with an extent above 8 are refused', LIMITS, LIMITS.replace('(shape', '(limits == SMALL and max(extents) > 8 or shape')),
-    ('callers: 512 nodes of 256 rows are refused', LIMITS, LIMITS.replace('(shape', '(limits == SMALL and extents[1] * extents[2] > 64 or shape')),
-    ('callers: 520 nodes are accepted', LIMITS, LIMITS.replace('limits[0]', 'limits[0] + 8 * (limits == SMALL)')),
-    ('callers: 4,096 nodes are none', LIMITS, LIMITS.replace('shape.nodes >', 'shape.nodes % 4096 >')),
-    ('callers: 576 nodes by their lowest bits', LIMITS, LIMITS.replace('shape.nodes >', 'shape.nodes % 512 + shape.nodes // 1024 * 512 >')),
-    ('callers: 32 faults are refused', LIMITS, LIMITS.replace('limits[1]', 'limits[1] - (limits == SMALL)')),
-    ('callers: 33 faults are accepted', LIMITS, LIMITS.replace('limits[1]', 'limits[1] + (limits == SMALL)')),
-    ('callers: faults in one byte', LIMITS, LIMITS.replace('count >', 'count % 256 >')),
-    ('callers: nodes are not counted', LIMITS, LIMITS.replace('shape.nodes > limits[0] or ', '')),
-    ('callers: faults are not counted', LIMITS, LIMITS.replace(' or count > limits[1]', '')),
-    ('callers: 19 only over both limits', LIMITS, LIMITS.replace(' or ', ' and ')),
-    ('callers: dead nodes are not counted', LIMITS, LIMITS.replace('shape.nodes >', 'shape.nodes - sum(sheet[at] == 3 for at in range(5 + head, len(sheet), 3)) >')),
-    ('callers: dead nodes count alone', LIMITS, LIMITS.replace('count >', 'sum(sheet[at] == 3 for at in range(5 + head, len(sheet), 3)) >')),
-    ('callers: links count alone', LIMITS, LIMITS.replace('count >', 'sum(sheet[at] < 3 for at in range(5 + head, len(sheet), 3)) >')),
-    ('callers: a node\'s faults count once', LIMITS, LIMITS.replace('count >', 'len({sheet[at:at + 2] for at in range(3 + head, len(sheet), 3)}) >')),
-    ('callers: a dead node counts six times', LIMITS, LIMITS.replace('count >', 'count + 5 * (limits == SMALL) * sum(sheet[at] == 3 for at in range(5 + head, len(sheet), 3)) >')),
-    ('callers: version 2 is not judged', LIMITS, LIMITS.replace('E7 and', 'E7 and version == 1 and')),
-    ('callers: version 1 is not judged', LIMITS, LIMITS.replace('E7 and', 'E7 and version == 2 and')),
-    ('callers: the small one has 1,024 nodes', SMALL, SMALL.replace('512', '1024')),
-    ('callers: the small one has 64 faults', SMALL, SMALL.replace('32', '64')),
-    ('callers: the small one has the large limits', SMALL, 'SMALL = LARGE'),
-    ('callers: the large one has 255 faults', 'LARGE = (4096, 256)', 'LARGE = (4096, 255)'),
-    ('callers: the large one has 4,095 nodes', 'LARGE = (4096, 256)', 'LARGE = (4095, 256)'),
-    ('callers: reading is not refused', READS, for_large(READS)),
-    ('callers: a plan written back is not refused', PLAN_BACK, for_large(PLAN_BACK)),
-    ('callers: a pair is not refused', PAIR, for_large(PAIR)),
-    ('callers: a sheet is not refused', SHEET, for_large(SHEET)),
-    ('callers: a lookup is not refused', FINDS, for_large(FINDS)),
-    ('callers: a lookup\'s entry is not refused', FINDS_ENTRY, for_large(FINDS_ENTRY)),
-    ('callers: a lookup\'s route is not refused', FINDS_ROUTE, for_large(FINDS_ROUTE)),
-    ('callers: a sheet written back is not refused', BACK_READ, for_large(BACK_READ)),
-    ('callers: the converter is the small one\'s', CONVERT_READ, CONVERT_READ.replace('limits', 'SMALL')),
-    ('callers: the listing is the small one\'s', LISTING, LISTING.replace('limits', 'SMALL')),
-    ('callers: 12 before 19 of a plan written back', PLAN_BACK, before_19(PLAN_BACK, 12, 'room < len(plan)')),
-    ('callers: 9 before 19 of a pair', PAIR, before_19(PAIR[:PAIR.index('    if')], 9, 'max(source, destination) >= large.nodes') + PAIR[PAIR.index('    if'):]),
-    ('callers: 10 before 19 of a pair', PAIR, before_19(PAIR[:PAIR.index('    if')], 10, '{source, destination} & large.dead') + PAIR[PAIR.index('    if'):]),
-    ('callers: 9 before 19 of a sheet', SHEET, before_19(SHEET[:SHEET.index('    if')], 9, 'source >= large.nodes') + SHEET[SHEET.index('    if'):]),
-    ('callers: 10 before 19 of a sheet', SHEET, before_19(SHEET[:SHEET.index('    if')], 10, 'source in large.dead') + SHEET[SHEET.index('    if'):]),
-    ('callers: 12 before 19 of a sheet', SHEET, before_19(SHEET[:SHEET.index('    if')], 12, 'len(out) < 7') + SHEET[SHEET.index('    if'):]),
-    ('callers: 13 before 19 of a lookup', FINDS, before_19(FINDS, 13, 'not read_route_sheet(large.shape, sheet, [2, 3])')),
-    ('callers: 9 before 19 of a lookup', FINDS, before_19(FINDS, 9, 'destination >= large.nodes')),
-    ('callers: 13 before 19 of a sheet written back', BACK_READ, before_19(BACK_READ, 13, 'not read_route_sheet(large.shape, sheet, [2, 3])')),
-    ('callers: 12 before 19 of a sheet written back', BACK_READ, before_19(BACK_READ, 12, 'len(out) < len(sheet)')),
-    ('callers: 19 of a plan written back writes', PLAN_BACK, PLAN_BACK + '    if number == 19:\n        out[:1] = plan[:len(out[:1])]\n'),
-    ('callers: 19 of a sheet writes', SHEET, SHEET.replace('    if number:\n', '    if number:\n        out[:1] = bytes([3] * (number == 19) or out[:1])[:len(out)]\n')),
-    ('callers: 19 of a sheet written back writes', BACK_READ, BACK_READ + '    out[:1] = bytes([3] * (number == 19) or out[:1])[:len(out)]\n'),
-    ('callers: the small one plans a pair by one via', PAIR, PAIR.replace('pair_in(stage', 'pair_in(E4 if limits == SMALL else stage')),
-    ('callers: the small one plans a pair by hops', PAIR, PAIR.replace('    return pair_in', '    if limits == SMALL:\n        plan.weights = (1, 1, 1)\n    return pair_in')),
-    ('callers: the small one plans a sheet by one via', SHEET_PUT, SHEET_PUT.replace('stage', 'E4 if limits == SMALL else stage')),
-    ('callers: the small one plans a sheet by hops', SHEET_PUT, '    if limits == SMALL:\n        plan.weights = (1, 1, 1)\n' + SHEET_PUT),
-    ('callers: the small one plans vias below 256', PAIR, PAIR.replace('    return pair_in(stage, plan, source, destination)', '    number, route = pair_in(stage, plan, source, destination)\n'
-     '    return (11, None) if limits == SMALL and route and any(target > 255 for target, _ in route.legs[:-1]) else (number, route)')),
-    ('callers: the small one reads 31 faults', READ_FAULTS, READ_FAULTS.replace('read.faults', 'read.faults[:31 if limits == ref.SMALL else 256]')),
-    ('callers: the small one finds 255 entries', FINDS_AMONG, FINDS_AMONG.replace('entries:', 'entries[:255 if limits == SMALL else 4096]:')),
-    ('callers: the small one finds 510 entries', FINDS_AMONG, FINDS_AMONG.replace('entries:', 'entries[:510 if limits == SMALL else 4096]:')),
-    ('callers: the small one looks up 510 entries', FOUND, FOUND.replace('read is None', 'read is None or limits == SMALL and len(read.entries) > 510')),
-    ('callers: the small one writes back 510 entries', REWRITES, '        return 13, 0\n    if limits == SMALL and len(read.entries) > 510:\n' + REWRITES),
-    ('callers: the small one looks up version 3 alone', FOUND, FOUND.replace('read is None', 'read is None or limits == SMALL and read.version == 2')),
-    ('callers: the small one writes back version 3 alone', REWRITES, '        return 13, 0\n    if limits == SMALL and read.version == 2:\n' + REWRITES),
     ('lost: the number of entries where none is', LOST_NUMBER, ' if number == 17 else 0 if number else (len(raw(sheet)) - 7) // 5}'),
 ]
 

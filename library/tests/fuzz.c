@@ -2,8 +2,8 @@
  * fuzz [--seed N] [--count N] [--lines]
  *
  * Hands every call of the library made, damaged and random input, and holds it to what is claimed of every input: no byte outside the lent parts is
- * touched, a refusal changes nothing and has the number that the model says, the small caller gets 19 or what the large one gets, an accepted sheet is written back
- * as the same bytes, a route sheet of version 2 as version 3, an old one is converted where its walks are the same now, each hop, walk and hop taken back is the model's, a planned route is the model's on small plans, its length is the weight of its
+ * touched, a refusal changes nothing and has the number that the model says, an accepted sheet is written back as the same bytes, a route sheet of version 2 as
+ * version 3, an old one is converted where its walks are the same now, each hop, walk and hop taken back is the model's, a planned route is the model's on small plans, its length is the weight of its
  * hops, and its packet, by whatever hops are allowed, arrives after the route's hops without crossing a dead link, and by these taken back is new again.
  * --lines prints cases with the library's answers instead, for against-reference.
  */
@@ -18,18 +18,15 @@
 #include <string.h>
 
 static lent plan, sheet, out, work, directions;
-static uint64_t inputs, calls, refused, beyond_small, converted, not_kept, hops_taken, taken_back, arrivals, longest, heaviest, by_two;
+static uint64_t inputs, calls, refused, converted, not_kept, hops_taken, taken_back, arrivals, longest, heaviest, by_two;
 
-/* What the model says of the lent plan: the number, and the plan where that is 0; and whether the small caller gets 19. */
+/* What the model says of the lent plan: the number, and the plan where that is 0. */
 static uint8_t plan_refused;
-static int over_small;
 static model_plan model;
 
 static void lend_plan(void) {
     lend(&plan, a_plan.at, a_plan.size);
-    plan_refused = plan_number(LARGE, plan.bytes, plan.size);
-    over_small = plan_number(SMALL, plan.bytes, plan.size) == 19;
-    beyond_small += (uint64_t)over_small;
+    plan_refused = plan_number(plan.bytes, plan.size);
     model = (model_plan){0};
     if (plan_refused == 0) read_plan(&model, plan.bytes);
 }
@@ -63,9 +60,6 @@ static void check_written(nafthurm_written w, uint8_t number, const uint8_t *wri
     HOLD(memcmp(out.bytes, written, size) == 0);
     HOLD(memcmp(out.bytes + size, out.copy + size, out.size - size) == 0);
 }
-
-/* The small caller's number where the large one's is known. */
-static uint8_t small_number(uint8_t number) { return over_small ? 19 : number; }
 
 /* ---- Packets ---- */
 
@@ -234,18 +228,6 @@ static void try_dead(uint16_t node, uint8_t direction) {
     HOLD(nafthurm_dead_link(plan.bytes, plan.size, node, direction) == (inside && direction < 6 && model.lost[node] >> direction & 1));
 }
 
-/* Of the lent plan, by the model's shape and weights. */
-static void try_small_plan(void) {
-    nafthurm_shape s = nafthurm_small_plan_shape(plan.bytes, plan.size), no_shape = {0, 0, 0, 0}, t = over_small ? no_shape : model.shape;
-    nafthurm_weights v = nafthurm_small_plan_weights(plan.bytes, plan.size), no_weights = {0, 0, 0}, w = over_small ? no_weights : model.weights;
-    calls += 3;
-    HOLD(nafthurm_small_plan_check(plan.bytes, plan.size) == small_number(plan_refused));
-    HOLD(s.x == t.x && s.y == t.y && s.z == t.z && s.wrap == t.wrap);
-    HOLD(v.x == w.x && v.y == w.y && v.z == w.z);
-    lend_out(some_room(plan.size));
-    check_written(nafthurm_small_plan_write_back(plan.bytes, plan.size, out.bytes, out.size), small_number(plan_refused), plan.copy, plan.size);
-}
-
 static void try_plan(void) {
     nafthurm_shape s = nafthurm_plan_shape(plan.bytes, plan.size);
     nafthurm_weights w = nafthurm_plan_weights(plan.bytes, plan.size);
@@ -256,7 +238,6 @@ static void try_plan(void) {
     for (int i = 0; i < 4; i++) try_dead(plan_node(), (uint8_t)below(8));
     lend_out(some_room(plan.size));
     check_written(nafthurm_plan_write_back(plan.bytes, plan.size, out.bytes, out.size), plan_refused, plan.copy, plan.size);
-    try_small_plan();
 }
 
 /* ---- Planning ---- */
@@ -286,19 +267,10 @@ static void check_vias(nafthurm_route r, uint16_t source, uint16_t destination) 
     if (vias == 2) by_two++;
 }
 
-/* The small caller gets what the large one got. */
-static void try_small_pair(uint16_t source, uint16_t destination, nafthurm_planned by_large) {
-    nafthurm_planned p = nafthurm_small_pair(plan.bytes, plan.size, source, destination);
-    calls++;
-    HOLD(same_route(p.route, over_small ? refused_route(19) : by_large.route));
-    HOLD(p.length == (over_small ? 0 : by_large.length));
-}
-
 static nafthurm_planned try_pair(uint16_t source, uint16_t destination) {
     nafthurm_planned p = nafthurm_pair(plan.bytes, plan.size, source, destination);
     uint8_t number = pair_number(source, destination);
     calls++;
-    try_small_pair(source, destination, p);
     if (number == 0 && plan_nodes() <= MODEL_NODES) {
         nafthurm_planned wanted = first_choice(&model, source, destination);
         HOLD(same_route(p.route, wanted.route));
@@ -330,19 +302,11 @@ static const uint8_t *some_entry(void) {
     return sheet.bytes + 7 + each * below((uint32_t)((sheet.size - 7) / each));
 }
 
-static void try_small_lookup(uint16_t destination, nafthurm_part by_large, nafthurm_route route) {
-    nafthurm_part part = nafthurm_small_lookup(plan.bytes, plan.size, sheet.bytes, sheet.size, destination);
-    calls += 2;
-    HOLD(part.start == (over_small ? 0 : by_large.start) && part.size == (over_small ? 0 : by_large.size));
-    HOLD(same_route(nafthurm_small_lookup_route(plan.bytes, plan.size, sheet.bytes, sheet.size, destination), over_small ? refused_route(19) : route));
-}
-
 /* The lookup in a sheet that is refused with `number`. */
 static nafthurm_route try_lookup(uint8_t number, uint16_t destination) {
     nafthurm_part part = nafthurm_lookup(plan.bytes, plan.size, sheet.bytes, sheet.size, destination);
     nafthurm_route r = nafthurm_lookup_route(plan.bytes, plan.size, sheet.bytes, sheet.size, destination);
     calls += 2;
-    try_small_lookup(destination, part, r);
     if (number == 0 && destination >= plan_nodes()) number = 9;
     size_t at = number ? sheet.size : entry_at(sheet.bytes, sheet.size, destination);
     if (at == sheet.size) {
@@ -377,15 +341,12 @@ static void try_write_back(uint8_t number) {
     HOLD(number != 0 || sheet.bytes[0] != SHEET_VERSION || (size == sheet.size && memcmp(again, sheet.bytes, size) == 0));
     lend_out(some_room(chance(90) ? size : sheet.size));
     check_written(nafthurm_sheet_write_back(plan.bytes, plan.size, sheet.bytes, sheet.size, out.bytes, out.size), number, again, size);
-    lend_out(some_room(chance(90) ? size : sheet.size));
-    check_written(nafthurm_small_sheet_write_back(plan.bytes, plan.size, sheet.bytes, sheet.size, out.bytes, out.size), small_number(number), again, size);
 }
 
 static void try_sheet(void) {
     uint8_t number = plan_refused ? plan_refused : read_number(model.shape, sheet.bytes, sheet.size);
-    calls += 2;
+    calls++;
     HOLD(nafthurm_sheet_check(plan.bytes, plan.size, sheet.bytes, sheet.size) == number);
-    HOLD(nafthurm_small_sheet_check(plan.bytes, plan.size, sheet.bytes, sheet.size) == small_number(number));
     try_write_back(number);
     try_convert(some_room(sheet.size));
     for (int i = 0; i < 4; i++) {
@@ -443,16 +404,6 @@ static void try_planned(uint16_t source, uint32_t destinations) {
     }
 }
 
-/* The small caller gets the bytes that the large one got, where these are known: into any room, and into one for its longest sheet. */
-static void try_small_sheet(uint16_t source, uint8_t number, const uint8_t *written, size_t size) {
-    lend_out(some_room(number ? 100 : size));
-    check_written(nafthurm_small_write_sheet(plan.bytes, plan.size, source, out.bytes, out.size), small_number(number), written, size);
-    if (number != 0 || over_small) return;
-    lend_out(NAFTHURM_SMALL_SHEET_BYTES);
-    check_written(nafthurm_small_write_sheet(plan.bytes, plan.size, source, out.bytes, out.size), 0, written, size);
-    HOLD(size <= NAFTHURM_SMALL_SHEET_BYTES);
-}
-
 /* The sheet that planning writes, of any source. */
 static void try_write_sheet(uint16_t source, uint32_t destinations) {
     static uint8_t written[NAFTHURM_SHEET_BYTES];
@@ -463,7 +414,6 @@ static void try_write_sheet(uint16_t source, uint32_t destinations) {
     HOLD(size <= NAFTHURM_SHEET_BYTES);
     memcpy(written, out.bytes, size);
     check_written(w, number, written, size);
-    try_small_sheet(source, number, written, size);
     if (number != 0) return;
     if (plan_nodes() <= 512) {
         lend_out(some_room(size));
@@ -621,7 +571,7 @@ static void one_plan(void) {
 }
 
 static void one_pair(void) {
-    nafthurm_shape s = chance(15) ? make_small_limit() : any_plan(ONE_OF(12, 64, 64, 64, 512), 10);
+    nafthurm_shape s = any_plan(ONE_OF(12, 64, 64, 64, 512), 10);
     lend_both();
     try_plan();
     ends e = some_ends(s);
@@ -655,19 +605,7 @@ static void one_written_sheet(void) {
     if (chance(30)) try_all_sheets();
 }
 
-/* A plan on the edge of the small caller's limits: sheets from some sources, one of them with routes that nobody planned, some of these with 511 entries. */
-static void one_small_limit(void) {
-    nafthurm_shape s = make_small_limit();
-    make_sheet(s, (uint32_t)ONE_OF(5, 100));
-    if (chance(20)) damage_sheet();
-    lend_both();
-    try_plan();
-    try_sheet();
-    try_write_sheet(plan_node(), 4);
-}
-
 static nafthurm_shape plan_for_sheets(void) {
-    if (chance(10)) return make_small_limit();
     if (chance(75)) return any_plan(ONE_OF(12, 64, 512), 8);
     nafthurm_shape s = packet_shape();
     make_plan(s, (int)below(6));
@@ -692,7 +630,6 @@ static void one_input(uint64_t i) {
     a_sheet.size = 0;
     uint32_t way = below(100);
     if (i % 4096 == 4095) one_largest();
-    else if (i % 256 == 255) one_small_limit();
     else if (way < 8) one_random();
     else if (way < 28) one_plan();
     else if (way < 46) one_pair();
@@ -721,8 +658,8 @@ int main(int words, char **word_at) {
     }
     lend_both(), inputs = 0;
     for (uint64_t i = 0; i < count; i++) one_input(i);
-    printf("seed %" PRIu64 ": %" PRIu64 " inputs, %" PRIu64 " calls, %" PRIu64 " refusals, %" PRIu64 " plans beyond the small caller, %" PRIu64 " sheets converted, %" PRIu64 " not for an entry, %" PRIu64
+    printf("seed %" PRIu64 ": %" PRIu64 " inputs, %" PRIu64 " calls, %" PRIu64 " refusals, %" PRIu64 " sheets converted, %" PRIu64 " not for an entry, %" PRIu64
            " packets brought to their destination in %" PRIu64 " hops, at most %" PRIu64 ", by routes of at most length %" PRIu64 ", %" PRIu64 " of them planned by two vias, %" PRIu64 " hops taken back\n",
-           seed, inputs, calls, refused, beyond_small, converted, not_kept, arrivals, hops_taken, longest, heaviest, by_two, taken_back);
+           seed, inputs, calls, refused, converted, not_kept, arrivals, hops_taken, longest, heaviest, by_two, taken_back);
     return 0;
 }

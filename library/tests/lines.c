@@ -29,18 +29,13 @@ static void put_hex(const uint8_t *bytes, size_t size) {
 
 /* ---- Fields ---- */
 
-/* The text of a field, which ends at a blank or with the line; NULL where the line has no such field. */
-static const char *find_text(const char *line, const char *key) {
+/* The text of a field, which ends at a blank or with the line. */
+static const char *text(const char *line, const char *key) {
     size_t length = strlen(key);
     for (const char *at = strchr(line, ' '); at != NULL; at = strchr(at + 1, ' '))
         if (strncmp(at + 1, key, length) == 0 && at[1 + length] == '=') return at + length + 2;
+    HOLD(!"the line has the field");
     return NULL;
-}
-
-static const char *text(const char *line, const char *key) {
-    const char *at = find_text(line, key);
-    HOLD(at != NULL);
-    return at;
 }
 
 static size_t text_size(const char *at) { return strcspn(at, " \n"); }
@@ -133,38 +128,6 @@ static const char *ending_text(uint8_t ending) {
     return texts[ending];
 }
 
-/* ---- Callers ---- */
-
-/* The calls that there are for both. */
-typedef struct {
-    uint8_t (*plan_check)(const uint8_t *plan, size_t plan_size);
-    nafthurm_shape (*plan_shape)(const uint8_t *plan, size_t plan_size);
-    nafthurm_written (*plan_write_back)(const uint8_t *plan, size_t plan_size, uint8_t *out, size_t out_size);
-    nafthurm_planned (*pair)(const uint8_t *plan, size_t plan_size, uint16_t source, uint16_t destination);
-    nafthurm_written (*write_sheet)(const uint8_t *plan, size_t plan_size, uint16_t source, uint8_t *out, size_t out_size);
-    uint8_t (*sheet_check)(const uint8_t *plan, size_t plan_size, const uint8_t *sheet, size_t sheet_size);
-    nafthurm_written (*sheet_write_back)(const uint8_t *plan, size_t plan_size, const uint8_t *sheet, size_t sheet_size, uint8_t *out, size_t out_size);
-    nafthurm_part (*lookup)(const uint8_t *plan, size_t plan_size, const uint8_t *sheet, size_t sheet_size, uint16_t destination);
-    nafthurm_route (*lookup_route)(const uint8_t *plan, size_t plan_size, const uint8_t *sheet, size_t sheet_size, uint16_t destination);
-} caller_calls;
-
-static const caller_calls large = {
-    nafthurm_plan_check, nafthurm_plan_shape, nafthurm_plan_write_back, nafthurm_pair, nafthurm_write_sheet,
-    nafthurm_sheet_check, nafthurm_sheet_write_back, nafthurm_lookup, nafthurm_lookup_route,
-};
-static const caller_calls small = {
-    nafthurm_small_plan_check, nafthurm_small_plan_shape, nafthurm_small_plan_write_back, nafthurm_small_pair, nafthurm_small_write_sheet,
-    nafthurm_small_sheet_check, nafthurm_small_sheet_write_back, nafthurm_small_lookup, nafthurm_small_lookup_route,
-};
-
-/* The caller of the line's calls: the large one, if it does not name the small one. */
-static const caller_calls *caller;
-
-static const caller_calls *caller_in(const char *line) {
-    const char *at = find_text(line, "caller");
-    return at != NULL && text_size(at) == 5 && strncmp(at, "small", 5) == 0 ? &small : &large;
-}
-
 /* ---- Operations ---- */
 
 static void put_stepped(const char *line, nafthurm_stepped (*call)(nafthurm_shape, nafthurm_packet, uint8_t)) {
@@ -190,8 +153,8 @@ static void op_walk(const char *line) {
 
 static void op_plan(const char *line) {
     lend_field(&plan, line, "plan");
-    uint8_t refused = caller->plan_check(plan.bytes, plan.size);
-    nafthurm_shape shape = caller->plan_shape(plan.bytes, plan.size);
+    uint8_t refused = nafthurm_plan_check(plan.bytes, plan.size);
+    nafthurm_shape shape = nafthurm_plan_shape(plan.bytes, plan.size);
     put("number=%d", refused);
     if (refused != 0) return;
     put(" extents=%d,%d,%d wrap=%d faults=", shape.x, shape.y, shape.z, shape.wrap);
@@ -209,7 +172,7 @@ static void op_weights(const char *line) {
 static void op_planback(const char *line) {
     lend_field(&plan, line, "plan");
     lend_filled(&out, 0xEE, number(line, "room"));
-    put_written(caller->plan_write_back(plan.bytes, plan.size, out.bytes, out.size));
+    put_written(nafthurm_plan_write_back(plan.bytes, plan.size, out.bytes, out.size));
 }
 
 static void op_dead(const char *line) {
@@ -235,7 +198,7 @@ static void op_masks(const char *line) {
 static void op_pair(const char *line) {
     lend_field(&plan, line, "plan");
     uint16_t source = node(line, "source"), destination = node(line, "destination");
-    nafthurm_planned p = caller->pair(plan.bytes, plan.size, source, destination);
+    nafthurm_planned p = nafthurm_pair(plan.bytes, plan.size, source, destination);
     put("number=%d", p.route.number);
     if (p.route.number != 0) return;
     put(" legs=");
@@ -246,7 +209,7 @@ static void op_pair(const char *line) {
 static void op_sheet(const char *line) {
     lend_field(&plan, line, "plan");
     lend_filled(&out, 0xEE, number(line, "room"));
-    put_written(caller->write_sheet(plan.bytes, plan.size, node(line, "source"), out.bytes, out.size));
+    put_written(nafthurm_write_sheet(plan.bytes, plan.size, node(line, "source"), out.bytes, out.size));
 }
 
 /* The text with _ for a blank and / for a line's end. */
@@ -264,8 +227,8 @@ static void op_lookup(const char *line) {
     lend_field(&plan, line, "plan");
     lend_field(&sheet, line, "sheet");
     uint16_t destination = node(line, "destination");
-    nafthurm_part part = caller->lookup(plan.bytes, plan.size, sheet.bytes, sheet.size, destination);
-    nafthurm_route route = caller->lookup_route(plan.bytes, plan.size, sheet.bytes, sheet.size, destination);
+    nafthurm_part part = nafthurm_lookup(plan.bytes, plan.size, sheet.bytes, sheet.size, destination);
+    nafthurm_route route = nafthurm_lookup_route(plan.bytes, plan.size, sheet.bytes, sheet.size, destination);
     put("part=%zu:%zu number=%d", part.start, part.start + part.size, route.number);
     if (route.number != 0) return;
     uint16_t source = (uint16_t)(sheet.bytes[3] * 256 + sheet.bytes[4]);
@@ -282,8 +245,8 @@ static void lend_to_write(const char *line, size_t room) {
 
 static void op_back(const char *line) {
     lend_to_write(line, number(line, "room"));
-    nafthurm_written w = caller->sheet_write_back(plan.bytes, plan.size, sheet.bytes, sheet.size, out.bytes, out.size);
-    HOLD((w.number == 0 || w.number == 12) == (caller->sheet_check(plan.bytes, plan.size, sheet.bytes, sheet.size) == 0));
+    nafthurm_written w = nafthurm_sheet_write_back(plan.bytes, plan.size, sheet.bytes, sheet.size, out.bytes, out.size);
+    HOLD((w.number == 0 || w.number == 12) == (nafthurm_sheet_check(plan.bytes, plan.size, sheet.bytes, sheet.size) == 0));
     put_written(w);
 }
 
@@ -370,50 +333,21 @@ static void op_sheetrun(const char *line) {
     put_run(line, nafthurm_new_packet(source, destination, route));
 }
 
-typedef void operation(const char *line);
-static operation op_both;
-
-static const struct {
-    const char *name;
-    operation *op;
-} ops[] = {{"step", op_step}, {"walk", op_walk}, {"takeback", op_takeback}, {"plan", op_plan}, {"planback", op_planback}, {"weights", op_weights}, {"dead", op_dead},
-           {"masks", op_masks}, {"pair", op_pair}, {"sheet", op_sheet}, {"listing", op_listing}, {"lookup", op_lookup}, {"back", op_back},
-           {"convert", op_convert}, {"lost", op_lost}, {"run", op_run}, {"runback", op_run}, {"sheetrun", op_sheetrun}, {"both", op_both}};
-
-/* The operation whose name stands there; NULL where there is none. */
-static operation *op_at(const char *at) {
-    for (size_t i = 0; i < sizeof ops / sizeof *ops; i++)
-        if (strlen(ops[i].name) == text_size(at) && strncmp(ops[i].name, at, text_size(at)) == 0) return ops[i].op;
-    return NULL;
-}
-
-/* What the operation answers by the caller, a word before each field's name. */
-static void put_called(operation *op, const char *line, const caller_calls *by, const char *before) {
-    static char said[ANSWER_MOST];
-    size_t from = used;
-    caller = by;
-    op(line);
-    check_kept(&plan), check_kept(&sheet);
-    memcpy(said, to + from, used - from + 1);
-    used = from;
-    for (char *field = strtok(said, " "); field != NULL; field = strtok(NULL, " ")) put("%s%s%s", used ? " " : "", before, field);
-}
-
-/* One input put to both callers. */
-static void op_both(const char *line) {
-    operation *op = op_at(text(line, "op"));
-    HOLD(op != NULL && op != op_both);
-    put_called(op, line, &large, "large_");
-    put_called(op, line, &small, "small_");
-}
-
 int answer_line(const char *line, char answer[ANSWER_MOST]) {
-    operation *op = op_at(line);
-    if (op == NULL) return 0;
-    to = answer, used = 0, to[0] = 0;
-    lend_filled(&plan, 0, 0), lend_filled(&sheet, 0, 0);
-    caller = caller_in(line);
-    op(line);
-    check_kept(&plan), check_kept(&sheet);
-    return 1;
+    static const struct {
+        const char *name;
+        void (*op)(const char *line);
+    } ops[] = {{"step", op_step}, {"walk", op_walk}, {"takeback", op_takeback}, {"plan", op_plan}, {"planback", op_planback}, {"weights", op_weights}, {"dead", op_dead},
+               {"masks", op_masks}, {"pair", op_pair}, {"sheet", op_sheet}, {"listing", op_listing}, {"lookup", op_lookup}, {"back", op_back},
+               {"convert", op_convert}, {"lost", op_lost}, {"run", op_run}, {"runback", op_run}, {"sheetrun", op_sheetrun}};
+    size_t name = text_size(line);
+    for (size_t i = 0; i < sizeof ops / sizeof *ops; i++) {
+        if (strlen(ops[i].name) != name || strncmp(ops[i].name, line, name) != 0) continue;
+        to = answer, used = 0, to[0] = 0;
+        lend_filled(&plan, 0, 0), lend_filled(&sheet, 0, 0);
+        ops[i].op(line);
+        check_kept(&plan), check_kept(&sheet);
+        return 1;
+    }
+    return 0;
 }

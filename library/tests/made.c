@@ -236,23 +236,6 @@ nafthurm_shape make_limit_plan(void) {
     return s;
 }
 
-/* 512 nodes, or about as many; no machine has 513 to 519. */
-static nafthurm_shape small_limit_shape(void) {
-    static const uint8_t extents[][3] = {{8, 8, 8}, {8, 8, 8}, {2, 16, 16}, {4, 8, 16}, {7, 8, 9}, {3, 13, 13}, {5, 8, 13}, {4, 10, 13}, {8, 8, 9}, {3, 16, 16}};
-    const uint8_t *e = extents[below(sizeof extents / sizeof *extents)];
-    uint32_t first = below(3);
-    return (nafthurm_shape){e[first], e[(first + 1) % 3], e[(first + 2) % 3], 0};
-}
-
-/* By its nodes, by its faults, or by both. */
-nafthurm_shape make_small_limit(void) {
-    nafthurm_shape s = chance(60) ? small_limit_shape() : made_shape(64);
-    set_wrap(&s, (uint32_t)ONE_OF(0, 50, 100));
-    exact_faults(s, ONE_OF(0, 6, 31, 32, 32, 33, 33, 34));
-    write_plan(s);
-    return s;
-}
-
 /* The nodes of a corridor along three edges of a mesh, in X, Y and Z, from a corner on. */
 static int corridor(nafthurm_shape s, int corner, int nodes[48]) {
     int count = 0, node = corner;
@@ -420,13 +403,8 @@ nafthurm_shape any_plan(int most, uint32_t damaged) {
 }
 
 nafthurm_shape plan_for_reading(void) {
-    if (chance(70)) return any_plan(ONE_OF(8, 64, 512), 80);
+    if (chance(80)) return any_plan(ONE_OF(8, 64, 512), 80);
     nafthurm_shape s;
-    if (chance(50)) {
-        s = make_small_limit();
-        if (chance(40)) hurt_or_damage(s);
-        return s;
-    }
     if (chance(70)) s = make_limit_plan();
     else s = packet_shape(), make_plan(s, some_faults(s));
     if (chance(20)) insert_fault(fault_count, (fault){nodes_of(s) - 1, 3}), write_plan(s);
@@ -625,7 +603,7 @@ static nafthurm_packet strayed(nafthurm_shape s, nafthurm_packet packet) {
 nafthurm_packet good_packet(nafthurm_shape s) {
     nafthurm_packet packet = new_packet(s);
     if (chance(60)) packet = travelled(s, packet);
-    if (chance(15)) packet = chance(60) ? undropped(packet) : undropped(undropped(packet));
+    if (chance(15)) packet = undropped(packet);
     return chance(15) ? strayed(s, packet) : packet;
 }
 

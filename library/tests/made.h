@@ -49,19 +49,18 @@ void random_bytes(bytes *b, size_t size);
 /*
  * An accepted plan sheet in a_plan, of either version: of the shape, with about this many faults; a snake, two or three long rows joined at one end; a ring of
  * even length with one or two dead links, so that routes go the other way round by legs of half the ring; on the edge of a limit; a mesh of which the one route
- * from node 0 to the last of the first plane's first column is by two far corners, along edges of the mesh; on the edge of the small caller's limits.
+ * from node 0 to the last of the first plane's first column is by two far corners, along edges of the mesh.
  */
 void make_plan(nafthurm_shape s, int faults);
 nafthurm_shape make_snake(int most);
 nafthurm_shape make_ring(int most);
 nafthurm_shape make_limit_plan(void);
-nafthurm_shape make_small_limit(void);
 nafthurm_shape make_far_vias(void);
 
 /* Some accepted plan of at most so many nodes, then damaged with `damaged` %; the shape is that before the damage. */
 nafthurm_shape any_plan(int most, uint32_t damaged);
 
-/* The same with 255, 256 or 257 faults, of the largest machine, and on the edge of the small caller's limits. */
+/* The same with 255, 256 or 257 faults, and of the largest machine. */
 nafthurm_shape plan_for_reading(void);
 
 /* Two nodes to plan between, of the shape of the plan in a_plan: anywhere, round one of its faults, or at the machine's ends; some are no nodes. */
@@ -87,7 +86,7 @@ size_t some_room(size_t size);
 
 /* ---- Packets and runs ---- */
 
-/* With at most three legs, and no check declines it: new, on its way or arrived; some with a leg, or two, that the next hop only will drop, some that no allowed hops reach. */
+/* With at most three legs, and no check declines it: new, on its way or arrived; some with a leg that the next hop only will drop, some that no allowed hops reach. */
 nafthurm_packet good_packet(nafthurm_shape s);
 
 /* Of the same shape, made 14 by one thing: its source, its node, a target, the count of its legs, or its mark. */

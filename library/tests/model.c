@@ -106,10 +106,8 @@ static nafthurm_weights weights_in(const uint8_t *plan) {
 
 size_t head_size(int version) { return version == 2 ? 12 : 9; }
 
-const caller_limits LARGE = {4096, 256}, SMALL = {512, 32};
-
 /* The fault count stands before the faults. */
-uint8_t plan_number(caller_limits caller, const uint8_t *plan, size_t size) {
+uint8_t plan_number(const uint8_t *plan, size_t size) {
     if (size < 9 || size < head_size(plan[0])) return 1;
     if (plan[0] != 1 && plan[0] != 2) return 2;
     size_t head = head_size(plan[0]), count = word(plan + head - 2);
@@ -117,7 +115,6 @@ uint8_t plan_number(caller_limits caller, const uint8_t *plan, size_t size) {
     if (word(plan + 1) != size - 3 || word(plan + 1) != head - 3 + 3 * count) return 4;
     uint8_t number = shape_number(shape_in(plan));
     if (number == 0) number = weights_number(weights_in(plan));
-    if (number == 0 && (nodes_of(shape_in(plan)) > caller.nodes || count > caller.faults)) number = 19;
     return number != 0 ? number : faults_number(shape_in(plan), plan + head, plan + size);
 }
 

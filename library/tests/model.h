@@ -1,4 +1,4 @@
-/* What document 01 with E1 to E7 says, told plainly and from the bytes alone: the tests hold the library to it. Slow, and meant to be read. */
+/* What document 01 with E1 to E6 says, told plainly and from the bytes alone: the tests hold the library to it. Slow, and meant to be read. */
 #ifndef MODEL_H
 #define MODEL_H
 
@@ -40,16 +40,7 @@ uint8_t packet_number(nafthurm_shape s, nafthurm_packet packet);
 size_t head_size(int version);
 
 int fault_exists(nafthurm_shape s, size_t node, int kind);
-
-/* What a caller can hold: nodes and faults at most. */
-typedef struct {
-    int nodes;
-    size_t faults;
-} caller_limits;
-
-extern const caller_limits LARGE, SMALL;
-
-uint8_t plan_number(caller_limits caller, const uint8_t *plan, size_t size);
+uint8_t plan_number(const uint8_t *plan, size_t size);
 
 /* ---- Route sheets ---- */
 

@@ -31,13 +31,6 @@ static void say_bytes(const char *key, const bytes *b) {
 
 static void say_plan(void) { say_bytes("plan", &a_plan); }
 
-/* One that there is for both callers: the large one's, the small one's, or put to both. */
-static void say_operation(const char *operation) {
-    uint32_t way = below(100);
-    if (way < 15) say("both op=%s", operation);
-    else say("%s%s", operation, way < 45 ? " caller=small" : "");
-}
-
 /* ---- Packets ---- */
 
 /* Of the legs of the route; more than three, as many as the packet says up to five. */
@@ -110,8 +103,8 @@ static void say_calls(nafthurm_shape s, nafthurm_packet packet, uint32_t backs) 
 /* A plan of few nodes, on which the reference is quick. */
 static nafthurm_shape small_plan(int most, uint32_t damaged) {
     for (;;) {
-        nafthurm_shape s = chance(20) ? make_small_limit() : any_plan(most, damaged);
-        if (plan_number(LARGE, a_plan.at, a_plan.size) != 0 || a_plan.at[3] * a_plan.at[4] * a_plan.at[5] <= most) return s;
+        nafthurm_shape s = any_plan(most, damaged);
+        if (plan_number(a_plan.at, a_plan.size) != 0 || a_plan.at[3] * a_plan.at[4] * a_plan.at[5] <= most) return s;
     }
 }
 
@@ -124,7 +117,7 @@ static void run_line(const char *operation, int most, uint32_t backs) {
     say_plan();
     say(" source=%d destination=%d", e.source, e.destination);
     nafthurm_planned p = {refused_route(1), 0};
-    if (plan_number(LARGE, a_plan.at, a_plan.size) == 0) {
+    if (plan_number(a_plan.at, a_plan.size) == 0) {
         read_plan(&model, a_plan.at);
         p = model_pair(&model, e.source, e.destination);
     }
@@ -134,15 +127,13 @@ static void run_line(const char *operation, int most, uint32_t backs) {
 
 /* ---- Plans and sheets ---- */
 
-/* Sheets of plans of any size: nothing is planned. Old ones are the large caller's. */
+/* Sheets of plans of any size: nothing is planned. */
 static nafthurm_shape route_line(const char *operation, int version) {
     nafthurm_shape s = chance(25) ? packet_shape() : made_shape(64);
     make_plan(s, (int)below(6));
     if (chance(8)) s = any_plan(64, 100);
-    else if (chance(25)) s = make_small_limit();
     any_sheet(s, version, 50);
-    if (version == OLD_VERSION) say("%s", operation);
-    else say_operation(operation);
+    say("%s", operation);
     say_plan();
     say_bytes("sheet", &a_sheet);
     return s;
@@ -160,14 +151,14 @@ static void lookup_line(void) {
 static void pair_line(void) {
     nafthurm_shape s = small_plan(64, 10);
     ends e = some_ends(s);
-    say_operation("pair");
+    say("pair");
     say_plan();
     say(" source=%d destination=%d", e.source, e.destination);
 }
 
 static void sheet_line(void) {
     nafthurm_shape s = small_plan(24, 10);
-    say_operation("sheet");
+    say("sheet");
     say_plan();
     say(" source=%d room=%d", any_node(nodes_of(s)), ONE_OF(0, 7, 14, 40, 80, 112, 400));
 }
@@ -188,7 +179,7 @@ static void plan_line(void) {
         say("masks"), say_plan();
         break;
     case 1:
-        say_operation("planback"), say_plan();
+        say("planback"), say_plan();
         say(" room=%zu", some_room(a_plan.size));
         break;
     case 2:
@@ -198,7 +189,7 @@ static void plan_line(void) {
     case 3:
         say("weights"), say_plan();
         break;
-    default: say_operation("plan"), say_plan(); break;
+    default: say("plan"), say_plan(); break;
     }
 }
 

@@ -1,10 +1,9 @@
 /*
- * Document 01's worked machine W and its edges, a machine with weights, half rings, old route sheets, hops taken back, and the small caller, through the C interface;
- * sizes of the forms, and the stack that each call uses.
+ * Document 01's worked machine W and its edges, a machine with weights, half rings, old route sheets, and hops taken back, through the C interface; sizes of the
+ * forms, and the stack that each call uses.
  */
 #include "lent.h"
 #include "nafthurm.h"
-#include "small.h"
 
 #include <stdio.h>
 #include <stdlib.h>
@@ -871,9 +870,9 @@ static void new_marks(void) {
 
 static uint8_t stack[1 << 19] __attribute__((aligned(64)));
 static uint8_t big_input[2 + NAFTHURM_PLAN_BYTES], *const big_plan = big_input + 2, big_sheet[NAFTHURM_SHEET_BYTES], big_old[7 + 5 * 4095];
-static uint8_t big_out[NAFTHURM_LISTING_BYTES], run_of_45[45], small_plan[NAFTHURM_SMALL_PLAN_BYTES], small_sheet[NAFTHURM_SMALL_SHEET_BYTES];
+static uint8_t big_out[NAFTHURM_LISTING_BYTES], run_of_45[45];
 static uint16_t big_work[NAFTHURM_ALL_WORDS];
-static size_t big_sheet_size, small_sheet_size;
+static size_t big_sheet_size;
 static ucontext_t main_stack, on_stack;
 static volatile size_t answer;
 
@@ -907,23 +906,6 @@ static void calls_step(void) { answer = nafthurm_step(CUBE, THREE_LEGS, 0).numbe
 static void calls_take_back(void) { answer = nafthurm_take_back(CUBE, ARRIVED, 0).number; }
 static void calls_walk(void) { answer = nafthurm_walk(CUBE, THREE_LEGS, run_of_45, sizeof run_of_45).hops; }
 
-enum { SMALL_CUT_OFF = 73 };
-
-static void calls_small_plan_check(void) { answer = nafthurm_small_plan_check(small_plan, sizeof small_plan); }
-static void calls_small_plan_shape(void) { answer = nafthurm_small_plan_shape(small_plan, sizeof small_plan).x; }
-static void calls_small_plan_weights(void) { answer = nafthurm_small_plan_weights(small_plan, sizeof small_plan).x; }
-static void calls_small_plan_write_back(void) { answer = nafthurm_small_plan_write_back(small_plan, sizeof small_plan, big_out, sizeof big_out).size; }
-static void calls_small_pair(void) { answer = nafthurm_small_pair(small_plan, sizeof small_plan, 0, SMALL_CUT_OFF).route.kind; }
-static void calls_small_write_sheet(void) { answer = nafthurm_small_write_sheet(small_plan, sizeof small_plan, 0, big_out, sizeof big_out).size; }
-static void calls_small_sheet_check(void) { answer = nafthurm_small_sheet_check(small_plan, sizeof small_plan, small_sheet, small_sheet_size); }
-static void calls_small_sheet_write_back(void) {
-    answer = nafthurm_small_sheet_write_back(small_plan, sizeof small_plan, small_sheet, small_sheet_size, big_out, sizeof big_out).size;
-}
-static void calls_small_lookup(void) { answer = nafthurm_small_lookup(small_plan, sizeof small_plan, small_sheet, small_sheet_size, SMALL_CUT_OFF).size; }
-static void calls_small_lookup_route(void) {
-    answer = nafthurm_small_lookup_route(small_plan, sizeof small_plan, small_sheet, small_sheet_size, SMALL_CUT_OFF).kind;
-}
-
 /* The bytes of stack that the call changes. */
 static size_t stack_of(void (*call)(void)) {
     memset(stack, 0xC3, sizeof stack);
@@ -952,100 +934,48 @@ static void make_big_old(void) {
 
 static int by_place(const void *a, const void *b) { return memcmp(a, b, 3); }
 
-/* Behind the head of a plan sheet so many dead links. The first six cut off a board, so that planning a route to it comes to the last step; the others are all over. */
-static void put_faults(uint8_t *faults, const uint8_t cut_off[6][3], int most, int apart) {
+/* The largest plan: every fault a dead link. The first six cut off a board, so that planning a route to it comes to the last step. */
+static void make_big(void) {
+    const uint8_t head[] = {2, 3, 9, 16, 16, 16, 7, 1, 1, 3, 1, 0};
+    const uint8_t cut_off[6][3] = {{0, 17, 2}, {1, 1, 1}, {1, 16, 0}, {1, 17, 0}, {1, 17, 1}, {1, 17, 2}};
+    uint8_t *faults = big_plan + sizeof head;
     int count = 6;
-    memcpy(faults, cut_off, 18);
-    for (int i = 0; count < most; i++) {
-        int node = apart * i + i % apart;
+    memcpy(big_plan, head, sizeof head);
+    memcpy(faults, cut_off, sizeof cut_off);
+    for (int i = 0; count < 256; i++) {
+        int node = 16 * i + i % 16;
         const uint8_t fault[3] = {(uint8_t)(node >> 8), (uint8_t)node, (uint8_t)(i % 3)};
         int listed = 0;
         for (int k = 0; k < 6; k++) listed |= memcmp(fault, cut_off[k], 3) == 0;
         if (!listed) memcpy(faults + 3 * count++, fault, 3);
     }
-    qsort(faults, (size_t)most, 3, by_place);
-}
-
-/* The largest plan. */
-static void make_big(void) {
-    const uint8_t head[] = {2, 3, 9, 16, 16, 16, 7, 1, 1, 3, 1, 0};
-    const uint8_t cut_off[6][3] = {{0, 17, 2}, {1, 1, 1}, {1, 16, 0}, {1, 17, 0}, {1, 17, 1}, {1, 17, 2}};
-    memcpy(big_plan, head, sizeof head);
-    put_faults(big_plan + sizeof head, cut_off, 256, 16);
+    qsort(faults, 256, 3, by_place);
     nafthurm_written w = nafthurm_write_sheet(big_plan, NAFTHURM_PLAN_BYTES, 1, big_sheet, sizeof big_sheet);
     HOLD(w.number == 0);
     big_sheet_size = w.size;
     make_big_old();
+}
+
+static void stack_use(void) {
+    void (*small[])(void) = {calls_plan_check, calls_plan_shape, calls_plan_weights, calls_dead_node, calls_dead_link, calls_plan_write_back,
+                             calls_sheet_check, calls_sheet_write_back, calls_lookup, calls_lookup_route, calls_convert, calls_packet_check, calls_step, calls_take_back, calls_walk};
+    make_big();
+    size_t without = stack_of(no_call), most = 0;
+    for (size_t i = 0; i < sizeof small / sizeof *small; i++) {
+        size_t used = stack_of(small[i]) - without;
+        if (most < used) most = used;
+    }
+    size_t of_pair = stack_of(calls_pair) - without, of_sheet = stack_of(calls_write_sheet) - without;
     calls_pair();
     HOLD(answer == 176);
-}
-
-/* The small caller's largest plan. */
-static void make_small(void) {
-    const uint8_t head[] = {2, 0, 105, 8, 8, 8, 7, 1, 1, 3, 0, 32};
-    const uint8_t cut_off[6][3] = {{0, 9, 2}, {0, 65, 1}, {0, 72, 0}, {0, 73, 0}, {0, 73, 1}, {0, 73, 2}};
-    memcpy(small_plan, head, sizeof head);
-    put_faults(small_plan + sizeof head, cut_off, 32, 16);
-    nafthurm_written w = nafthurm_small_write_sheet(small_plan, sizeof small_plan, 1, small_sheet, sizeof small_sheet);
-    HOLD(w.number == 0);
-    small_sheet_size = w.size;
-    calls_small_pair();
-    HOLD(answer == 176);
-}
-
-static const struct {
-    const char *name;
-    void (*call)(void);
-    size_t most;
-} measured[] = {
-    {"plan_check", calls_plan_check, NAFTHURM_STACK},
-    {"plan_shape", calls_plan_shape, NAFTHURM_STACK},
-    {"plan_weights", calls_plan_weights, NAFTHURM_STACK},
-    {"dead_node", calls_dead_node, NAFTHURM_STACK},
-    {"dead_link", calls_dead_link, NAFTHURM_STACK},
-    {"plan_write_back", calls_plan_write_back, NAFTHURM_STACK},
-    {"pair", calls_pair, NAFTHURM_STACK_PAIR},
-    {"write_sheet", calls_write_sheet, NAFTHURM_STACK_SHEET},
-    {"all_sheets", calls_all_sheets, NAFTHURM_STACK_ALL},
-    {"listing", calls_listing, NAFTHURM_STACK_LISTING},
-    {"sheet_check", calls_sheet_check, NAFTHURM_STACK},
-    {"sheet_write_back", calls_sheet_write_back, NAFTHURM_STACK},
-    {"lookup", calls_lookup, NAFTHURM_STACK},
-    {"lookup_route", calls_lookup_route, NAFTHURM_STACK},
-    {"convert", calls_convert, NAFTHURM_STACK},
-    {"small_plan_check", calls_small_plan_check, NAFTHURM_STACK},
-    {"small_plan_shape", calls_small_plan_shape, NAFTHURM_STACK},
-    {"small_plan_weights", calls_small_plan_weights, NAFTHURM_STACK},
-    {"small_plan_write_back", calls_small_plan_write_back, NAFTHURM_STACK},
-    {"small_pair", calls_small_pair, NAFTHURM_STACK_SMALL_PAIR},
-    {"small_write_sheet", calls_small_write_sheet, NAFTHURM_STACK_SMALL_SHEET},
-    {"small_sheet_check", calls_small_sheet_check, NAFTHURM_STACK},
-    {"small_sheet_write_back", calls_small_sheet_write_back, NAFTHURM_STACK},
-    {"small_lookup", calls_small_lookup, NAFTHURM_STACK},
-    {"small_lookup_route", calls_small_lookup_route, NAFTHURM_STACK},
-    {"packet_check", calls_packet_check, NAFTHURM_STACK},
-    {"step", calls_step, NAFTHURM_STACK},
-    {"take_back", calls_take_back, NAFTHURM_STACK},
-    {"walk", calls_walk, NAFTHURM_STACK},
-};
-
-/* A line a call, and then those with bounds of their own in one line. */
-static void stack_use(void) {
-    enum { COUNT = sizeof measured / sizeof *measured };
-    size_t used[COUNT], others = 0;
-    make_big();
-    make_small();
-    size_t without = stack_of(no_call);
-    for (int i = 0; i < COUNT; i++) {
-        used[i] = stack_of(measured[i].call) - without;
-        printf("nafthurm_%s %zu\n", measured[i].name, used[i]);
-        if (measured[i].most == NAFTHURM_STACK && others < used[i]) others = used[i];
-    }
-    for (int i = 0; i < COUNT; i++) HOLD(used[i] <= measured[i].most);
-    printf("bytes:");
-    for (int i = 0; i < COUNT; i++)
-        if (measured[i].most != NAFTHURM_STACK) printf(" %s %zu,", measured[i].name, used[i]);
-    printf(" any other call at most %zu\n", others);
+    size_t of_all = stack_of(calls_all_sheets) - without, of_listing = stack_of(calls_listing) - without;
+    HOLD(most <= NAFTHURM_STACK);
+    HOLD(of_pair <= NAFTHURM_STACK_PAIR);
+    HOLD(of_sheet <= NAFTHURM_STACK_SHEET);
+    HOLD(of_all <= NAFTHURM_STACK_ALL);
+    HOLD(of_listing <= NAFTHURM_STACK_LISTING);
+    printf("nafthurm_pair %zu bytes, nafthurm_write_sheet %zu, nafthurm_all_sheets %zu, nafthurm_listing %zu, any other call at most %zu\n",
+           of_pair, of_sheet, of_all, of_listing, most);
 }
 
 /* test [--stack]: a sanitizer and valgrind have stacks of their own, so that the stack is asked for by itself. */
@@ -1071,8 +1001,6 @@ int main(int count, char **words) {
     half_ring_route();
     hops_back();
     new_marks();
-    small_caller();
-    puts("W and its edges are as documents 01 and 02 have them, a machine with weights goes by weight, half a ring by where it begins, old sheets keep their walks, hops are taken back, "
-         "the small caller gets 19 or what the large one gets");
+    puts("W and its edges are as documents 01 and 02 have them, a machine with weights goes by weight, half a ring by where it begins, old sheets keep their walks, hops are taken back");
     return 0;
 }

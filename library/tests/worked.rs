@@ -1,4 +1,4 @@
-//! Document 01's worked machine W and its edges, a machine with weights, half rings, old route sheets, hops taken back, and the small caller.
+//! Document 01's worked machine W and its edges, a machine with weights, half rings, old route sheets, and hops taken back.
 use nafthurm::Mode::{Adaptive, Deterministic};
 use nafthurm::*;
 
@@ -259,63 +259,6 @@ fn half_rings() {
     assert_eq!((ways(0, 3, Deterministic), ways(1, 4, Deterministic)), (vec![0], vec![1]));
     assert_eq!((ways(7, 19, Deterministic), ways(1, 13, Deterministic)), (vec![3], vec![2]));
     assert_eq!((ways(1, 4, Adaptive), ways(7, 19, Adaptive)), (vec![0, 1], vec![2, 3]));
-}
-
-/// A plan of these extents, all wrapped, with so many dead boards, the first ones.
-fn plan_of(extents: [u8; 3], faults: u16) -> Vec<u8> {
-    let size = 6 + 3 * faults;
-    let mut plan = vec![1, (size >> 8) as u8, size as u8, extents[0], extents[1], extents[2], 7, (faults >> 8) as u8, faults as u8];
-    for node in 0..faults {
-        plan.extend([(node >> 8) as u8, node as u8, 3]);
-    }
-    plan
-}
-
-/// What the large caller gets, in answers and in bytes.
-fn is_same(plan: &[u8], source: u16, destinations: u16) {
-    assert_eq!(small::plan_check(plan), plan_check(plan));
-    assert_eq!((small::plan_shape(plan), small::plan_weights(plan)), (plan_shape(plan), plan_weights(plan)));
-    let (mut out, mut other) = ([0xEE; small::SHEET_BYTES], [0xEE; small::SHEET_BYTES]);
-    for room in [0, plan.len() - 1, plan.len(), plan.len() + 1] {
-        assert_eq!(small::plan_write_back(plan, &mut out[..room]), plan_write_back(plan, &mut other[..room]));
-        assert_eq!(out, other);
-    }
-    let size = small::write_sheet(plan, source, &mut out).unwrap();
-    assert_eq!((write_sheet(plan, source, &mut other), out), (Ok(size), other));
-    assert_eq!(small::write_sheet(plan, source, &mut out[..size - 1]), Err(Refused(12)));
-    let sheet = other[..size].to_vec();
-    assert_eq!(small::sheet_check(plan, &sheet), Ok(()));
-    assert_eq!(small::sheet_check(plan, &sheet[1..]), sheet_check(plan, &sheet[1..]));
-    assert_eq!(small::sheet_write_back(plan, &sheet, &mut out), Ok(size));
-    assert_eq!(out, other);
-    for destination in 0..destinations {
-        assert_eq!(small::pair(plan, source, destination), pair(plan, source, destination));
-        assert!(std::ptr::eq(small::lookup(plan, &sheet, destination), lookup(plan, &sheet, destination)));
-        assert_eq!(small::lookup_route(plan, &sheet, destination), lookup_route(plan, &sheet, destination));
-    }
-}
-
-#[test]
-fn small_caller() {
-    is_same(&W, 0, 18);
-    is_same(&WEIGHED, 3, 18);
-    is_same(&plan_of([8, 8, 8], 32), 300, 514);
-    assert_eq!((plan_of([8, 8, 8], 32).len() + 3, 7 + 7 * (small::NODES - 1)), (small::PLAN_BYTES, small::SHEET_BYTES));
-    let sheet = sheet_of_w();
-    for plan in [plan_of([5, 8, 13], 0), plan_of([16, 16, 16], 256), plan_of([4, 4, 4], small::FAULTS as u16 + 1)] {
-        assert_eq!((plan_check(&plan), small::plan_check(&plan)), (Ok(()), Err(Refused(19))));
-        assert_eq!((small::plan_shape(&plan).x, small::plan_weights(&plan).x), (0, 0));
-        assert_eq!(small::pair(&plan, 40, 41), Err(Refused(19)));
-        assert_eq!(small::sheet_check(&plan, &sheet), Err(Refused(19)));
-        assert_eq!(small::lookup_route(&plan, &sheet, 1), Err(Refused(19)));
-        assert!(small::lookup(&plan, &sheet, 1).is_empty());
-        let mut out = [0xEE; 1000];
-        assert_eq!(small::plan_write_back(&plan, &mut out), Err(Refused(19)));
-        assert_eq!(small::write_sheet(&plan, 40, &mut out), Err(Refused(19)));
-        assert_eq!(small::sheet_write_back(&plan, &sheet, &mut out), Err(Refused(19)));
-        assert_eq!(out, [0xEE; 1000]);
-    }
-    assert_eq!(small::plan_check(&plan_of([8, 8, 8], 257)), Err(Refused(3)));
 }
 
 #[test]

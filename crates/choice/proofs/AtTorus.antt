@@ -17,8 +17,7 @@ use Rattle.machine.specs.Torus.{leg, torus}
 use Rattle.machine.proofs.Torus.{torus_laws}
 use Rattle.weights.proofs.Laws.{distance_self, distance_most, distance_triangle, shortest_same}
 use Rattle.plan.specs.Layout.{shape_of, weights_of}
-use Rattle.plan.specs.declared.limits.Limits.{Limits}
-use Rattle.plan.specs.Checks.{torus_plans, plan_error}
+use Rattle.plan.specs.Checks.{Limits, torus_plans, plan_error}
 use Rattle.plan.proofs.Plans.{accepted}
 use Rattle.choice.specs.Choice.{Choice, most_vias, targets_of, dets_of, length_from, Below, AdmitsIn, before}
 use Rattle.choice.specs.Further.{first_by, better, directly, furthered}

@@ -27,8 +27,7 @@ use Rattle.weights.specs.Weights.{ones}
 use Rattle.weights.specs.Distance.{distance}
 use Rattle.weights.proofs.Laws.{distance_ones}
 use Rattle.plan.specs.Layout.{shape_of, weights_of, faults_of}
-use Rattle.plan.specs.declared.limits.Limits.{Limits}
-use Rattle.plan.specs.Checks.{plan_error}
+use Rattle.plan.specs.Checks.{Limits, plan_error}
 use Rattle.dead.specs.Dead.{dead_node}
 use Rattle.choice.specs.Choice.{Choice, most_vias, vias_of, AdmitsIn, choices, length_from, before}
 use Rattle.choice.specs.Answer.{Answer, Given, Refused, answered}

@@ -12,5 +12,3 @@ pub mod Computed
 pub mod Search
 pub mod Demand
 pub mod Worked
-pub mod Alike
-pub mod Refusals

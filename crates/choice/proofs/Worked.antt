@@ -23,7 +23,7 @@ use Rattle.sheet.specs.Bytes.{list_from}
 use Rattle.sheet.specs.Head.{version, length_field, bytes_after, length_is}
 use Rattle.plan.specs.Layout.{layout_of, shape_of, weights_by, fault_count, fault_at, faults_of}
 use Rattle.plan.specs.Kinds.{kind_dim, kind_dir}
-use Rattle.plan.specs.Checks.{large, fault_good, fault_key, faults_error, exceeds, plan_error_by, fault_exists, plan_error}
+use Rattle.plan.specs.Checks.{large, fault_good, fault_key, faults_error, plan_error_by, fault_exists, plan_error}
 use Rattle.plan.specs.Worked.{W}
 use Rattle.dead.specs.Dead.{some, names_node, dead_node, names_link, names, dead_link, sound}
 use Rattle.choice.specs.Choice.{Choice, targets_of, vias_of, modes_of, dets_of, key_of, over, after, direct, legs_by, misses, different, kept, choices_by}
@@ -62,7 +62,7 @@ unfolding sum_by axis_hops node_count coords_of version layout_of shape_of weigh
 w_0_1_told = refl
 
 w_0_1 : tells W 0 1 ≡ Outcome.Given (Route.Vias 3 2 Adaptive Adaptive Adaptive) 3
-unfolding shape_error bad_extents bad_wraps node_count is_node list_from version length_field bytes_after length_is layout_of shape_of weights_by bad_weights weight_error fault_count fault_at faults_of kind_dim kind_dir coords_of has_link link dir_dim fault_good fault_key faults_error plan_error_by exceeds fault_exists some names_node dead_node
+unfolding shape_error bad_extents bad_wraps node_count is_node list_from version length_field bytes_after length_is layout_of shape_of weights_by bad_weights weight_error fault_count fault_at faults_of kind_dim kind_dir coords_of has_link link dir_dim fault_good fault_key faults_error plan_error_by fault_exists some names_node dead_node
 w_0_1 = told_by W 0 1 (leg 3 Adaptive ∷ leg 2 Adaptive ∷ leg 1 Adaptive ∷ []) (Outcome.Given (Route.Vias 3 2 Adaptive Adaptive Adaptive) 3) w_0_1_route w_0_1_told refl refl refl refl refl
 
 w_0_2_route : route W 0 2 ≡ Option.some (leg 3 Adaptive ∷ leg 2 Adaptive ∷ [])
@@ -74,7 +74,7 @@ unfolding sum_by axis_hops node_count coords_of version layout_of shape_of weigh
 w_0_2_told = refl
 
 w_0_2 : tells W 0 2 ≡ Outcome.Given (Route.Via 3 Adaptive Adaptive) 2
-unfolding shape_error bad_extents bad_wraps node_count is_node list_from version length_field bytes_after length_is layout_of shape_of weights_by bad_weights weight_error fault_count fault_at faults_of kind_dim kind_dir coords_of has_link link dir_dim fault_good fault_key faults_error plan_error_by exceeds fault_exists some names_node dead_node
+unfolding shape_error bad_extents bad_wraps node_count is_node list_from version length_field bytes_after length_is layout_of shape_of weights_by bad_weights weight_error fault_count fault_at faults_of kind_dim kind_dir coords_of has_link link dir_dim fault_good fault_key faults_error plan_error_by fault_exists some names_node dead_node
 w_0_2 = told_by W 0 2 (leg 3 Adaptive ∷ leg 2 Adaptive ∷ []) (Outcome.Given (Route.Via 3 Adaptive Adaptive) 2) w_0_2_route w_0_2_told refl refl refl refl refl
 
 w_0_7_route : route W 0 7 ≡ Option.some (leg 7 Adaptive ∷ [])
@@ -86,7 +86,7 @@ unfolding sum_by axis_hops node_count coords_of version layout_of shape_of weigh
 w_0_7_told = refl
 
 w_0_7 : tells W 0 7 ≡ Outcome.Given (Route.Direct Adaptive) 2
-unfolding shape_error bad_extents bad_wraps node_count is_node list_from version length_field bytes_after length_is layout_of shape_of weights_by bad_weights weight_error fault_count fault_at faults_of kind_dim kind_dir coords_of has_link link dir_dim fault_good fault_key faults_error plan_error_by exceeds fault_exists some names_node dead_node
+unfolding shape_error bad_extents bad_wraps node_count is_node list_from version length_field bytes_after length_is layout_of shape_of weights_by bad_weights weight_error fault_count fault_at faults_of kind_dim kind_dir coords_of has_link link dir_dim fault_good fault_key faults_error plan_error_by fault_exists some names_node dead_node
 w_0_7 = told_by W 0 7 (leg 7 Adaptive ∷ []) (Outcome.Given (Route.Direct Adaptive) 2) w_0_7_route w_0_7_told refl refl refl refl refl
 
 by_hops_route : route (machine 1) 0 1 ≡ Option.some (leg 5 Adaptive ∷ leg 6 Adaptive ∷ leg 1 Adaptive ∷ [])
@@ -98,7 +98,7 @@ unfolding sum_by axis_hops node_count coords_of version layout_of shape_of weigh
 by_hops_told = refl
 
 by_hops : tells (machine 1) 0 1 ≡ Outcome.Given (Route.Vias 5 6 Adaptive Adaptive Adaptive) 3
-unfolding shape_error bad_extents bad_wraps node_count is_node list_from version length_field bytes_after length_is layout_of shape_of weights_by bad_weights weight_error fault_count fault_at faults_of kind_dim kind_dir coords_of has_link link dir_dim fault_good fault_key faults_error plan_error_by exceeds fault_exists some names_node dead_node
+unfolding shape_error bad_extents bad_wraps node_count is_node list_from version length_field bytes_after length_is layout_of shape_of weights_by bad_weights weight_error fault_count fault_at faults_of kind_dim kind_dir coords_of has_link link dir_dim fault_good fault_key faults_error plan_error_by fault_exists some names_node dead_node
 by_hops = told_by (machine 1) 0 1 (leg 5 Adaptive ∷ leg 6 Adaptive ∷ leg 1 Adaptive ∷ []) (Outcome.Given (Route.Vias 5 6 Adaptive Adaptive Adaptive) 3) by_hops_route by_hops_told refl refl refl refl refl
 
 by_weight_route : route (machine 2) 0 1 ≡ Option.some (leg 3 Adaptive ∷ leg 1 Adaptive ∷ [])
@@ -110,11 +110,11 @@ unfolding sum_by axis_hops node_count coords_of version layout_of shape_of weigh
 by_weight_told = refl
 
 by_weight : tells (machine 2) 0 1 ≡ Outcome.Given (Route.Via 3 Adaptive Adaptive) 4
-unfolding shape_error bad_extents bad_wraps node_count is_node list_from version length_field bytes_after length_is layout_of shape_of weights_by bad_weights weight_error fault_count fault_at faults_of kind_dim kind_dir coords_of has_link link dir_dim fault_good fault_key faults_error plan_error_by exceeds fault_exists some names_node dead_node
+unfolding shape_error bad_extents bad_wraps node_count is_node list_from version length_field bytes_after length_is layout_of shape_of weights_by bad_weights weight_error fault_count fault_at faults_of kind_dim kind_dir coords_of has_link link dir_dim fault_good fault_key faults_error plan_error_by fault_exists some names_node dead_node
 by_weight = told_by (machine 2) 0 1 (leg 3 Adaptive ∷ leg 1 Adaptive ∷ []) (Outcome.Given (Route.Via 3 Adaptive Adaptive) 4) by_weight_route by_weight_told refl refl refl refl refl
 
 pub worked : Worked
-unfolding end_by sum_by every clear_by clear_in clear lex earlier best planned shape_error bad_extents bad_wraps axis_hops has_link place node_count number_of coords_of dir_dim opposite link neighbour hops useful rule toward first_direction is_node allowed_by list_from version length_field bytes_after length_is layout_of shape_of weights_by bad_weights weight_error distance fault_count fault_at faults_of kind_dim kind_dir fault_good fault_key faults_error plan_error_by exceeds fault_exists some names_node dead_node names_link names dead_link sound targets_of vias_of modes_of dets_of key_of over after direct legs_by misses different kept choices_by answered told told_as route_by pair_error pair
+unfolding end_by sum_by every clear_by clear_in clear lex earlier best planned shape_error bad_extents bad_wraps axis_hops has_link place node_count number_of coords_of dir_dim opposite link neighbour hops useful rule toward first_direction is_node allowed_by list_from version length_field bytes_after length_is layout_of shape_of weights_by bad_weights weight_error distance fault_count fault_at faults_of kind_dim kind_dir fault_good fault_key faults_error plan_error_by fault_exists some names_node dead_node names_link names dead_link sound targets_of vias_of modes_of dets_of key_of over after direct legs_by misses different kept choices_by answered told told_as route_by pair_error pair
 worked = record {
   w_0_1 = w_0_1;
   w_0_2 = w_0_2;
@@ -131,7 +131,7 @@ worked = record {
 }
 
 pub weighed : Weighed
-unfolding end_by sum_by every clear_by clear_in clear lex earlier best planned shape_error bad_extents bad_wraps axis_hops has_link place node_count number_of coords_of dir_dim opposite link neighbour hops useful rule toward first_direction is_node allowed_by list_from version length_field bytes_after length_is layout_of shape_of weights_by bad_weights weight_error distance fault_count fault_at faults_of kind_dim kind_dir fault_good fault_key faults_error plan_error_by exceeds fault_exists some names_node dead_node names_link names dead_link sound targets_of vias_of modes_of dets_of key_of over after direct legs_by misses different kept choices_by answered told told_as route_by pair_error pair
+unfolding end_by sum_by every clear_by clear_in clear lex earlier best planned shape_error bad_extents bad_wraps axis_hops has_link place node_count number_of coords_of dir_dim opposite link neighbour hops useful rule toward first_direction is_node allowed_by list_from version length_field bytes_after length_is layout_of shape_of weights_by bad_weights weight_error distance fault_count fault_at faults_of kind_dim kind_dir fault_good fault_key faults_error plan_error_by fault_exists some names_node dead_node names_link names dead_link sound targets_of vias_of modes_of dets_of key_of over after direct legs_by misses different kept choices_by answered told told_as route_by pair_error pair
 weighed = record {
   by_hops = by_hops;
   by_weight = by_weight;
@@ -147,10 +147,10 @@ weighed = record {
 
 -- What the theorem assumes holds of W, 0 and 1.
 pub w_demand : Demand large W 0 1
-unfolding shape_error bad_extents bad_wraps node_count is_node list_from version length_field bytes_after length_is layout_of shape_of weights_by bad_weights weight_error distance fault_count fault_at faults_of kind_dim kind_dir coords_of has_link link dir_dim fault_good fault_key faults_error plan_error_by exceeds fault_exists some names_node dead_node
+unfolding shape_error bad_extents bad_wraps node_count is_node list_from version length_field bytes_after length_is layout_of shape_of weights_by bad_weights weight_error distance fault_count fault_at faults_of kind_dim kind_dir coords_of has_link link dir_dim fault_good fault_key faults_error plan_error_by fault_exists some names_node dead_node
 w_demand = demand large W 0 1 refl refl refl refl refl
 
 -- And of a plan with weights.
 pub weighed_demand : Demand large (machine 2) 0 1
-unfolding shape_error bad_extents bad_wraps node_count is_node list_from version length_field bytes_after length_is layout_of shape_of weights_by bad_weights weight_error distance fault_count fault_at faults_of kind_dim kind_dir coords_of has_link link dir_dim fault_good fault_key faults_error plan_error_by exceeds fault_exists some names_node dead_node
+unfolding shape_error bad_extents bad_wraps node_count is_node list_from version length_field bytes_after length_is layout_of shape_of weights_by bad_weights weight_error distance fault_count fault_at faults_of kind_dim kind_dir coords_of has_link link dir_dim fault_good fault_key faults_error plan_error_by fault_exists some names_node dead_node
 weighed_demand = demand large (machine 2) 0 1 refl refl refl refl refl

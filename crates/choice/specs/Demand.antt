@@ -13,7 +13,7 @@ use Rattle.weights.specs.declared.weights.Weights.{Weights}
 use Rattle.weights.specs.Weights.{ones}
 use Rattle.weights.specs.Distance.{distance}
 use Rattle.plan.specs.Layout.{shape_of, weights_of}
-use Rattle.plan.specs.declared.limits.Limits.{Limits}
+use Rattle.plan.specs.Checks.{Limits}
 use Rattle.choice.specs.declared.outcome.Outcome.{Outcome}
 use Rattle.choice.specs.Choice.{Choice, AdmitsIn, length_from, before}
 use Rattle.choice.specs.Answer.{Answer, Given, Refused}

@@ -9,8 +9,7 @@ use Rattle.machine.specs.Node.{is_node}
 use Rattle.machine.specs.Torus.{torus}
 use Rattle.weights.specs.Distance.{distance}
 use Rattle.plan.specs.Layout.{shape_of, weights_of, faults_of}
-use Rattle.plan.specs.declared.limits.Limits.{Limits}
-use Rattle.plan.specs.Checks.{plan_error}
+use Rattle.plan.specs.Checks.{Limits, plan_error}
 use Rattle.dead.specs.Dead.{dead_node, sound}
 use Rattle.choice.specs.Choice.{Choice, choices, before}
 use Rattle.choice.specs.Answer.{Answer, Given, Refused, answered}

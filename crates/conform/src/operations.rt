@@ -1,10 +1,8 @@
 // The answer to a test case, which is one line: the operation that its first word names is asked.
-use crate::callers::{answer_both, answer_caller};
 use conform_fields::answers::unreadable;
-use conform_fields::callers::{CallerField, read_caller};
-use conform_planning::listing_cases;
+use conform_planning::{listing_cases, pair_cases, sheet_cases};
 use conform_runs::run_cases;
-use conform_sheets::{dead_cases, plan_cases, writing_cases};
+use conform_sheets::{dead_cases, plan_cases, route_cases, writing_cases};
 use conform_stepper::{step, walk};
 use text::compare::same;
 use text::part::front;
@@ -26,10 +24,16 @@ fn operation(given: &[u8], out: &mut [u8], at: usize) -> usize {
     plan_operation(name, given, out, at)
 }
 
-// The operations on plan sheets that the large caller alone has.
+// The operations on plan sheets.
 fn plan_operation(name: &[u8], given: &[u8], out: &mut [u8], at: usize) -> usize {
+    if same(name, b"plan") {
+        return plan_cases::answer_read(given, out, at);
+    }
     if same(name, b"weights") {
         return plan_cases::answer_weights(given, out, at);
+    }
+    if same(name, b"planback") {
+        return plan_cases::answer_back(given, out, at);
     }
     if same(name, b"planwrite") {
         return plan_cases::answer_write(given, out, at);
@@ -43,13 +47,30 @@ fn plan_operation(name: &[u8], given: &[u8], out: &mut [u8], at: usize) -> usize
     route_operation(name, given, out, at)
 }
 
-// The others of the large caller alone, but for runs.
+// The operations on route sheets.
 fn route_operation(name: &[u8], given: &[u8], out: &mut [u8], at: usize) -> usize {
+    if same(name, b"lookup") {
+        return route_cases::answer_lookup(given, out, at);
+    }
+    if same(name, b"back") {
+        return writing_cases::answer_back(given, out, at);
+    }
     if same(name, b"convert") {
         return writing_cases::answer_convert(given, out, at);
     }
     if same(name, b"lost") {
         return writing_cases::answer_lost(given, out, at);
+    }
+    planner_operation(name, given, out, at)
+}
+
+// The operations that plan.
+fn planner_operation(name: &[u8], given: &[u8], out: &mut [u8], at: usize) -> usize {
+    if same(name, b"pair") {
+        return pair_cases::answer(given, out, at);
+    }
+    if same(name, b"sheet") {
+        return sheet_cases::answer(given, out, at);
     }
     if same(name, b"listing") {
         return listing_cases::answer(given, out, at);
@@ -68,18 +89,7 @@ fn run_operation(name: &[u8], given: &[u8], out: &mut [u8], at: usize) -> usize 
     if same(name, b"sheetrun") {
         return run_cases::answer_sheet(given, out, at);
     }
-    caller_operation(name, given, out, at)
-}
-
-// The operations that both callers have.
-fn caller_operation(name: &[u8], given: &[u8], out: &mut [u8], at: usize) -> usize {
-    if same(name, b"both") {
-        return answer_both(given, out, at);
-    }
-    match read_caller(given) {
-        CallerField::Caller(caller) => answer_caller(name, caller, given, out, at),
-        CallerField::Bad => unreadable(out, at),
-    }
+    unreadable(out, at)
 }
 
 // Writes what was given and ' => '.

@@ -1,6 +1,5 @@
 // Fields of a line, which is a test case: those that a line gives, and those that an answer has.
 pub mod answers;
-pub mod callers;
 pub mod directions;
 pub mod legs;
 pub mod lists;

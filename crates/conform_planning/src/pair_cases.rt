@@ -1,10 +1,9 @@
 // The operation `pair`: a pair is planned.
 use choice::Outcome;
 use conform_fields::answers::{put_number, unreadable};
-use conform_fields::callers::Caller;
 use conform_fields::legs::put_route;
 use conform_fields::sheets::{PLAN_BYTES, PairField, read_pair};
-use planner::pair::{pair, small_pair};
+use planner::pair::pair;
 use text::part::front;
 use text::{field, put};
 
@@ -21,19 +20,12 @@ fn put_outcome(out: &mut [u8], at: usize, dest: u16, outcome: Outcome) -> usize 
     }
 }
 
-fn plan_pair(caller: Caller, plan: &[u8], source: u16, dest: u16) -> Outcome {
-    match caller {
-        Caller::Large => pair(plan, source, dest),
-        Caller::Small => small_pair(plan, source, dest),
-    }
-}
-
 // Writes the answer to a line `pair plan=.. source=.. destination=..`.
-pub fn answer(line: &[u8], caller: Caller, out: &mut [u8], at: usize) -> usize {
+pub fn answer(line: &[u8], out: &mut [u8], at: usize) -> usize {
     let mut bytes = [0u8; PLAN_BYTES];
     let PairField::Pair(size, source, dest) = read_pair(line, &mut bytes) else {
         return unreadable(out, at);
     };
-    let outcome = plan_pair(caller, front(&bytes, size), source, dest);
+    let outcome = pair(front(&bytes, size), source, dest);
     put_outcome(out, at, dest, outcome)
 }

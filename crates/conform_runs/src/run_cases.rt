@@ -5,7 +5,6 @@ use choice::Outcome;
 use conform_fields::answers::{put_number, unreadable};
 use conform_fields::sheets::{PLAN_BYTES, PairField, ROUTE_BYTES, read_pair};
 use packet::Packet;
-use plan::limits::large;
 use plan::shape_of;
 use planner::pair::pair;
 use planner::sheets::write_sheet;
@@ -39,7 +38,7 @@ pub fn answer_pair(line: &[u8], out: &mut [u8], at: usize) -> usize {
 fn put_entry(out: &mut [u8], next: usize, plan: &[u8], sheet: &[u8], dest: u16) -> usize {
     let size = field::put_number(out, next, b" size=", sheet.len() as u64);
     let key = put::bytes(out, size, b" entry=");
-    hex::put(out, key, lookup(large(), plan, sheet, dest))
+    hex::put(out, key, lookup(plan, sheet, dest))
 }
 
 // Writes the field `number` of the lookup, and of a route the fields of the sheet and of the run.
@@ -52,7 +51,7 @@ fn run_sheet(
     out: &mut [u8],
     at: usize,
 ) -> usize {
-    match route(large(), plan, sheet, dest) {
+    match route(plan, sheet, dest) {
         Outcome::Refused(number) => put_number(out, at, number),
         Outcome::Given(said, _) => {
             let number = put_number(out, at, 0);

@@ -1,7 +1,7 @@
 // Lists of faults as text: `node:kind,node:kind`, `-` for none.
 use conform_fields::lists::put_comma;
 use plan::Fault;
-use plan_value::{Plan, SmallPlan};
+use plan_value::Plan;
 use shape::Shape;
 use text::compare::same;
 use text::decimal::{Byte, Word};
@@ -78,19 +78,6 @@ pub fn with_faults(version: u8, shape: Shape, weights: Weights, s: &[u8]) -> Pla
         start = end + 1;
     }
     field_of(true, plan)
-}
-
-// The plan of the small caller as one of the large caller's size.
-pub fn widened(plan: SmallPlan) -> Plan {
-    let given = plan.faults;
-    let mut wide = empty(plan.version, plan.shape, plan.weights);
-    wide.count = plan.count;
-    let mut i: usize = 0;
-    while i < 32 {
-        wide.faults[i] = given[i];
-        i += 1;
-    }
-    wide
 }
 
 fn fault_of(plan: Plan, i: usize) -> Fault {

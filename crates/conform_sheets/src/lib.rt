@@ -1,7 +1,6 @@
 // Test cases of plan sheets, of what they make dead, and of route sheets, a line each.
 pub mod dead_cases;
 mod faults;
-mod limits;
 pub mod plan_cases;
 pub mod route_cases;
 pub mod writing_cases;

@@ -1,21 +1,26 @@
 // The operations `plan`, `weights`, `planback` and `planwrite`: a plan sheet is read, or its weights alone, it is written back, or written from a plan's value. Lent output is filled with EE.
-use crate::faults::{put_faults, widened, with_faults};
-use crate::limits::limits_of;
+use crate::faults::{put_faults, with_faults};
 use conform_fields::answers::{put_number, put_written, unreadable};
-use conform_fields::callers::Caller;
 use conform_fields::shapes::{ShapeField, put_shape, read_shape};
 use conform_fields::sheets::{PLAN_BYTES, read_plan, read_room};
 use conform_fields::threes::{Three, put_three, read_three};
 use plan::{Answer, weights_of, write_back};
-use plan_value::{Plan, read, read_small, write};
+use plan_value::{read, write};
 use text::decimal::{Byte, Number};
 use text::hex::Count;
 use text::part::{front, front_mut};
 use text::{decimal, field};
 use weights::Weights;
 
-// Writes the field `number`, and of an accepted sheet those of its plan.
-fn put_plan(out: &mut [u8], at: usize, answer: Answer, plan: Plan) -> usize {
+// Writes the answer to a line `plan plan=..`.
+pub fn answer_read(line: &[u8], out: &mut [u8], at: usize) -> usize {
+    let mut bytes = [0u8; PLAN_BYTES];
+    let Count::Bytes(count) = read_plan(line, &mut bytes) else {
+        return unreadable(out, at);
+    };
+    let reading = read(front(&bytes, count));
+    let answer = reading.answer;
+    let plan = reading.plan;
     match answer {
         Answer::Refused(number) => put_number(out, at, number),
         Answer::Accepted => {
@@ -23,33 +28,6 @@ fn put_plan(out: &mut [u8], at: usize, answer: Answer, plan: Plan) -> usize {
             let shape = put_shape(out, number, plan.shape);
             put_faults(out, shape, plan)
         }
-    }
-}
-
-fn put_large(out: &mut [u8], at: usize, sheet: &[u8]) -> usize {
-    let reading = read(sheet);
-    let answer = reading.answer;
-    let plan = reading.plan;
-    put_plan(out, at, answer, plan)
-}
-
-fn put_small(out: &mut [u8], at: usize, sheet: &[u8]) -> usize {
-    let reading = read_small(sheet);
-    let answer = reading.answer;
-    let plan = reading.plan;
-    put_plan(out, at, answer, widened(plan))
-}
-
-// Writes the answer to a line `plan plan=..`.
-pub fn answer_read(line: &[u8], caller: Caller, out: &mut [u8], at: usize) -> usize {
-    let mut bytes = [0u8; PLAN_BYTES];
-    let Count::Bytes(count) = read_plan(line, &mut bytes) else {
-        return unreadable(out, at);
-    };
-    let sheet = front(&bytes, count);
-    match caller {
-        Caller::Large => put_large(out, at, sheet),
-        Caller::Small => put_small(out, at, sheet),
     }
 }
 
@@ -64,7 +42,7 @@ pub fn answer_weights(line: &[u8], out: &mut [u8], at: usize) -> usize {
 }
 
 // Writes the answer to a line `planback plan=.. room=..`.
-pub fn answer_back(line: &[u8], caller: Caller, out: &mut [u8], at: usize) -> usize {
+pub fn answer_back(line: &[u8], out: &mut [u8], at: usize) -> usize {
     let mut bytes = [0u8; PLAN_BYTES];
     let mut output = [0xEEu8; PLAN_BYTES];
     let Count::Bytes(count) = read_plan(line, &mut bytes) else {
@@ -74,7 +52,7 @@ pub fn answer_back(line: &[u8], caller: Caller, out: &mut [u8], at: usize) -> us
         return unreadable(out, at);
     };
     let lent = front_mut(&mut output, room as usize);
-    let written = write_back(limits_of(caller), front(&bytes, count), lent);
+    let written = write_back(front(&bytes, count), lent);
     put_written(out, at, written, lent)
 }
 

@@ -1,12 +1,9 @@
 // The operation `lookup`: a destination's entry, as a part of the lent sheet, and its route.
-use crate::limits::limits_of;
 use choice::Outcome;
 use conform_fields::answers::{put_number, unreadable};
-use conform_fields::callers::Caller;
 use conform_fields::legs::put_route;
 use conform_fields::nodes::read_destination;
 use conform_fields::sheets::{PLAN_BYTES, ROUTE_BYTES, read_plan, read_routes};
-use plan::Limits;
 use routes::layout::{entry_place, entry_size, format_in, source_in};
 use routes::lookup::{find_entry, lookup};
 use routes::route::route;
@@ -44,23 +41,14 @@ fn put_outcome(out: &mut [u8], at: usize, source: u16, dest: u16, outcome: Outco
     }
 }
 
-fn put_lookup(
-    out: &mut [u8],
-    at: usize,
-    limits: Limits,
-    plan: &[u8],
-    sheet: &[u8],
-    dest: u16,
-) -> usize {
-    let entry = lookup(limits, plan, sheet, dest);
-    let end = put_part(out, at, sheet, dest, entry);
+fn put_lookup(out: &mut [u8], at: usize, plan: &[u8], sheet: &[u8], dest: u16) -> usize {
+    let end = put_part(out, at, sheet, dest, lookup(plan, sheet, dest));
     let next = put::byte(out, end, b' ');
-    let outcome = route(limits, plan, sheet, dest);
-    put_outcome(out, next, source_in(sheet), dest, outcome)
+    put_outcome(out, next, source_in(sheet), dest, route(plan, sheet, dest))
 }
 
 // Writes the answer to a line `lookup plan=.. sheet=.. destination=..`.
-pub fn answer_lookup(line: &[u8], caller: Caller, out: &mut [u8], at: usize) -> usize {
+pub fn answer_lookup(line: &[u8], out: &mut [u8], at: usize) -> usize {
     let mut plan = [0u8; PLAN_BYTES];
     let mut sheet = [0u8; ROUTE_BYTES];
     let Count::Bytes(plan_size) = read_plan(line, &mut plan) else {
@@ -72,12 +60,5 @@ pub fn answer_lookup(line: &[u8], caller: Caller, out: &mut [u8], at: usize) -> 
     let Word::Value(dest) = read_destination(line) else {
         return unreadable(out, at);
     };
-    put_lookup(
-        out,
-        at,
-        limits_of(caller),
-        front(&plan, plan_size),
-        front(&sheet, size),
-        dest,
-    )
+    put_lookup(out, at, front(&plan, plan_size), front(&sheet, size), dest)
 }

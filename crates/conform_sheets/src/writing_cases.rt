@@ -1,8 +1,6 @@
 // The operations `back`, `convert` and `lost`: a route sheet is written back or converted into lent output filled with EE; the first entry that cannot be
 // kept.
-use crate::limits::limits_of;
 use conform_fields::answers::{put_number, put_written, unreadable};
-use conform_fields::callers::Caller;
 use conform_fields::sheets::{PLAN_BYTES, ROUTE_BYTES, read_plan, read_room, read_routes};
 use conversion::convert;
 use route_value::write_back;
@@ -12,16 +10,16 @@ use text::field;
 use text::hex::Count;
 use text::part::{front, front_mut};
 
-// The call that writes; writing back is either caller's.
+// The call that writes.
 #[derive(Drop)]
 enum Call {
-    Back(Caller),
+    Back,
     Convert,
 }
 
 fn write(call: Call, plan: &[u8], sheet: &[u8], lent: &mut [u8]) -> Written {
     match call {
-        Call::Back(caller) => write_back(limits_of(caller), plan, sheet, lent),
+        Call::Back => write_back(plan, sheet, lent),
         Call::Convert => convert(plan, sheet, lent).written,
     }
 }
@@ -45,8 +43,8 @@ fn answer(call: Call, line: &[u8], out: &mut [u8], at: usize) -> usize {
     put_written(out, at, written, lent)
 }
 
-pub fn answer_back(line: &[u8], caller: Caller, out: &mut [u8], at: usize) -> usize {
-    answer(Call::Back(caller), line, out, at)
+pub fn answer_back(line: &[u8], out: &mut [u8], at: usize) -> usize {
+    answer(Call::Back, line, out, at)
 }
 
 pub fn answer_convert(line: &[u8], out: &mut [u8], at: usize) -> usize {

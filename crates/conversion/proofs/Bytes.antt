@@ -14,7 +14,7 @@ use Rattle.sheet.specs.Bytes.{byte, word}
 use Rattle.sheet.specs.Head.{version, length_field, bytes_after, length_is}
 use Rattle.sheet.specs.Output.{room_error, written, out_after}
 use Rattle.sheet.proofs.Records.{from_same}
-use Rattle.plan.specs.declared.limits.Limits.{Limits}
+use Rattle.plan.specs.Checks.{Limits}
 use Rattle.routes.specs.Layout.{first, second, format_by, entries_at, entry_place, kind_in, second_via, entry_in, entries_in, source, entry_count, size_after}
 use Rattle.routes.specs.Checks.{head_good, error_in, sheet_error}
 use Rattle.conversion.specs.Converting.{converted}

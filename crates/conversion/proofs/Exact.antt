@@ -8,7 +8,7 @@ use Rattle.numbers.specs.Numbers.{entry_not_kept}
 use Rattle.theory.proofs.Cases.{test}
 use Rattle.sheet.specs.Bytes.{list_from}
 use Rattle.plan.specs.Layout.{shape_of}
-use Rattle.plan.specs.declared.limits.Limits.{Limits}
+use Rattle.plan.specs.Checks.{Limits}
 use Rattle.routes.specs.Layout.{first, source, entry_count, entry_in, entries_in}
 use Rattle.routes.specs.Checks.{error_in}
 use Rattle.routes.specs.Said.{said_by}

@@ -18,8 +18,7 @@ use Rattle.sheet.proofs.Outputs.{unread, room}
 use Rattle.shape.specs.declared.shape.Shape.{Shape}
 use Rattle.machine.specs.Node.{is_node}
 use Rattle.plan.specs.Layout.{shape_of}
-use Rattle.plan.specs.declared.limits.Limits.{Limits}
-use Rattle.plan.specs.Checks.{plan_error}
+use Rattle.plan.specs.Checks.{Limits, plan_error}
 use Rattle.routes.specs.Layout.{first, source, entry_count, entry_in, entries_in}
 use Rattle.routes.specs.Checks.{head_good, routes_good, good_in, error_in}
 use Rattle.routes.proofs.Sheets.{accepted_in}

@@ -20,7 +20,7 @@ use Rattle.packet.specs.declared.packet.Packet.{Packet}
 use Rattle.packet.specs.Packet.{kept, stored, WellStored}
 use Rattle.packet.proofs.Stored.{kept_laws}
 use Rattle.plan.specs.Layout.{shape_of}
-use Rattle.plan.specs.declared.limits.Limits.{Limits}
+use Rattle.plan.specs.Checks.{Limits}
 use Rattle.choice.specs.Choice.{Choice}
 use Rattle.choice.specs.Answer.{Given, answered}
 use Rattle.routes.specs.Layout.{first, format_by, source, entries_in, entries_of}

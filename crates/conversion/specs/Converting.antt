@@ -4,7 +4,7 @@ use Rattle.numbers.specs.Numbers.{entry_not_kept}
 use Rattle.theory.specs.Checks.{declined, ◌then◌}
 use Rattle.sheet.specs.Output.{room_error}
 use Rattle.plan.specs.Layout.{shape_of}
-use Rattle.plan.specs.declared.limits.Limits.{Limits}
+use Rattle.plan.specs.Checks.{Limits}
 use Rattle.routes.specs.Layout.{first, second, source, entries_in}
 use Rattle.routes.specs.Checks.{error_in}
 use Rattle.conversion.specs.Keeping.{all_kept, first_lost}

@@ -13,7 +13,7 @@ use Rattle.machine.specs.Torus.{torus}
 use Rattle.packet.specs.declared.packet.Packet.{Packet}
 use Rattle.packet.specs.Packet.{kept, stored, WellStored}
 use Rattle.plan.specs.Layout.{shape_of}
-use Rattle.plan.specs.declared.limits.Limits.{Limits}
+use Rattle.plan.specs.Checks.{Limits}
 use Rattle.choice.specs.Choice.{Choice}
 use Rattle.choice.specs.Answer.{Answer, Given, Refused, answered}
 use Rattle.routes.specs.declared.layout.Entry.{Entry}

@@ -7,7 +7,7 @@ use Rattle.shape.specs.declared.shape.Coords.{Coords}
 use Rattle.shape.specs.declared.shape.Dim.{Dim}
 use Rattle.shape.specs.declared.shape.Dim.TheVariants.{X, Y, Z}
 use Rattle.shape.specs.Shape.{extent_of, wrapped_in, coord_of}
-use Rattle.plan.specs.declared.limits.Limits.{Limits}
+use Rattle.plan.specs.Checks.{Limits}
 use Rattle.routes.specs.Layout.{first, source, entries_in}
 use Rattle.routes.specs.Checks.{entries_good, good_in}
 use Rattle.conversion.specs.declared.judge.Judged.{Judged}

@@ -6,7 +6,7 @@ use lib.ListN.{length}
 use Rattle.sheet.specs.declared.output.Written.{Written}
 use Rattle.sheet.specs.Output.{written, written_number}
 use Rattle.sheet.proofs.Outputs.{number_written}
-use Rattle.plan.specs.declared.limits.Limits.{Limits}
+use Rattle.plan.specs.Checks.{Limits}
 use Rattle.conversion.specs.Converting.{keep_error, converted, convert_error, lost_entry}
 use Rattle.conversion.proofs.Judging.{room_enough}
 use Rattle.convert.specs.declared.tally.Tally.{Tally}

@@ -13,8 +13,7 @@ use Rattle.machine.proofs.Nodes.{node_of}
 use Rattle.plan.specs.declared.layout.Fault.{Fault}
 use Rattle.plan.specs.Layout.{shape_of, faults_of}
 use Rattle.plan.specs.Kinds.{node_kind, kind_dir}
-use Rattle.plan.specs.declared.limits.Limits.{Limits}
-use Rattle.plan.specs.Checks.{plan_error, fault_exists}
+use Rattle.plan.specs.Checks.{Limits, plan_error, fault_exists}
 use Rattle.plan.specs.Reading.{is_plan}
 use Rattle.plan.proofs.Readings.{is_plan_law, is_no_plan}
 use Rattle.dead.specs.Dead.{dead_link, link_answer}

@@ -24,8 +24,7 @@ use Rattle.machine.proofs.ByCoords.{neighbour_below}
 use Rattle.plan.specs.declared.layout.Fault.{Fault}
 use Rattle.plan.specs.Kinds.{link_kind, node_kind, kind_dir}
 use Rattle.plan.specs.Layout.{shape_of, fault_count, fault_at, faults_of}
-use Rattle.plan.specs.declared.limits.Limits.{Limits}
-use Rattle.plan.specs.Checks.{torus_plans, fault_exists, plan_error}
+use Rattle.plan.specs.Checks.{Limits, torus_plans, fault_exists, plan_error}
 use Rattle.plan.specs.Reading.{is_plan}
 use Rattle.plan.proofs.Listed.{fault_exists_law}
 use Rattle.plan.proofs.Readings.{is_no_plan}

@@ -7,7 +7,7 @@ use Rattle.machine.specs.Node.{is_node}
 use Rattle.plan.specs.declared.layout.Fault.{Fault}
 use Rattle.plan.specs.Layout.{shape_of, faults_of}
 use Rattle.plan.specs.Kinds.{link_kind, node_kind, kind_dir}
-use Rattle.plan.specs.declared.limits.Limits.{Limits}
+use Rattle.plan.specs.Checks.{Limits}
 use Rattle.plan.specs.Reading.{is_plan}
 
 -- Some fault of the list is such.

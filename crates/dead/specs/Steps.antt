@@ -37,11 +37,6 @@ mark_from s t n d (suc k) = mark_link s (mark_from s t n d k) n (d + k)
 unfoldable pub mark_fault : Shape → List ℕ → Fault → List ℕ
 mark_fault s t f = cond (node_kind f.kind) (mark_from s t f.node 0 6) (mark_from s t f.node (kind_dir f.kind) 1)
 
--- So many zeros.
-pub record Zeros (len : ℕ) (t : List ℕ) : Type 0 where
-  pub long : length t ≡ len
-  pub each : (n : ℕ) → get_or t n 0 ≡ 0
-
 -- The node that a fault makes dead.
 unfoldable pub mark_node : List ℕ → Fault → List ℕ
 mark_node t f = cond (node_kind f.kind) (set t f.node 1) t

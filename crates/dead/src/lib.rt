@@ -6,5 +6,5 @@ mod nodes;
 mod questions;
 
 pub use masks::dead_masks;
-pub use nodes::put_dead_nodes;
+pub use nodes::dead_nodes;
 pub use questions::{is_dead_link, is_dead_node};

@@ -4,10 +4,11 @@ use native.Mathlib.Omega.{arith}
 use mathlib.Core.Path.{◌≡◌, refl, sym, ap, ◌∙◌}
 use mathlib.Core.Bool.{Bool, true, false}
 use mathlib.Core.List.{List}
+use lib.ListN.{get_or}
 use Rattle.shape.specs.declared.shape.Shape.{Shape}
 use Rattle.shape.specs.declared.shape.Coords.{Coords}
 use Rattle.machine.specs.declared.leg.Mode.TheVariants.{Adaptive, Deterministic}
-use Rattle.machine.specs.Number.{node_count, coords_of, Inside}
+use Rattle.machine.specs.Number.{node_count, coords_of}
 use Rattle.machine.specs.Node.{coords_answer}
 use Rattle.machine.proofs.Nodes.{below_node}
 use Rattle.weights.specs.declared.weights.Weights.{Weights}
@@ -16,14 +17,14 @@ use Rattle.plan.specs.Layout.{shape_of, weights_of}
 use Rattle.plan.specs.Checks.{large, plan_error}
 use Rattle.choice.specs.declared.outcome.Outcome.{Outcome}
 use Rattle.rows.specs.Rows.{in_rows, in_set}
-use Rattle.masks.specs.Masks.{Ended, Targets}
+use Rattle.masks.specs.Masks.{gather_at}
 use Rattle.search.specs.BestVia.{askable}
 use Rattle.search.specs.Near.{NearWays}
 use Rattle.search.proofs.OfNodes.{askable_at}
 use Rattle.choice_number.specs.Note.{over_of}
 use Rattle.notes.specs.Known.{is_clear, IsAt, FromSet, PartTo, ToEnd}
 use Rattle.notes.proofs.Knowing.{weights_ok, shape_ok, part_of}
-use Rattle.notes.proofs.Destination.{length_is_law, toward_at_law, small_at}
+use Rattle.notes.proofs.Destination.{length_is_law, gathered_at, small_at}
 use Rattle.first_clear.specs.Known.{route_told, is_given, Near, Reaching, FarSets, FarLost}
 
 -- Whether a node is in a set, by its coordinates.
@@ -73,7 +74,6 @@ module _ (p : List ℕ) (w : Weights) (s : Shape) (work : List ℕ) (S D : ℕ) 
     out = g.adaptive;
     both = part_of p D bx by bz work (512 * D) g.both;
     own = g.own;
-    holds = g.holds;
     noted = g.noted;
   }
 
@@ -81,13 +81,12 @@ module _ (p : List ℕ) (w : Weights) (s : Shape) (work : List ℕ) (S D : ℕ) 
 module _ (p : List ℕ) (w : Weights) (s : Shape) (words : List ℕ) (count : ℕ) (ta td : List ℕ) (S D : ℕ) (a t : Coords) (fa : List ℕ) (note : ℕ) (notes : List ℕ)
     (g : FarLost p w s words count ta td S D a t fa note notes) where
   pub far_ends :
-      (masks others : List ℕ) → (Targets Adaptive s ta → Inside s t → Ended Adaptive false s t masks) → (Targets Deterministic s td → Inside s t → Ended Deterministic false s t others) →
-      ToEnd p s words count D t masks others
-  far_ends masks others toward-one toward-other = record {
+      (masks others : List ℕ) → ((i : ℕ) → i < 288 → get_or masks i 0 ≡ gather_at ta t i) → ((i : ℕ) → i < 288 → get_or others i 0 ≡ gather_at td t i) → ToEnd p s words count D t masks others
+  far_ends masks others ga gd = record {
     of_plan = g.of_plan;
     node = g.target;
-    adaptive = toward_at_law p s D t ta masks g.of_plan.plan g.of_plan.shape g.target Adaptive g.masks toward-one;
-    deterministic = toward_at_law p s D t td others g.of_plan.plan g.of_plan.shape g.target Deterministic g.others toward-other;
+    adaptive = gathered_at p s D t ta masks g.of_plan.plan g.target Adaptive false g.masks ga;
+    deterministic = gathered_at p s D t td others g.of_plan.plan g.target Deterministic false g.others gd;
   }
 
   pub far_reaching :
@@ -110,7 +109,6 @@ module _ (p : List ℕ) (w : Weights) (s : Shape) (words : List ℕ) (count : �
     out = g.adaptive;
     both = both;
     own = g.own;
-    holds = g.holds;
     noted = g.noted;
   }
 

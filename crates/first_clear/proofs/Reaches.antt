@@ -67,9 +67,6 @@ module _ (p : List ℕ) (w : Weights) (s : Shape) (S D len : ℕ) (a t : Coords)
   count_is : node_count s ≡ node_count (shape_of p)
   count_is = ap node_count g.apart.shape
 
-  pub notes_hold : node_count s ≤ length notes
-  notes_hold = omega (arith, g.holds, count_is)
-
   abbrev every : List ℕ
   every = replicate 256 65535
 
@@ -118,10 +115,10 @@ module _ (p : List ℕ) (w : Weights) (s : Shape) (S D len : ℕ) (a t : Coords)
   back_clear : (x : ℕ) → x < node_count (shape_of p) → reach x < bound_by (far_in p) S D (note_at D) → is_clear p Deterministic x D ≡ true
   back_clear x l low = (Third.reach_low (far_in p) (clear (torus (shape_of p)) (sound_in p)) S D (note_at x) x (omega (arith, bound_low))).0
 
-  module _ (reached : List ℕ) (are : (x : ℕ) → x < node_count s → get_or reached x 0 ≡ reach_in w s a t bx by bz notes to at x) (bound : ℕ) (eb : bound ≡ bound_of note len)
+  module _ (reached : List ℕ) (are : (x : ℕ) → x < 4096 → get_or reached x 0 ≡ reach_in w s a t bx by bz notes to at x) (bound : ℕ) (eb : bound ≡ bound_of note len)
       (second : ℕ) (least : LeastAt (node_count s) (is_via s bx by bz every to (at + 256)) reached bound second) where
     element : (x : ℕ) → x < node_count (shape_of p) → inside_it x → get_or reached x 0 ≡ reach x
-    element x l i = are x (omega (arith, count_is)) ∙ reach_is x l i
+    element x l i = are x (Third.node_small (shape_of p) ok x l) ∙ reach_is x l i
 
     bound_here : bound ≡ bound_by (far_in p) S D (note_at D)
     bound_here = eb ∙ bound_is

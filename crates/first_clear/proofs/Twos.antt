@@ -4,7 +4,7 @@ use native.Mathlib.Omega.{arith}
 use mathlib.Core.Path.{◌≡◌, refl, sym, ap, ◌∙◌}
 use mathlib.Core.Bool.{true}
 use mathlib.Core.List.{List, [], ◌∷◌}
-use lib.ListN.{length, get_or, replicate, get_or-replicate}
+use lib.ListN.{get_or, replicate, get_or-replicate}
 use Rattle.theory.specs.Machine.{sum_by}
 use Rattle.theory.proofs.Cases.{by_le}
 use Rattle.shape.specs.declared.shape.Shape.{Shape}
@@ -48,9 +48,6 @@ first_place n x h l = omega arith
 
 second_place : (n x : ℕ) → x < 4096 → (4096 * n + x) % 4096 ≡ x
 second_place n x l = omega arith
-
-pub notes_hold : (p : List ℕ) (s : Shape) (S D bx by bz : ℕ) (to : List ℕ) (at : ℕ) (notes : List ℕ) → Pairing p s S D bx by bz to at notes → node_count s ≤ length notes
-notes_hold p s S D bx by bz to at notes g = omega (arith, g.holds, ap node_count g.shape)
 
 module _ (p : List ℕ) (s : Shape) (S D bx by bz : ℕ) (to : List ℕ) (at : ℕ) (notes : List ℕ) (g : Pairing p s S D bx by bz to at notes) (second : ℕ)
     (least : LeastAt (node_count s) (is_via s bx by bz (replicate 256 65535) to at) notes 4096 second) where

@@ -17,7 +17,7 @@ use Rattle.search.specs.Number.{unclear}
 use Rattle.search.specs.Near.{NearWays}
 use Rattle.choice_number.specs.Note.{over_of}
 use Rattle.choice_number.specs.Told.{pick_outcome}
-use Rattle.masks.specs.Masks.{Targets}
+use Rattle.masks.specs.Masks.{Masked}
 use Rattle.notes.specs.Known.{is_clear, OfPlan, IsAt, FromSet, ToBetween, BothTo, PartTo, IsBox, NoteTo}
 
 abbrev pub route_told : List ℕ → ℕ → ℕ → Outcome
@@ -79,7 +79,6 @@ pub record Pairing (p : List ℕ) (s : Shape) (S D bx by bz : ℕ) (to : List �
   pub back : ToBetween p Adaptive S D to at
   pub room : at + 256 ≤ length to
   pub over : 4096 ≤ get_or notes D 0
-  pub holds : node_count (shape_of p) ≤ length notes
   pub noted : NotedBetween p S D notes
 
 -- The steps behind it.
@@ -102,10 +101,9 @@ pub record Reaching (p : List ℕ) (w : Weights) (s : Shape) (S D len : ℕ) (a 
   pub out : FromSet p Adaptive S fa
   pub both : PartTo p D bx by bz to at
   pub own : note ≡ get_or notes D 0
-  pub holds : node_count (shape_of p) ≤ length notes
   pub noted : Noted p S notes
 
--- The last step, by the sets to all nodes, or by the losses and the masks of all targets where the runs have them.
+-- The last step, by the sets to all nodes, or by the losses and the masks of all targets.
 pub record FarSets (p : List ℕ) (w : Weights) (s : Shape) (work : List ℕ) (S D : ℕ) (a t : Coords) (fa : List ℕ) (note : ℕ) (notes : List ℕ) : Type 0 where
   pub plan : plan_error large p ≡ 0
   pub weights : w ≡ weights_of p
@@ -117,19 +115,17 @@ pub record FarSets (p : List ℕ) (w : Weights) (s : Shape) (work : List ℕ) (S
   pub direct : is_clear p Adaptive S D ≡ false
   pub blocked : is_clear p Deterministic S D ≡ false
   pub own : note ≡ get_or notes D 0
-  pub holds : node_count (shape_of p) ≤ length notes
   pub noted : Noted p S notes
 
 pub record FarLost (p : List ℕ) (w : Weights) (s : Shape) (words : List ℕ) (count : ℕ) (ta td : List ℕ) (S D : ℕ) (a t : Coords) (fa : List ℕ) (note : ℕ) (notes : List ℕ) : Type 0 where
   pub of_plan : OfPlan p s words count
   pub weights : w ≡ weights_of p
-  pub masks : Targets Adaptive s ta
-  pub others : Targets Deterministic s td
+  pub masks : Masked Adaptive false s ta
+  pub others : Masked Deterministic false s td
   pub source : IsAt p S a
   pub target : IsAt p D t
   pub adaptive : FromSet p Adaptive S fa
   pub direct : is_clear p Adaptive S D ≡ false
   pub blocked : is_clear p Deterministic S D ≡ false
   pub own : note ≡ get_or notes D 0
-  pub holds : node_count (shape_of p) ≤ length notes
   pub noted : Noted p S notes

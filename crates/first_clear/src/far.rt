@@ -1,6 +1,5 @@
 // The last step, where no direct leg is clear: what each node as second via can reach, against the best via by itself.
-ghost use Rattle.std.specs.Prelude.{◌≡◌, List, ℕ, ◌≤◌, length};
-ghost use Rattle.machine.specs.Number.{node_count};
+ghost use Rattle.std.specs.Prelude.{◌≡◌, List, ℕ};
 ghost use Rattle.first_clear.specs.Known.{route_told, Reaching};
 
 use choice::Outcome;
@@ -14,11 +13,11 @@ use second_via::reach::reach;
 use shape::{Coords, Shape};
 use weights::Weights;
 
-// `bx`, `by`, `bz`: the places of every second via that may be better than the note. `fa`: the nodes with a clear adaptive leg from the source. `to`: both sets to the destination, from place `at` on. `note`: the destination's. `sums`: a place for each node, for what it can reach as second via.
+// `bx`, `by`, `bz`: the places of every second via that may be better than the note. `fa`: the nodes with a clear adaptive leg from the source. `to`: both sets to the destination, from place `at` on. `note`: the destination's.
 pub fn far_outcome(
     weights: Weights,
     shape: Shape,
-    len: u16,
+    length: u16,
     a: Coords,
     t: Coords,
     bx: u16,
@@ -28,16 +27,14 @@ pub fn far_outcome(
     note: u32,
     to: &[u16],
     at: usize,
-    notes: &[u32],
-    sums: &mut [u32],
+    notes: &[u32; 4096],
 ) -> Outcome
-    ensures by_index { (p : List ℕ) (S D : ℕ) → Reaching p weights shape S D len a t bx by bz fa.now note to.now at notes.now → node_count shape ≤ length sums.old → result ≡ route_told p S D }
-    ensures sums_len_unchanged { length sums.new ≡ length sums.old }
+    ensures { (p : List ℕ) (S D : ℕ) → Reaching p weights shape S D length a t bx by bz fa.now note to.now at notes.now → result ≡ route_told p S D }
 {
     if !has_rows(to.len(), at, 512) {
         return Outcome::Refused(NO_CLEAR_CHOICE);
     }
-    reach(weights, shape, a, t, bx, by, bz, notes, to, at, sums);
+    let reached = reach(weights, shape, a, t, bx, by, bz, notes, to, at);
     let all = [65535u16; 256];
     let second = least(
         shape,
@@ -47,16 +44,16 @@ pub fn far_outcome(
         &all,
         to,
         at + 256,
-        sums,
-        bound(note, len),
+        &reached,
+        bound(note, length),
     );
     if second < 4096 {
         let i = second as usize;
-        let value = sums[i];
+        let value = reached[i];
         let first = has(fa, 0, coords(shape, via_in(value)));
         let third = has(to, at, coords(shape, second));
         return by_two(value, second, first, third);
     }
     let first = has(fa, 0, coords(shape, via_in(note)));
-    by_one(note, len, first)
+    by_one(note, length, first)
 }

@@ -46,7 +46,7 @@ pub fn two_vias(
     bz: u16,
     to: &[u16],
     at: usize,
-    notes: &[u32],
+    notes: &[u32; 4096],
 ) -> u32
     ensures { (p : List ℕ) (S D : ℕ) → Pairing p shape S D bx by bz to.now at notes.now → TwoTo p S D result }
 {

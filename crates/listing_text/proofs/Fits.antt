@@ -6,7 +6,7 @@ use mathlib.Core.Bool.{not}
 use mathlib.Core.List.{List, [], ◌∷◌, ◌++◌}
 use lib.ListN.{length, length-append}
 use lib.Dec.{ltb}
-use Rattle.numbers.specs.Numbers.{plan_short, node_outside, dead_end, over_limit}
+use Rattle.numbers.specs.Numbers.{plan_short, node_outside, dead_end}
 use Rattle.theory.specs.Checks.{◌then◌}
 use Rattle.theory.specs.Machine.{sum_by}
 use Rattle.machine.specs.declared.leg.Mode.{Mode}
@@ -35,13 +35,13 @@ use Rattle.listing_text.proofs.Decimals.{at_most_1, at_most_2, at_most_3, at_mos
 use Rattle.listing_text.proofs.Sources.{source_sound, node_below}
 
 -- ---- numbers of refusals
-listing_most : (i : List ℕ) → listing_error i ≤ over_limit
+listing_most : (i : List ℕ) → listing_error i ≤ 16
 unfolding listing_error source_error
 listing_most i =
-    check_most 19 (ltb (length i) 2) plan_short _ (omega arith)
-    (then_most 19 (plan_error large (plan_in i)) _ (omega (arith, plan_most large (plan_in i)))
-    (check_most 19 (not (is_node (shape_of (plan_in i)) (source_in i))) node_outside _ (omega arith)
-    (check_most 19 (dead_node (faults_of (plan_in i)) (source_in i)) dead_end 0 (omega arith) (omega arith))))
+    check_most 16 (ltb (length i) 2) plan_short _ (omega arith)
+    (then_most 16 (plan_error large (plan_in i)) _ (omega (arith, plan_most large (plan_in i)))
+    (check_most 16 (not (is_node (shape_of (plan_in i)) (source_in i))) node_outside _ (omega arith)
+    (check_most 16 (dead_node (faults_of (plan_in i)) (source_in i)) dead_end 0 (omega arith) (omega arith))))
 
 -- ---- lines
 line_length : (f g : List ℕ) (fs : List (List ℕ)) → length (line (f ∷ (g ∷ fs))) ≡ length f + 1 + length (line (g ∷ fs))
@@ -52,7 +52,7 @@ last_length : (f : List ℕ) → length (line (f ∷ [])) ≡ length f + 1
 unfolding line
 last_length f = simp length-append (omega arith)
 
-refusal_short : (e : ℕ) → e ≤ over_limit → length (refusal e) ≤ 11
+refusal_short : (e : ℕ) → e ≤ 16 → length (refusal e) ≤ 11
 unfolding refusal
 refusal_short e h =
     omega (arith, line_length refused_word (decimal e) [], last_length (decimal e), at_most_2 e (omega arith))

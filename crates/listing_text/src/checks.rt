@@ -3,7 +3,6 @@ ghost use Rattle.std.specs.Prelude.{◌≡◌};
 ghost use Rattle.listing_text.specs.Text.{source_in, listing_error};
 
 use numbers::PLAN_SHORT;
-use plan::limits::large;
 use planner::sheets::source_error;
 use sheet::word_at;
 
@@ -20,5 +19,5 @@ pub fn listing_error(input: &[u8]) -> u8
     if input.len() < 2 {
         return PLAN_SHORT;
     }
-    source_error(large(), &input[2..], source_in(input))
+    source_error(&input[2..], source_in(input))
 }

@@ -1,5 +1,5 @@
 -- The losses of a plan: one for each fault, in the faults' order.
-use Rattle.std.specs.Prelude.{ℕ, ◌+◌, ◌*◌, ◌/◌, ◌≤◌, ◌<◌, ◌≡◌, cond, List, length, get_or}
+use Rattle.std.specs.Prelude.{ℕ, ◌+◌, ◌*◌, ◌/◌, ◌≤◌, ◌<◌, ◌≡◌, cond, List, get_or}
 use Rattle.shape.specs.declared.shape.Shape.{Shape}
 use Rattle.machine.specs.Number.{coords_of}
 use Rattle.plan.specs.declared.layout.Fault.{Fault}
@@ -20,5 +20,4 @@ word_of s f = let c = coords_of s f.node in c.x + 16 * c.y + 256 * c.z + 4096 * 
 pub record AreLosses (p words : List ℕ) (count : ℕ) : Type 0 where
   pub counted : count ≡ cond (is_plan large p) (fault_count p) 0
   pub few : count ≤ most_faults
-  pub room : count ≤ length words
   pub each : (i : ℕ) → i < count → get_or words i 0 ≡ word_of (shape_of p) (fault_at p i)

@@ -1,5 +1,7 @@
 // The losses of a plan: one for each fault.
+mod list;
 mod reading;
 mod words;
 
-pub use reading::put_losses;
+pub use list::Losses;
+pub use reading::losses;

@@ -18,7 +18,6 @@ use Rattle.shape.specs.declared.shape.Dim.TheVariants.{X, Y, Z}
 use Rattle.shape.specs.Shape.{shape_error, extent_of, wrapped_in, coord_of}
 use Rattle.shape.proofs.Shapes.{sound}
 use Rattle.machine.specs.declared.leg.Mode.{Mode}
-use Rattle.machine.specs.Number.{Inside}
 use Rattle.machine.specs.Hop.{pick_dim}
 use Rattle.rows.proofs.Taking.{get_d_same}
 use Rattle.rows.specs.Bits.{row_of}
@@ -93,15 +92,14 @@ ends_none mode from s at e q z i l = get_d_same {A = ℕ} 0 288 i ∙ rw (ne_eqb
 
 -- ---- the masks of one end laid from the table of all, up to the mask j of dimension d
 pub record Laying (table : List ℕ) (d end : ℕ) (old new : List ℕ) (j : ℕ) : Type 0 where
-  pub whole : length table ≡ 4608
   pub low : d < 3
   pub last : end < 16
   pub most : j ≤ 96
   pub laid : Laid (laid_to table d end j) old new
 
-pub lay_begin : (table : List ℕ) (d end : ℕ) (old : List ℕ) → length old ≡ 288 → d < 3 → end < 16 → length table ≡ 4608 → Laying table d end old old 0
+pub lay_begin : (table : List ℕ) (d end : ℕ) (old : List ℕ) → length old ≡ 288 → d < 3 → end < 16 → Laying table d end old old 0
 unfolding laid_to
-lay_begin table d end old e h k w = record { whole = w; low = h; last = k; most = omega arith; laid = record { long = e; is = λ i l. rw (le-ltb (i % 96) 0 (omega arith)) (none (eqb (i / 96) d) (get_or table (1536 * d + 96 * end + i % 96) 0) (get_or old i 0)) } }
+lay_begin table d end old e h k = record { low = h; last = k; most = omega arith; laid = record { long = e; is = λ i l. rw (le-ltb (i % 96) 0 (omega arith)) (none (eqb (i / 96) d) (get_or table (1536 * d + 96 * end + i % 96) 0) (get_or old i 0)) } }
   where
     none : (b : Bool) (x y : ℕ) → y ≡ cond (b && false) x y
     none true x y = refl
@@ -110,7 +108,6 @@ lay_begin table d end old e h k w = record { whole = w; low = h; last = k; most 
 pub lay_turn : (table : List ℕ) (d end : ℕ) (old new : List ℕ) (j v : ℕ) → Laying table d end old new j → j < 96 → v ≡ get_or table (1536 * d + 96 * end + j) 0 → Laying table d end old (set new (96 * d + j) v) (j + 1)
 unfolding laid_to
 lay_turn table d end old new j v p h e = record {
-  whole = p.whole;
   low = p.low;
   last = p.last;
   most = omega arith;
@@ -173,15 +170,3 @@ gathered mode from s table ends at full x y z g i l =
     small true b = x
     small false true = y
     small false false = z
-
--- So they are of an end inside the shape; a shape that a check declines has no masks.
-pub gathered_inside : (mode : Mode) (from : Bool) (s : Shape) (table ends : List ℕ) (at : Coords) → Masked mode from s table → Inside s at → ((i : ℕ) → i < 288 → get_or ends i 0 ≡ gather_at table at i) → Ended mode from s at ends
-unfolding gather_at table_at ends_at
-gathered_inside mode from s table ends at full i g =
-    test (eqb (shape_error s) 0)
-    (λ e.
-    let h = eqb-true (shape_error s) 0 e in
-    gathered mode from s table ends at full (omega (arith, i.x, (sound s h X).high)) (omega (arith, i.y, (sound s h Y).high)) (omega (arith, i.z, (sound s h Z).high)) g)
-    (λ e k l.
-    let j = 1536 * (k / 96) + 96 * (coord_of at (dim_at (k / 96)) % 16) + k % 96 in
-    g k l ∙ full j (omega arith) ∙ rw e)

@@ -1,6 +1,6 @@
 -- For one dimension, a place of a loss and one end of a leg: the set of the other ends, as the bits of a number. Of one end they are 288 numbers, of all
 -- ends 4,608.
-use Rattle.std.specs.Prelude.{ℕ, ◌+◌, ◌*◌, ◌/◌, ◌%◌, ◌<◌, ◌≡◌, Bool, false, cond, List, length, get_or, eqb, ltb}
+use Rattle.std.specs.Prelude.{ℕ, ◌+◌, ◌*◌, ◌/◌, ◌%◌, ◌<◌, ◌≡◌, Bool, cond, List, get_or, eqb, ltb}
 use Rattle.shape.specs.declared.shape.Shape.{Shape}
 use Rattle.shape.specs.declared.shape.Coords.{Coords}
 use Rattle.shape.specs.declared.shape.Dim.{Dim}
@@ -52,7 +52,3 @@ Ended mode from s at ends = (i : ℕ) → i < 288 → get_or ends i 0 ≡ ends_a
 -- These are the masks of all ends.
 abbrev pub Masked : Mode → Bool → Shape → List ℕ → Type 0
 Masked mode from s table = (i : ℕ) → i < 4608 → get_or table i 0 ≡ table_at mode from s i
-
--- These are the masks of all targets; or the run has another length, and says nothing.
-abbrev pub Targets : Mode → Shape → List ℕ → Type 0
-Targets mode s table = length table ≡ 4608 → Masked mode false s table

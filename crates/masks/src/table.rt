@@ -1,10 +1,9 @@
 // The masks of one end, and of every end.
-ghost use Rattle.std.specs.Prelude.{◌≡◌, false, ℕ, ◌<◌, length, get_or};
+ghost use Rattle.std.specs.Prelude.{◌≡◌, ℕ, ◌<◌, length, get_or};
 ghost use Rattle.masks.specs.Laid.{Laid, laid_to};
 ghost use Rattle.masks.specs.Ranges.{end_way, any_way};
 ghost use Rattle.shape.specs.Shape.{shape_error};
-ghost use Rattle.machine.specs.Number.{Inside};
-ghost use Rattle.masks.specs.Masks.{dim_at, end_at, mask_at, gather_at, Ended, Masked, Targets};
+ghost use Rattle.masks.specs.Masks.{dim_at, end_at, mask_at, gather_at, Ended, Masked};
 
 use crate::mask::mask;
 use crate::row::ways_row;
@@ -159,8 +158,8 @@ pub fn table(mode: Mode, from: bool, shape: Shape) -> [u16; 4608]
 }
 
 // The masks of dimension number d, from those of all its ends.
-fn lay(masks: &mut [u16; 288], table: &[u16], d: usize, end: usize)
-    requires { (length masks.old ≡ 288) × (d < 3) × (end < 16) × (length table.now ≡ 4608) }
+fn lay(masks: &mut [u16; 288], table: &[u16; 4608], d: usize, end: usize)
+    requires { (length masks.old ≡ 288) × (d < 3) × (end < 16) }
     ensures { Laid (laid_to table.now d end 96) masks.old masks.new }
 {
     let to = 96 * d;
@@ -172,27 +171,13 @@ fn lay(masks: &mut [u16; 288], table: &[u16], d: usize, end: usize)
     }
 }
 
-// The masks of one end, from the table of all; zeros where the run has another length.
-pub fn gather(table: &[u16], at: Coords) -> [u16; 288]
-    ensures { length table.now ≡ 4608 → (i : ℕ) → i < 288 → get_or result i 0 ≡ gather_at table.now at i }
+// The masks of one end, from the table of all.
+pub fn gather(table: &[u16; 4608], at: Coords) -> [u16; 288]
+    ensures { (i : ℕ) → i < 288 → get_or result i 0 ≡ gather_at table.now at i }
 {
     let mut masks = [0u16; 288];
-    if table.len() != 4608 {
-        return masks;
-    }
     lay(&mut masks, table, 0, at.x as usize % 16);
     lay(&mut masks, table, 1, at.y as usize % 16);
     lay(&mut masks, table, 2, at.z as usize % 16);
     masks
-}
-
-// The masks of one target: from the table of all targets where the run has it, else made anew.
-pub fn toward(mode: Mode, shape: Shape, table: &[u16], at: Coords) -> [u16; 288]
-    ensures { Targets mode shape table.now → Inside shape at → Ended mode false shape at result }
-{
-    if table.len() == 4608 {
-        gather(table, at)
-    } else {
-        ends(mode, false, shape, at)
-    }
 }

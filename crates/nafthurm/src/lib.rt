@@ -5,5 +5,3 @@ mod packets;
 mod planning;
 mod plans;
 mod sheets;
-mod small;
-mod within;

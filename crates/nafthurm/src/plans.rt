@@ -7,9 +7,7 @@ ghost use Rattle.plan.specs.Writing.{write_error};
 ghost use Rattle.dead.specs.Dead.{node_answer, link_answer};
 ghost use Rattle.nafthurm.specs.Forms.{shape_for, weights_for, written_for};
 
-use crate::forms::{ShapeForm, WeightsForm, WrittenForm};
-use crate::within::{plan_back_within, shape_within, weights_within};
-use plan::limits::large;
+use crate::forms::{ShapeForm, WeightsForm, WrittenForm, shape_for, weights_for, written_for};
 
 #[unsafe(no_mangle)]
 pub extern "C" fn nafthurm_plan_check(plan: &[u8]) -> u8
@@ -22,14 +20,14 @@ pub extern "C" fn nafthurm_plan_check(plan: &[u8]) -> u8
 pub extern "C" fn nafthurm_plan_shape(plan: &[u8]) -> ShapeForm
     ensures { result ≡ shape_for (shape_answer large plan.now) }
 {
-    shape_within(large(), plan)
+    shape_for(plan::shape_of(plan))
 }
 
 #[unsafe(no_mangle)]
 pub extern "C" fn nafthurm_plan_weights(plan: &[u8]) -> WeightsForm
     ensures { result ≡ weights_for (weights_answer large plan.now) }
 {
-    weights_within(large(), plan)
+    weights_for(plan::weights_of(plan))
 }
 
 #[unsafe(no_mangle)]
@@ -51,5 +49,5 @@ pub extern "C" fn nafthurm_plan_write_back(plan: &[u8], out: &mut [u8]) -> Writt
     ensures value { result ≡ written_for (written (write_error large plan.now out.old) plan.now) }
     ensures out_after { out.new ≡ out_after (write_error large plan.now out.old) plan.now out.old }
 {
-    plan_back_within(large(), plan, out)
+    written_for(plan::write_back(plan, out))
 }

@@ -12,16 +12,19 @@ ghost use Rattle.routes.specs.Says.{says};
 ghost use Rattle.conversion.specs.Converting.{converted, convert_error, lost_entry};
 ghost use Rattle.nafthurm.specs.Forms.{written_for, converted_for, route_for, part_for};
 
-use crate::forms::{ConvertedForm, PartForm, RouteForm, WrittenForm, converted_for};
-use crate::within::{part_within, route_within, sheet_back_within};
+use crate::forms::{
+    ConvertedForm, PartForm, RouteForm, WrittenForm, converted_for, route_for, written_for,
+};
 use conversion::convert;
-use plan::limits::large;
+use route_value::write_back;
+use routes::lookup::entry_part;
+use routes::route::route;
 
 #[unsafe(no_mangle)]
 pub extern "C" fn nafthurm_sheet_check(plan: &[u8], sheet: &[u8]) -> u8
     ensures { result ≡ sheet_error large plan.now sheet.now }
 {
-    routes::check(large(), plan, sheet)
+    routes::check(plan, sheet)
 }
 
 #[unsafe(no_mangle)]
@@ -33,7 +36,7 @@ pub extern "C" fn nafthurm_sheet_write_back(
     ensures value { result ≡ written_for (written (back_error large plan.now sheet.now out.old) (rewritten sheet.now)) }
     ensures out_after { out.new ≡ out_after (back_error large plan.now sheet.now out.old) (rewritten sheet.now) out.old }
 {
-    sheet_back_within(large(), plan, sheet, out)
+    written_for(write_back(plan, sheet, out))
 }
 
 #[unsafe(no_mangle)]
@@ -44,16 +47,21 @@ pub extern "C" fn nafthurm_convert(plan: &[u8], sheet: &[u8], out: &mut [u8]) ->
     converted_for(convert(plan, sheet, out))
 }
 
+// The part that routes::lookup gives, as numbers: C cannot be given a part by reference.
 #[unsafe(no_mangle)]
 pub extern "C" fn nafthurm_lookup(plan: &[u8], sheet: &[u8], destination: u16) -> PartForm
     ensures { result ≡ part_for (part_start large plan.now sheet.now destination) (part_length large plan.now sheet.now destination) }
 {
-    part_within(large(), plan, sheet, destination)
+    let part = entry_part(plan, sheet, destination);
+    PartForm {
+        start: part.start,
+        size: part.size,
+    }
 }
 
 #[unsafe(no_mangle)]
 pub extern "C" fn nafthurm_lookup_route(plan: &[u8], sheet: &[u8], destination: u16) -> RouteForm
     ensures { result ≡ route_for (told (far_in plan.now) (source sheet.now) (says large plan.now sheet.now destination)) }
 {
-    route_within(large(), plan, sheet, destination)
+    route_for(route(plan, sheet, destination))
 }

@@ -31,7 +31,7 @@ use Rattle.rows.specs.Product.{Are}
 use Rattle.sets.specs.Clear.{clear_in}
 use Rattle.masks.specs.declared.span.Box.{Box}
 use Rattle.masks.specs.Span.{box_of}
-use Rattle.masks.specs.Masks.{gather_at, Ended, Masked, Targets}
+use Rattle.masks.specs.Masks.{gather_at, Ended, Masked}
 use Rattle.masks.proofs.Spans.{box_inside}
 use Rattle.masks.proofs.Tables.{gathered}
 use Rattle.search.specs.FirstVia.{is_via, FirstOf}
@@ -89,16 +89,10 @@ within_box p s words count near n S D t bx by bz m masks rows k g to b e r v l w
 
 -- All losses stand for all.
 pub all_near : (p : List ℕ) (s : Shape) (words : List ℕ) (count : ℕ) → OfPlan p s words count → (S D : ℕ) → NearLosses p S D words count words count
-all_near p s words count k S D = record { few = k.losses.room; same = λ m v l w. refl }
+all_near p s words count k S D = record { few = k.losses.few; same = λ m v l w. refl }
 
 pub gathered_at : (p : List ℕ) (s : Shape) (D : ℕ) (t : Coords) (table masks : List ℕ) → plan_error large p ≡ 0 → IsAt p D t → (m : Mode) (from : Bool) → Masked m from s table → ((i : ℕ) → i < 288 → get_or masks i 0 ≡ gather_at table t i) → Ended m from s t masks
 gathered_at p s D t table masks h to m from full g = let k = small_at p D t h to in gathered m from s table masks t full k.0 k.1 k.2 g
-
--- The masks of a target that is a node of the plan.
-pub toward_at_law :
-    (p : List ℕ) (s : Shape) (D : ℕ) (t : Coords) (table masks : List ℕ) → plan_error large p ≡ 0 → s ≡ shape_of p → IsAt p D t → (m : Mode) → Targets m s table →
-    (Targets m s table → Inside s t → Ended m false s t masks) → Ended m false s t masks
-toward_at_law p s D t table masks h e to m full g = g full (rw (e, to.at) (inside (shape_of p) (shape_ok p h) D to.node))
 
 -- ---- the set of the nodes on the shortest ways
 pub between_made :
@@ -214,9 +208,9 @@ module _ (p : List ℕ) (w : Weights) (s : Shape) (work : List ℕ) (S D : ℕ) 
 
 -- ---- by the losses
 module _ (p : List ℕ) (w : Weights) (s : Shape) (words : List ℕ) (count : ℕ) (near : List ℕ) (n : ℕ) (ta td : List ℕ) (S D : ℕ) (a t : Coords) (fa fd : List ℕ) (straight : Bool)
-    (g : ByLosses p w s words count near n ta td S D a t fa fd straight) (masks : List ℕ) (toward : Targets Adaptive s ta → Inside s t → Ended Adaptive false s t masks) where
+    (g : ByLosses p w s words count near n ta td S D a t fa fd straight) (masks : List ℕ) (gathered : (i : ℕ) → i < 288 → get_or masks i 0 ≡ gather_at ta t i) where
   ended : Ended Adaptive false s t masks
-  ended = toward_at_law p s D t ta masks g.of_plan.plan g.of_plan.shape g.target Adaptive g.masks toward
+  ended = gathered_at p s D t ta masks g.of_plan.plan g.target Adaptive false g.masks gathered
 
   pub losses_between : (run : List ℕ) → 1024 ≤ length run → Between p Adaptive s S D a t near n masks run 0
   losses_between run room = record { words = words; count = count; of_plan = g.of_plan; standing = g.standing; source = g.source; target = g.target; ended = ended; room = omega arith }
@@ -232,10 +226,10 @@ module _ (p : List ℕ) (w : Weights) (s : Shape) (words : List ℕ) (count : �
     pub losses_straight : 4096 ≤ via → straight ≡ true → NoteTo p S D unclear
     losses_straight = here_straight p s S D a t g.of_plan.plan g.of_plan.shape g.source g.target fa new 0 g.adaptive made.set (omega (arith, long)) b eb via first straight g.one
 
-    pub losses_far : 4096 ≤ via → straight ≡ false → (others : List ℕ) → (Targets Deterministic s td → Inside s t → Ended Deterministic false s t others) → FarMasks p w s words count S D a t near n masks others fa fd new
-    losses_far none e others toward-other = record {
+    pub losses_far : 4096 ≤ via → straight ≡ false → (others : List ℕ) → ((i : ℕ) → i < 288 → get_or others i 0 ≡ gather_at td t i) → FarMasks p w s words count S D a t near n masks others fa fd new
+    losses_far none e others gathers = record {
       weights = g.weights;
-      ends = record { of_plan = g.of_plan; node = g.target; adaptive = ended; deterministic = toward_at_law p s D t td others g.of_plan.plan g.of_plan.shape g.target Deterministic g.others toward-other };
+      ends = record { of_plan = g.of_plan; node = g.target; adaptive = ended; deterministic = gathered_at p s D t td others g.of_plan.plan g.target Deterministic false g.others gathers };
       standing = g.standing;
       source = g.source;
       out = g.adaptive;

@@ -63,18 +63,18 @@ module _ (p : List ℕ) (s : Shape) (words : List ℕ) (count : ℕ) (k : OfPlan
   here : Inside (shape_of p) c
   here = rw a.at (inside (shape_of p) ok n a.node)
 
-  room : count ≤ length words
-  room = k.losses.room
+  few : count ≤ 256
+  few = k.losses.few
 
   pub from_known : Ended m true s c ends → Are (clear_in 65535 65535 65535 ends words count) rows → FromSet p m n rows
   from_known e r v l =
-      clear_in_law m true (shape_of p) ok c here 65535 65535 65535 ends words rows count room (rw k.shape at e) r v l (in_all_law (shape_of p) ok (coords_of (shape_of p) v) (inside (shape_of p) ok v l))
+      clear_in_law m true (shape_of p) ok c here 65535 65535 65535 ends words rows count few (rw k.shape at e) r v l (in_all_law (shape_of p) ok (coords_of (shape_of p) v) (inside (shape_of p) ok v l))
       ∙ ap (λ (t : Coords). not (on_leg rule m (shape_of p) words count t (coords_of (shape_of p) v))) a.at
       ∙ sym (clear_is p k.plan words count k.losses n v a.node l m)
 
   -- Within a product, by losses that stand for all there.
   pub to_within :
-      (bx by bz : ℕ) (near : List ℕ) (some : ℕ) → some ≤ length near → Ended m false s c ends → Are (clear_in bx by bz ends near some) rows → (v : ℕ) → v < node_count (shape_of p) →
+      (bx by bz : ℕ) (near : List ℕ) (some : ℕ) → some ≤ 256 → Ended m false s c ends → Are (clear_in bx by bz ends near some) rows → (v : ℕ) → v < node_count (shape_of p) →
       in_product bx by bz (coords_of (shape_of p) v) ≡ true →
       on_leg rule m (shape_of p) near some (coords_of (shape_of p) v) (coords_of (shape_of p) n) ≡ on_leg rule m (shape_of p) words count (coords_of (shape_of p) v) (coords_of (shape_of p) n) →
       in_set (shape_of p) rows 0 v ≡ is_clear p m v n
@@ -85,7 +85,7 @@ module _ (p : List ℕ) (s : Shape) (words : List ℕ) (count : ℕ) (k : OfPlan
       ∙ sym (clear_is p k.plan words count k.losses v n l a.node m)
 
   pub to_part : (bx by bz : ℕ) → Ended m false s c ends → Are (clear_in bx by bz ends words count) rows → ToPart p m n bx by bz rows 0
-  to_part bx by bz e r v l i = to_within bx by bz words count room e r v l i refl
+  to_part bx by bz e r v l i = to_within bx by bz words count few e r v l i refl
 
 -- ---- rows put into a run
 pub put_none : (at : ℕ) (rows old : List ℕ) → Put at rows 0 old old

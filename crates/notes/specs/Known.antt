@@ -15,7 +15,7 @@ use Rattle.choice.specs.Pair.{sound_in, far_in}
 use Rattle.rows.specs.Rows.{in_set, in_product}
 use Rattle.losses.specs.Loss.{on_leg}
 use Rattle.losses.specs.OfPlan.{AreLosses}
-use Rattle.masks.specs.Masks.{Ended, Targets}
+use Rattle.masks.specs.Masks.{Ended, Masked}
 use Rattle.search.specs.Number.{unclear}
 use Rattle.choice_number.specs.Note.{Note}
 use Rattle.notes.specs.Rows.{Elsewhere}
@@ -105,7 +105,7 @@ IsBox p S D bx by bz =
 
 -- The first n of `near` stand for all losses on the legs to D from the nodes on the shortest ways from S.
 pub record NearLosses (p : List ℕ) (S D : ℕ) (words : List ℕ) (count : ℕ) (near : List ℕ) (n : ℕ) : Type 0 where
-  pub few : n ≤ length near
+  pub few : n ≤ 256
   pub same :
       (m : Mode) (v : ℕ) → v < node_count (shape_of p) → hops (shape_of p) S v + hops (shape_of p) v D ≡ hops (shape_of p) S D →
       on_leg rule m (shape_of p) near n (coords_of (shape_of p) v) (coords_of (shape_of p) D) ≡ on_leg rule m (shape_of p) words count (coords_of (shape_of p) v) (coords_of (shape_of p) D)
@@ -172,7 +172,7 @@ pub record FarMasks (p : List ℕ) (w : Weights) (s : Shape) (words : List ℕ) 
   pub set : (1024 ≤ length run) × ToBetween p Adaptive S D run 0
   pub blocked : Blocked p S D
 
--- One destination, by the sets to all nodes, or by the losses and the masks of all targets where the runs have them.
+-- One destination, by the sets to all nodes, or by the losses and the masks of all targets.
 pub record BySets (p : List ℕ) (w : Weights) (s : Shape) (work : List ℕ) (S D : ℕ) (a t : Coords) (fa fd : List ℕ) (straight : Bool) : Type 0 where
   pub plan : plan_error large p ≡ 0
   pub weights : w ≡ weights_of p
@@ -189,8 +189,8 @@ pub record ByLosses (p : List ℕ) (w : Weights) (s : Shape) (words : List ℕ) 
   pub of_plan : OfPlan p s words count
   pub weights : w ≡ weights_of p
   pub standing : NearLosses p S D words count near n
-  pub masks : Targets Adaptive s ta
-  pub others : Targets Deterministic s td
+  pub masks : Masked Adaptive false s ta
+  pub others : Masked Deterministic false s td
   pub source : IsAt p S a
   pub target : IsAt p D t
   pub adaptive : FromSet p Adaptive S fa

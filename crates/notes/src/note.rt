@@ -7,9 +7,8 @@ ghost use Rattle.notes.specs.Known.{ToBetween, NoteTo, Between, BetweenMade, Far
 use crate::best::best_note;
 use crate::sets_of::{put_both, put_rows};
 use crate::short::short_note;
-use machine::leg::Mode;
 use masks::span::box_of;
-use masks::table::toward;
+use masks::table::gather;
 use search::best::UNCLEAR;
 use search::lowest::lowest;
 use sets::clear::clear_in;
@@ -19,7 +18,7 @@ use weights::Weights;
 // The nodes on the shortest ways with a clear leg to the node whose masks they are, from a place of a run on. `near`: losses that stand for all there.
 pub fn put_between(
     shape: Shape,
-    near: &[u16],
+    near: &[u16; 256],
     nears: usize,
     a: Coords,
     t: Coords,
@@ -38,9 +37,9 @@ pub fn put_between(
 fn far_by_masks(
     weights: Weights,
     shape: Shape,
-    words: &[u16],
+    words: &[u16; 256],
     count: usize,
-    near: &[u16],
+    near: &[u16; 256],
     nears: usize,
     a: Coords,
     t: Coords,
@@ -92,17 +91,16 @@ pub fn note_by_sets(
     best_note(weights, shape, a, t, fa, fd, work, at)
 }
 
-// By the losses. `ta`, `td`: the masks of all targets, adaptive and deterministic, where the runs have them. At the front of `run`, which has 1,024 rows, the
-// nodes on the shortest ways with a clear adaptive leg to the node are left.
+// By the losses, with the masks of all targets. At the front of `run`, which has 1,024 rows, the nodes on the shortest ways with a clear adaptive leg to the node are left.
 pub fn note_by_losses(
     weights: Weights,
     shape: Shape,
-    words: &[u16],
+    words: &[u16; 256],
     count: usize,
-    near: &[u16],
+    near: &[u16; 256],
     nears: usize,
-    ta: &[u16],
-    td: &[u16],
+    ta: &[u16; 4608],
+    td: &[u16; 4608],
     a: Coords,
     t: Coords,
     fa: &[u16; 256],
@@ -112,7 +110,7 @@ pub fn note_by_losses(
 ) -> u32
     ensures { (p : List ℕ) (S D : ℕ) → ByLosses p weights shape words.now count near.now nears ta.now td.now S D a t fa.now fd.now straight → 1024 ≤ length run.old → NoteTo p S D result × ToBetween p Adaptive S D run.new 0 }
 {
-    let masks = toward(Mode::Adaptive, shape, ta, t);
+    let masks = gather(ta, t);
     put_between(shape, near, nears, a, t, &masks, run, 0);
     let b = box_of(shape, a, t);
     let via = lowest(shape, b.x, b.y, b.z, fa, run, 0);
@@ -122,7 +120,7 @@ pub fn note_by_losses(
     if straight {
         return UNCLEAR;
     }
-    let others = toward(Mode::Deterministic, shape, td, t);
+    let others = gather(td, t);
     far_by_masks(
         weights, shape, words, count, near, nears, a, t, &masks, &others, fa, fd, run,
     )

@@ -17,13 +17,13 @@ use shape::{Coords, Shape};
 const ALL: u16 = 65535;
 
 // The nodes with a clear leg from the one whose masks they are.
-pub fn from_masks(words: &[u16], count: usize, masks: &[u16; 288]) -> [u16; 256]
+pub fn from_masks(words: &[u16; 256], count: usize, masks: &[u16; 288]) -> [u16; 256]
     ensures { (p : List ℕ) (s : Shape) (m : Mode) (n : ℕ) (c : Coords) → OfPlan p s words.now count → IsAt p n c → Ended m true s c masks.now → FromSet p m n result }
 {
     clear_in(ALL, ALL, ALL, masks, words, count)
 }
 
-pub fn from_set(mode: Mode, shape: Shape, words: &[u16], count: usize, c: Coords) -> [u16; 256]
+pub fn from_set(mode: Mode, shape: Shape, words: &[u16; 256], count: usize, c: Coords) -> [u16; 256]
     ensures { (p : List ℕ) (n : ℕ) → OfPlan p shape words.now count → IsAt p n c → FromSet p mode n result }
 {
     let masks = ends(mode, true, shape, c);
@@ -49,7 +49,7 @@ pub fn put_part(
     bx: u16,
     by: u16,
     bz: u16,
-    words: &[u16],
+    words: &[u16; 256],
     count: usize,
     adaptive: &[u16; 288],
     deterministic: &[u16; 288],
@@ -70,7 +70,7 @@ pub fn put_part(
 
 // Of all nodes.
 pub fn put_both(
-    words: &[u16],
+    words: &[u16; 256],
     count: usize,
     adaptive: &[u16; 288],
     deterministic: &[u16; 288],

@@ -72,7 +72,3 @@ entry_not_kept = 17
 -- No allowed walk from the packet's source ends at this packet by that hop, a direction above 5 included.
 abbrev pub not_back : ℕ
 not_back = 18
-
--- More nodes or faults than this caller's limit.
-abbrev pub over_limit : ℕ
-over_limit = 19

@@ -53,6 +53,3 @@ pub const ENTRY_NOT_KEPT: u8 = 17;
 
 // No allowed walk from the packet's source ends at this packet by that hop, a direction above 5 included.
 pub const NOT_BACK: u8 = 18;
-
-// More nodes or faults than this caller's limit.
-pub const OVER_LIMIT: u8 = 19;

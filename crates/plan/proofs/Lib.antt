@@ -1,7 +1,6 @@
 pub mod Faults
 pub mod Weights
 pub mod Plans
-pub mod Callers
 pub mod Most
 pub mod Listed
 pub mod Readings

@@ -14,8 +14,7 @@ use Rattle.theory.proofs.Cases.{by_order}
 use Rattle.sheet.specs.Bytes.{list_from}
 use Rattle.shape.specs.declared.shape.Shape.{Shape}
 use Rattle.plan.specs.Layout.{layout_in, shape_of, fault_count, fault_at, faults_of}
-use Rattle.plan.specs.declared.limits.Limits.{Limits}
-use Rattle.plan.specs.Checks.{Rules, fault_good, fault_key, faults_error, plan_error_by}
+use Rattle.plan.specs.Checks.{Limits, Rules, fault_good, fault_key, faults_error, plan_error_by}
 use Rattle.plan.proofs.Plans.{accepted}
 
 module _ (R : Rules) (last : ℕ) (m : Shape) (s : List ℕ) where

@@ -5,7 +5,7 @@ use mathlib.Core.Bool.{Bool, true, false, not}
 use mathlib.Core.List.{List, [], ◌∷◌}
 use lib.ListN.{length}
 use lib.Dec.{ltb}
-use Rattle.numbers.specs.Numbers.{plan_short, plan_version_unknown, many_faults, wrong_length, extent_outside, wrong_wrap, no_such_fault, fault_not_above, weight_outside, over_limit}
+use Rattle.numbers.specs.Numbers.{plan_short, plan_version_unknown, many_faults, wrong_length, extent_outside, wrong_wrap, no_such_fault, fault_not_above, weight_outside}
 use Rattle.theory.specs.Checks.{declined, ◌then◌}
 use Rattle.sheet.specs.Head.{length_is}
 use Rattle.shape.specs.declared.shape.Shape.{Shape}
@@ -14,8 +14,7 @@ use Rattle.weights.specs.declared.weights.Weights.{Weights}
 use Rattle.weights.specs.Weights.{bad_weights, weight_error}
 use Rattle.plan.specs.declared.layout.Fault.{Fault}
 use Rattle.plan.specs.Layout.{layout_in, size_after, shape_of, weights_of, fault_count, faults_of}
-use Rattle.plan.specs.declared.limits.Limits.{Limits}
-use Rattle.plan.specs.Checks.{exceeds, most_faults, Rules, fault_good, fault_key, faults_error, plan_error_by, torus_plans, plan_error}
+use Rattle.plan.specs.Checks.{Limits, most_faults, Rules, fault_good, fault_key, faults_error, plan_error_by, torus_plans, plan_error}
 
 module _ (n : ℕ) where
   pub then_most : (e k : ℕ) → e ≤ n → k ≤ n → (e then k) ≤ n
@@ -27,7 +26,7 @@ module _ (n : ℕ) where
   check_most true (suc e) k h g = h
   check_most false e k h g = g
 
-  module _ (high : over_limit ≤ n) (R : Rules) where
+  module _ (high : weight_outside ≤ n) (R : Rules) where
     weight_most : (w : Weights) → weight_error w ≤ n
     unfolding weight_error
     weight_most w = check_most (bad_weights w) weight_outside 0 (omega arith) (omega arith)
@@ -47,12 +46,11 @@ module _ (n : ℕ) where
         (check_most (ltb most_faults (fault_count p)) many_faults _ (omega arith)
         (check_most (not (length_is p (size_after (layout_in p) (fault_count p)))) wrong_length _ (omega arith)
         (then_most (R.shape_error (shape_of p)) _ (shapes (shape_of p))
-        (then_most (weight_error (weights_of p)) _ (weight_most (weights_of p))
-        (check_most (exceeds L (shape_of p) (fault_count p)) over_limit _ (omega arith) (faults_most (layout_in p).last_kind (shape_of p) 0 (faults_of p))))))))
+        (then_most (weight_error (weights_of p)) _ (weight_most (weights_of p)) (faults_most (layout_in p).last_kind (shape_of p) 0 (faults_of p)))))))
 
-shape_most : (m : Shape) → shape_error m ≤ over_limit
+shape_most : (m : Shape) → shape_error m ≤ weight_outside
 unfolding shape_error
-shape_most m = check_most 19 (bad_extents m) extent_outside _ (omega arith) (check_most 19 (bad_wraps m) wrong_wrap 0 (omega arith) (omega arith))
+shape_most m = check_most 16 (bad_extents m) extent_outside _ (omega arith) (check_most 16 (bad_wraps m) wrong_wrap 0 (omega arith) (omega arith))
 
-pub plan_most : (L : Limits) (p : List ℕ) → plan_error L p ≤ over_limit
-plan_most L p = error_most 19 (omega arith) torus_plans shape_most L p
+pub plan_most : (L : Limits) (p : List ℕ) → plan_error L p ≤ weight_outside
+plan_most L p = error_most 16 (omega arith) torus_plans shape_most L p

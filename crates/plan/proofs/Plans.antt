@@ -7,9 +7,8 @@ use mathlib.Core.List.{List}
 use lib.ListN.{length}
 use lib.Dec.{ltb}
 use borrow.Author.Tests.{ltb-false, not_false}
-use Rattle.numbers.specs.Numbers.{plan_short, plan_version_unknown, many_faults, wrong_length, over_limit}
+use Rattle.numbers.specs.Numbers.{plan_short, plan_version_unknown, many_faults, wrong_length}
 use Rattle.theory.specs.Checks.{declined, ◌then◌}
-use Rattle.theory.proofs.Bools.{or_false}
 use Rattle.theory.proofs.Checks.{then_zero, declined_zero, declines, passes}
 use Rattle.sheet.specs.Head.{version, length_field, length_is}
 use Rattle.sheet.proofs.Heads.{length_field_law, length_sheet}
@@ -18,11 +17,10 @@ use Rattle.shape.proofs.Shapes.{count_most}
 use Rattle.machine.specs.Number.{node_count}
 use Rattle.weights.specs.Weights.{weight_error}
 use Rattle.plan.specs.Layout.{layout_of, layout_in, size_after, shape_of, weights_of, fault_count, faults_of}
-use Rattle.plan.specs.declared.limits.Limits.{Limits}
-use Rattle.plan.specs.Checks.{large, exceeds, most_faults, Rules, faults_error, plan_error_by, torus_plans, plan_error}
+use Rattle.plan.specs.Checks.{Limits, large, most_faults, Rules, faults_error, plan_error_by, torus_plans, plan_error}
 use Rattle.plan.specs.Steps.{head_error}
 
-pub then_assoc : (a b c : ℕ) → ((a then b) then c) ≡ (a then (b then c))
+then_assoc : (a b c : ℕ) → ((a then b) then c) ≡ (a then (b then c))
 then_assoc zero b c = refl
 then_assoc (suc a) b c = refl
 
@@ -35,15 +33,11 @@ module _ (R : Rules) (L : Limits) (s : List ℕ) where
   abbrev faults_left : Shape → ℕ
   faults_left m = faults_error R (layout_in s).last_kind m 0 (faults_of s)
 
-  -- 19, then 7 and 8.
-  abbrev limits_left : Shape → ℕ
-  limits_left m = declined (exceeds L m (fault_count s)) over_limit then faults_left m
-
   -- Checks 1 to 4, then the rest.
-  pub in_order : plan_error_by R L s ≡ (head_error s then (R.shape_error (shape_of s) then (weight_error (weights_of s) then limits_left (shape_of s))))
+  pub in_order : plan_error_by R L s ≡ (head_error s then (R.shape_error (shape_of s) then (weight_error (weights_of s) then faults_left (shape_of s))))
   unfolding plan_error_by head_error
   in_order =
-      let r = R.shape_error (shape_of s) then (weight_error (weights_of s) then limits_left (shape_of s)) in
+      let r = R.shape_error (shape_of s) then (weight_error (weights_of s) then faults_left (shape_of s)) in
       let a = declined (ltb (length s) (layout_in s).head_size) plan_short in
       let b = declined (not (layout_in s).known) plan_version_unknown in
       let d = declined (ltb most_faults (fault_count s)) many_faults in
@@ -63,7 +57,7 @@ module _ (R : Rules) (L : Limits) (s : List ℕ) where
 
     -- What is left where neither a check of the head nor of the shape declines.
     module _ (k : R.shape_error m ≡ 0) where
-      weights_left : plan_error_by R L s ≡ (weight_error (weights_of s) then limits_left m)
+      weights_left : plan_error_by R L s ≡ (weight_error (weights_of s) then faults_left m)
       weights_left =
           let z : R.shape_error (shape_of s) ≡ 0 = sym (ap R.shape_error em) ∙ k in
           in_order ∙ passes (head_error s) _ h ∙ passes (R.shape_error (shape_of s)) _ z ∙ rw em
@@ -71,15 +65,8 @@ module _ (R : Rules) (L : Limits) (s : List ℕ) where
       pub weights_refused : (e : ℕ) → e ≡ weight_error (weights_of s) → (e ≡ 0 → ⊥) → e ≡ plan_error_by R L s
       weights_refused e q n = q ∙ sym (weights_left ∙ declines (weight_error (weights_of s)) _ (λ z. n (q ∙ z)))
 
-      module _ (w : weight_error (weights_of s) ≡ 0) where
-        limits_left_law : plan_error_by R L s ≡ limits_left m
-        limits_left_law = weights_left ∙ passes (weight_error (weights_of s)) _ w
-
-        pub limits_refused : exceeds L m (fault_count s) ≡ true → over_limit ≡ plan_error_by R L s
-        limits_refused o = sym (limits_left_law ∙ rw o)
-
-        pub faults_left_law : (e : ℕ) → exceeds L m (fault_count s) ≡ false → e ≡ faults_left m → e ≡ plan_error_by R L s
-        faults_left_law e o q = q ∙ sym (limits_left_law ∙ rw o)
+      pub faults_left_law : (e : ℕ) → weight_error (weights_of s) ≡ 0 → e ≡ faults_left m → e ≡ plan_error_by R L s
+      faults_left_law e w q = q ∙ sym (weights_left ∙ passes (weight_error (weights_of s)) _ w)
 
 -- What checks 1 to 4 leave.
 pub record Head (s : List ℕ) : Type 0 where
@@ -100,7 +87,7 @@ pub head_least : (v : ℕ) → 3 ≤ (layout_of v).head_size
 unfolding layout_of
 head_least v = omega arith
 
-pub head_of : (s : List ℕ) → head_error s ≡ 0 → Head s
+head_of : (s : List ℕ) → head_error s ≡ 0 → Head s
 unfolding head_error
 head_of s h =
     let at = (layout_in s).head_size in
@@ -125,30 +112,13 @@ accepted R L s h =
     let p = then_zero (head_error s) _ (sym (in_order R L s) ∙ h) in
     let q = then_zero (R.shape_error (shape_of s)) _ p.1 in
     let w = then_zero (weight_error (weights_of s)) _ q.1 in
-    let l = then_zero (declined (exceeds L (shape_of s) (fault_count s)) over_limit) _ w.1 in
-    record { head = head_of s p.0; shape = q.0; weights = w.0; faults = l.1 }
+    record { head = head_of s p.0; shape = q.0; weights = w.0; faults = w.1 }
 
 -- Nodes and faults of an accepted plan are within the limits.
 pub record Within (L : Limits) (s : List ℕ) : Type 0 where
   pub nodes : node_count (shape_of s) ≤ L.nodes
   pub faults : fault_count s ≤ L.faults
 
-pub holds : (L : Limits) (s : List ℕ) → exceeds L (shape_of s) (fault_count s) ≡ false → Within L s
-unfolding exceeds
-holds L s h =
-    let p = or_false _ _ h in
-    record { nodes = ltb-false L.nodes (node_count (shape_of s)) p.0; faults = ltb-false L.faults (fault_count s) p.1 }
-
-pub not_over : (R : Rules) (L : Limits) (s : List ℕ) → plan_error_by R L s ≡ 0 → exceeds L (shape_of s) (fault_count s) ≡ false
-not_over R L s h =
-    let p = then_zero (head_error s) _ (sym (in_order R L s) ∙ h) in
-    let q = then_zero (R.shape_error (shape_of s)) _ p.1 in
-    let w = then_zero (weight_error (weights_of s)) _ q.1 in
-    let l = then_zero (declined (exceeds L (shape_of s) (fault_count s)) over_limit) _ w.1 in
-    declined_zero (exceeds L (shape_of s) (fault_count s)) 18 l.0
-
-pub within : (R : Rules) (L : Limits) (s : List ℕ) → plan_error_by R L s ≡ 0 → Within L s
-within R L s h = holds L s (not_over R L s h)
-
-abbrev pub within_large : (s : List ℕ) → plan_error large s ≡ 0 → Within large s
-within_large s h = within torus_plans large s h
+pub within_large : (s : List ℕ) → plan_error large s ≡ 0 → Within large s
+unfolding node_count
+within_large s h = let a = accepted torus_plans large s h in record { nodes = count_most (shape_of s) a.shape; faults = a.head.few }

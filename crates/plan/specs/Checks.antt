@@ -1,32 +1,26 @@
--- 'When a call declines': the checks of a plan, 1 to 8 with 16 and 19 between 6 and 7, in the documents' order.
+-- 'When a call declines': the checks of a plan, 1 to 8 with 16 between 6 and 7, in the documents' order.
 use Rattle.std.specs.Prelude.{ℕ, ◌+◌, ◌*◌, Bool, not, ◌&&◌, ◌||◌, List, [], ◌∷◌, length, ltb, leb}
-use Rattle.numbers.specs.Numbers.{plan_short, plan_version_unknown, many_faults, wrong_length, no_such_fault, fault_not_above, over_limit}
+use Rattle.numbers.specs.Numbers.{plan_short, plan_version_unknown, many_faults, wrong_length, no_such_fault, fault_not_above}
 use Rattle.theory.specs.Checks.{declined, ◌then◌}
 use Rattle.sheet.specs.Head.{length_is}
 use Rattle.shape.specs.declared.shape.Shape.{Shape}
 use Rattle.shape.specs.Shape.{shape_error}
 use Rattle.weights.specs.Weights.{weight_error}
-use Rattle.machine.specs.Number.{node_count}
 use Rattle.machine.specs.Node.{is_node}
 use Rattle.machine.specs.Hop.{link}
-use Rattle.plan.specs.declared.limits.Limits.{Limits}
 use Rattle.plan.specs.declared.layout.Fault.{Fault}
 use Rattle.plan.specs.Layout.{layout_in, size_after, shape_of, weights_of, fault_count, faults_of}
 use Rattle.plan.specs.Kinds.{link_kind, node_kind, kind_dir}
 
--- What a caller can hold: nodes at most and faults at most. 'The large caller keeps 4,096 and 256'; the scanner's controller has 'buffers for 512 nodes
--- and 32 faults'. Every answer about a plan takes the caller's limits.
+-- What a caller can hold: nodes at most and faults at most. Every check of a plan takes the caller's limits. None reads them today: extents of at most
+-- 16 and at most 256 faults, for every caller, keep each plan within `large`. A smaller caller's own number would be one more line of `plan_error_by`.
+pub record Limits : Type 0 where
+  pub nodes : ℕ
+  pub faults : ℕ
+
 abbrev pub large : Limits
 large = record { nodes = 4096; faults = 256 }
 
-abbrev pub small : Limits
-small = record { nodes = 512; faults = 32 }
-
--- More nodes or faults than this caller's limit: the nodes of the extents, and the faults listed.
-unfoldable pub exceeds : Limits → Shape → ℕ → Bool
-exceeds L s count = ltb L.nodes (node_count s) || ltb L.faults count
-
--- A sheet's fault count, for every caller.
 abbrev pub most_faults : ℕ
 most_faults = 256
 
@@ -67,8 +61,6 @@ plan_error_by R L s =
     then R.shape_error (shape_of s)
     -- a weight outside 1 to 8: 16
     then weight_error (weights_of s)
-    -- more nodes or faults than this caller's limit
-    then declined (exceeds L (shape_of s) (fault_count s)) over_limit
     -- 7 and 8
     then faults_error R (layout_in s).last_kind (shape_of s) 0 (faults_of s)
 

@@ -1,7 +1,6 @@
 pub mod Layout
 pub mod Kinds
 pub mod Checks
-pub mod Callers
 pub mod Reading
 pub mod Writing
 pub mod Worked

@@ -3,8 +3,7 @@ use Rattle.std.specs.Prelude.{ℕ, Bool, cond, List, eqb}
 use Rattle.shape.specs.declared.shape.Shape.{Shape}
 use Rattle.weights.specs.declared.weights.Weights.{Weights}
 use Rattle.plan.specs.Layout.{shape_of, weights_of}
-use Rattle.plan.specs.declared.limits.Limits.{Limits}
-use Rattle.plan.specs.Checks.{plan_error}
+use Rattle.plan.specs.Checks.{Limits, plan_error}
 
 abbrev pub no_shape : Shape
 no_shape = record { x = 0; y = 0; z = 0; wrap = 0 }

@@ -1,8 +1,7 @@
 -- Writing a plan sheet back.
 use Rattle.std.specs.Prelude.{ℕ, List}
 use Rattle.sheet.specs.Output.{room_error}
-use Rattle.plan.specs.declared.limits.Limits.{Limits}
-use Rattle.plan.specs.Checks.{plan_error}
+use Rattle.plan.specs.Checks.{Limits, plan_error}
 
 -- Writing back a sheet checks as its reading does, then 12.
 abbrev pub write_error : Limits → List ℕ → List ℕ → ℕ

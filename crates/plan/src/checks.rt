@@ -1,8 +1,7 @@
-// Checks 1 to 8 of a plan with 16 and 19 between 6 and 7, in order; 0 where none declines.
+// Checks 1 to 8 of a plan with 16 between 6 and 7, in order; 0 where none declines.
 ghost use Rattle.std.specs.Prelude.{◌≡◌, ◌<◌};
 ghost use Rattle.plan.specs.Layout.{layout_in, faults_of};
-ghost use Rattle.shape.specs.Shape.{shape_error};
-ghost use Rattle.plan.specs.Checks.{large, exceeds, torus_plans, fault_good, fault_exists, fault_key, faults_error, plan_error};
+ghost use Rattle.plan.specs.Checks.{large, torus_plans, fault_good, fault_exists, fault_key, faults_error, plan_error};
 ghost use Rattle.plan.specs.Steps.{head_error};
 
 use crate::kinds;
@@ -10,12 +9,10 @@ use crate::layout::{
     Fault, LAST_KIND, MOST_FAULTS, count_in, fault_in, head_size, is_known, shape_in, size_after,
     weights_in,
 };
-use crate::limits::{Limits, large};
 use logic::{both, either, pick};
-use machine::node::{count, has_link, is_node};
+use machine::node::{has_link, is_node};
 use numbers::{
-    FAULT_NOT_ABOVE, MANY_FAULTS, NO_SUCH_FAULT, OVER_LIMIT, PLAN_SHORT, PLAN_VERSION_UNKNOWN,
-    WRONG_LENGTH,
+    FAULT_NOT_ABOVE, MANY_FAULTS, NO_SUCH_FAULT, PLAN_SHORT, PLAN_VERSION_UNKNOWN, WRONG_LENGTH,
 };
 use shape::Shape;
 use shape::shape::shape_error;
@@ -36,14 +33,6 @@ fn head_error(sheet: &[u8]) -> u8
     let many = pick(MOST_FAULTS < count, MANY_FAULTS, wrong);
     let known = pick(is_known(version), many, PLAN_VERSION_UNKNOWN);
     pick(sheet.len() < head_size(version), PLAN_SHORT, known)
-}
-
-// More nodes or faults than the caller's limit.
-fn exceeds(limits: Limits, shape: Shape, faults: u16) -> bool
-    requires { shape_error shape ≡ 0 }
-    ensures { result ≡ exceeds limits shape faults }
-{
-    either(limits.nodes < count(shape), limits.faults < faults)
 }
 
 fn fault_exists(shape: Shape, f: Fault) -> bool
@@ -89,9 +78,9 @@ fn faults_error(sheet: &[u8], shape: Shape) -> u8
     0
 }
 
-// The number of the first check that declines the sheet of a caller with these limits; 0 where none does.
-pub fn check_within(limits: Limits, sheet: &[u8]) -> u8
-    ensures { result ≡ plan_error limits sheet.now }
+// The number of the first check that declines the sheet; 0 where none does.
+pub fn check(sheet: &[u8]) -> u8
+    ensures { result ≡ plan_error large sheet.now }
 {
     let head = head_error(sheet);
     if head != 0 {
@@ -106,14 +95,5 @@ pub fn check_within(limits: Limits, sheet: &[u8]) -> u8
     if weight != 0 {
         return weight;
     }
-    if exceeds(limits, shape, count_in(sheet)) {
-        return OVER_LIMIT;
-    }
     faults_error(sheet, shape)
-}
-
-pub fn check(sheet: &[u8]) -> u8
-    ensures { result ≡ plan_error large sheet.now }
-{
-    check_within(large(), sheet)
 }

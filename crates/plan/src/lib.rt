@@ -2,12 +2,10 @@
 mod checks;
 pub mod kinds;
 pub mod layout;
-pub mod limits;
 mod reading;
 mod writing;
 
-pub use checks::{check, check_within};
+pub use checks::check;
 pub use layout::Fault;
-pub use limits::Limits;
 pub use reading::{Answer, shape_of, weights_of};
 pub use writing::write_back;

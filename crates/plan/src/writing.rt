@@ -1,16 +1,16 @@
 // Writing a plan sheet back from its bytes.
 ghost use Rattle.std.specs.Prelude.{◌≡◌};
 ghost use Rattle.sheet.specs.Output.{written, out_after};
+ghost use Rattle.plan.specs.Checks.{large};
 ghost use Rattle.plan.specs.Writing.{write_error};
 
-use crate::checks::check_within;
-use crate::limits::Limits;
+use crate::checks::check;
 use sheet::output::{Written, put_sheet};
 
 // The sheet as it is: its checks, then 12.
-pub fn write_back(limits: Limits, sheet: &[u8], out: &mut [u8]) -> Written
-    ensures value { result ≡ written (write_error limits sheet.now out.old) sheet.now }
-    ensures out_after { out.new ≡ out_after (write_error limits sheet.now out.old) sheet.now out.old }
+pub fn write_back(sheet: &[u8], out: &mut [u8]) -> Written
+    ensures value { result ≡ written (write_error large sheet.now out.old) sheet.now }
+    ensures out_after { out.new ≡ out_after (write_error large sheet.now out.old) sheet.now out.old }
 {
-    put_sheet(sheet, check_within(limits, sheet), out)
+    put_sheet(sheet, check(sheet), out)
 }

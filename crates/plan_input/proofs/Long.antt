@@ -16,8 +16,7 @@ use Rattle.sheet.specs.Head.{version, length_is}
 use Rattle.sheet.proofs.Inputs.{DecidedBy}
 use Rattle.sheet.proofs.Heads.{length_sheet}
 use Rattle.plan.specs.Layout.{layout_in, size_after, fault_count}
-use Rattle.plan.specs.declared.limits.Limits.{Limits}
-use Rattle.plan.specs.Checks.{most_faults, plan_error_by, torus_plans, plan_error}
+use Rattle.plan.specs.Checks.{Limits, most_faults, plan_error_by, torus_plans, plan_error}
 use Rattle.plan.proofs.Weights.{head_most}
 use Rattle.plan.proofs.Plans.{head_least, accepted}
 

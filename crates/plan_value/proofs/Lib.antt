@@ -1,3 +1,4 @@
+pub mod Readings
 pub mod Forms
 pub mod Writings
 pub mod Rewriting

@@ -10,8 +10,7 @@ use Rattle.sheet.proofs.Records.{from_length, array_first, array_from, front}
 use Rattle.sheet.proofs.Heads.{word_same, front_same}
 use Rattle.sheet.proofs.Forms.{records_same}
 use Rattle.plan.specs.Layout.{layout_of, layout_in, fault_form, size_after, shape_of, weights_by, weights_of, fault_count, fault_at, faults_of}
-use Rattle.plan.specs.declared.limits.Limits.{Limits}
-use Rattle.plan.specs.Checks.{most_faults, Rules, plan_error_by}
+use Rattle.plan.specs.Checks.{Limits, most_faults, Rules, plan_error_by}
 use Rattle.plan_value.specs.Reading.{no_fault, fault_array, plan_of}
 use Rattle.plan_value.specs.Writing.{plan_faults, weight_bytes, head_bytes, sheet_of}
 use Rattle.plan_value.specs.Value.{FaultFits, Fits, held_weights, cleared}

@@ -7,8 +7,7 @@ use Rattle.sheet.specs.Bytes.{AreBytes}
 use Rattle.sheet.proofs.RoundTrips.{after_writing}
 use Rattle.sheet.proofs.RoundTrips as Sheet
 use Rattle.plan.specs.declared.reading.Answer.TheVariants.{Accepted}
-use Rattle.plan.specs.declared.limits.Limits.{Limits}
-use Rattle.plan.specs.Checks.{Rules, plan_error_by}
+use Rattle.plan.specs.Checks.{Limits, Rules, plan_error_by}
 use Rattle.plan_value.specs.declared.reading.Plan.{Plan}
 use Rattle.plan_value.specs.declared.reading.Reading.{Reading}
 use Rattle.plan_value.specs.Reading.{plan_of, reading}

@@ -18,8 +18,7 @@ use Rattle.sheet.specs.Output.{room_error, written, out_after}
 use Rattle.sheet.proofs.Outputs.{unread, refused}
 use Rattle.plan_value.specs.declared.reading.Plan.{Plan}
 use Rattle.plan.specs.Layout.{layout_of, layout_in, fault_form, size_after, shape_of, weights_by, weights_of, fault_count, fault_at, faults_of}
-use Rattle.plan.specs.declared.limits.Limits.{Limits}
-use Rattle.plan.specs.Checks.{most_faults, Rules, plan_error_by}
+use Rattle.plan.specs.Checks.{Limits, most_faults, Rules, plan_error_by}
 use Rattle.plan.proofs.Weights.{head_size_law, by_weights}
 use Rattle.plan_value.specs.Reading.{no_fault, fault_array, plan_of}
 use Rattle.plan_value.specs.Writing.{plan_faults, weight_bytes, head_bytes, sheet_of}

@@ -1,6 +1,6 @@
 // Reading a plan sheet: an accepted sheet as a value, or the number.
 ghost use Rattle.std.specs.Prelude.{◌≡◌};
-ghost use Rattle.plan.specs.Checks.{large, most_faults, plan_error};
+ghost use Rattle.plan.specs.Checks.{large, plan_error};
 ghost use Rattle.plan_value.specs.Reading.{fault_array, reading};
 
 use plan::layout::{count_in, fault_in, shape_in, weights_in};
@@ -28,7 +28,7 @@ pub struct Reading {
 // The faults of an accepted sheet, and zeros past them.
 fn faults_in(sheet: &[u8]) -> [Fault; 256]
     requires { plan_error large sheet.now ≡ 0 }
-    ensures { result ≡ fault_array most_faults sheet.now }
+    ensures { result ≡ fault_array sheet.now }
 {
     let count = count_in(sheet) as usize;
     let mut faults = [Fault { node: 0, kind: 0 }; 256];

@@ -10,7 +10,6 @@ use crate::reading::Plan;
 use logic::pick;
 use numbers::{MANY_FAULTS, PLAN_VERSION_UNKNOWN};
 use plan::layout::{FAULT_SIZE, MOST_FAULTS, head_size, is_known};
-use plan::limits::large;
 use plan::write_back;
 use sheet::output::Written;
 
@@ -26,5 +25,5 @@ pub fn write(plan: Plan, out: &mut [u8]) -> Written
     }
     let bytes = encoded(plan);
     let end = head_size(version) + FAULT_SIZE * (count as usize);
-    write_back(large(), &bytes[..end], out)
+    write_back(&bytes[..end], out)
 }

@@ -1,6 +1,5 @@
 pub mod Planning
 pub mod Unlisted
 pub mod Listing
-pub mod Alike
 pub mod Written
 pub mod Worked

@@ -18,10 +18,11 @@ use Rattle.choice.specs.Answer.{Answer}
 use Rattle.choice.specs.Outcome.{told}
 use Rattle.choice.specs.Pair.{far_in, pair}
 use Rattle.routes.specs.declared.layout.Entry.{Entry}
+use Rattle.routes.specs.Layout.{most_entries}
 use Rattle.routes.specs.Said.{entry_for, heard}
 use Rattle.routes.proofs.Saying.{entry_told, refusal_told}
 use Rattle.planned_sheet.specs.Sheet.{lists, entries_from}
-use Rattle.planned_sheet.proofs.Planning.{Source, answer_is, sheet_others}
+use Rattle.planned_sheet.proofs.Planning.{Source, answer_is, sheet_few}
 use Rattle.planned_sheet.proofs.Unlisted.{direct_clear, unclear_listed, clear_unlisted}
 
 -- The entry of a destination, from the code's enum of its answer.
@@ -40,10 +41,10 @@ module _ (p : List ℕ) (S : ℕ) where
   begin = record { within = omega arith; sum = let z : node_count (shape_of p) - 0 ≡ node_count (shape_of p) = omega arith in rw z }
 
   module _ (s : Source large p S) (es : List Entry) (d : ℕ) (g : Listing p S es d) where
-    all_few : length es + length (entries_from large p S d (node_count (shape_of p) - d)) < node_count (shape_of p)
-    all_few = omega (arith, sheet_others large p S s, length-append es (entries_from large p S d (node_count (shape_of p) - d)), ap length g.sum)
+    all_few : length es + length (entries_from large p S d (node_count (shape_of p) - d)) ≤ most_entries
+    all_few = omega (arith, sheet_few large p S s, length-append es (entries_from large p S d (node_count (shape_of p) - d)), ap length g.sum)
 
-    pub few : length es < node_count (shape_of p)
+    pub few : length es ≤ most_entries
     few = omega (arith, all_few)
 
     module _ (l : d < node_count (shape_of p)) where
@@ -57,7 +58,7 @@ module _ (p : List ℕ) (S : ℕ) where
       unfolding entries_from
       rest = let e : node_count (shape_of p) - d ≡ suc (node_count (shape_of p) - (d + 1)) = omega arith in rw (e, add-one d)
 
-      room : lists x ≡ true → length es < node_count (shape_of p) - 1
+      room : lists x ≡ true → length es < most_entries
       room h =
           let e : entries_from large p S d (node_count (shape_of p) - d) ≡ entry_for d x ∷ behind = rest ∙ rw h in
           omega (arith, all_few, ap length e)
@@ -72,7 +73,7 @@ module _ (p : List ℕ) (S : ℕ) where
       next_unlisted h = record { within = omega arith; sum = ap (λ a. es ++ a) (sym (rest ∙ rw h)) ∙ g.sum }
 
       -- The entry of a destination that is listed.
-      pub entered : direct_clear p S d ≡ false → (o : Outcome) (e : Entry) → o ≡ told (far_in p) S x → e ≡ entry_for d (heard d o) → (length es < node_count (shape_of p) - 1) × Listing p S (es ++ (e ∷ [])) (d + 1)
+      pub entered : direct_clear p S d ≡ false → (o : Outcome) (e : Entry) → o ≡ told (far_in p) S x → e ≡ entry_for d (heard d o) → (length es < most_entries) × Listing p S (es ++ (e ∷ [])) (d + 1)
       entered c o e eo ee =
           let node = is_node_law (shape_of p) d (record { sound = (node_of (shape_of p) S s.node).sound; below = l }) in
           let h = unclear_listed p S s d node c in

@@ -19,8 +19,7 @@ use Rattle.machine.specs.Torus.{leg}
 use Rattle.machine.proofs.Nodes.{node_of}
 use Rattle.plan.specs.declared.reading.Answer.TheVariants.{Accepted}
 use Rattle.plan.specs.Layout.{shape_of, faults_of}
-use Rattle.plan.specs.declared.limits.Limits.{Limits}
-use Rattle.plan.specs.Checks.{plan_error}
+use Rattle.plan.specs.Checks.{Limits, plan_error}
 use Rattle.dead.specs.Dead.{dead_node}
 use Rattle.dead.proofs.Table.{is_node_law}
 use Rattle.choice.specs.Choice.{Choice, AdmitsIn}
@@ -191,10 +190,6 @@ module _ (L : Limits) (p : List ℕ) (S : ℕ) (s : Source L p S) where
 
   pub sheet_few : length all ≤ most_entries
   sheet_few = (routed (shape_of p) S all routes_good_law).few
-
-  -- The source has no entry.
-  pub sheet_others : length all < node_count (shape_of p)
-  sheet_others = (routed (shape_of p) S all routes_good_law).others
 
   pub sheet_accepted : sheet_error L p (planned_sheet L p S) ≡ 0
   unfolding planned_sheet

@@ -1,6 +1,6 @@
 -- Demand 3, of what a route sheet written by planning from its source says of a destination, unlisted ones included.
 use Rattle.std.specs.Prelude.{ℕ, List}
-use Rattle.plan.specs.declared.limits.Limits.{Limits}
+use Rattle.plan.specs.Checks.{Limits}
 use Rattle.choice.specs.Demand.{PlannedIn}
 use Rattle.routes.specs.Says.{says}
 use Rattle.planned_sheet.specs.Sheet.{planned_sheet}

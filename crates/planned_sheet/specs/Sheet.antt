@@ -5,8 +5,7 @@ use Rattle.theory.specs.Checks.{declined, ◌then◌}
 use Rattle.machine.specs.Number.{node_count}
 use Rattle.machine.specs.Node.{is_node}
 use Rattle.plan.specs.Layout.{shape_of, faults_of}
-use Rattle.plan.specs.declared.limits.Limits.{Limits}
-use Rattle.plan.specs.Checks.{plan_error}
+use Rattle.plan.specs.Checks.{Limits, plan_error}
 use Rattle.dead.specs.Dead.{dead_node}
 use Rattle.choice.specs.Choice.{det}
 use Rattle.choice.specs.Answer.{Answer, Given, Refused}

@@ -22,7 +22,7 @@ use Rattle.dead.specs.Dead.{dead_node, bit_of, node_answer}
 use Rattle.dead.proofs.Table.{is_node_law}
 use Rattle.route_value.specs.Making.{PutMade}
 use Rattle.losses.specs.OfPlan.{AreLosses}
-use Rattle.masks.specs.Masks.{gather_at, Ended, Masked, Targets}
+use Rattle.masks.specs.Masks.{gather_at, Ended, Masked}
 use Rattle.planner.specs.declared.boards.Step.{Step}
 use Rattle.planned_sheet.specs.Sheet.{source_error, planned_sheet}
 use Rattle.notes.specs.Known.{OfPlan, IsAt}
@@ -40,9 +40,9 @@ pub run_plan : (p : List ℕ) (s : Shape) (words : List ℕ) (count : ℕ) → p
 run_plan p s words count h es l = record { plan = h; shape = es; losses = l }
 
 pub run_prepared :
-    (p : List ℕ) (s : Shape) (words : List ℕ) (count : ℕ) (dead ta td work : List ℕ) (all : ℕ) → OfPlan p s words count → node_count (shape_of p) ≤ length dead → ((n : ℕ) → get_or dead n 0 ≡ bit_of (node_answer large p n)) →
-    Targets Adaptive s ta → Targets Deterministic s td → (all ≡ node_count (shape_of p)) × (512 * all ≤ length work) → Prepared p s words count dead ta td work
-run_prepared p s words count dead ta td work all k holds nodes ma md fits = record { of_plan = k; holds = holds; nodes = nodes; adaptive = ma; deterministic = md; room = inr (rw fits.0 at fits.1) }
+    (p : List ℕ) (s : Shape) (words : List ℕ) (count : ℕ) (dead ta td work : List ℕ) (all : ℕ) → OfPlan p s words count → ((n : ℕ) → get_or dead n 0 ≡ bit_of (node_answer large p n)) →
+    Masked Adaptive false s ta → Masked Deterministic false s td → (all ≡ node_count (shape_of p)) × (512 * all ≤ length work) → Prepared p s words count dead ta td work
+run_prepared p s words count dead ta td work all k nodes ma md fits = record { of_plan = k; nodes = nodes; adaptive = ma; deterministic = md; room = inr (rw fits.0 at fits.1) }
 
 -- The bytes of a step are lent ones.
 pub step_fits : (S n : ℕ) (made o : List ℕ) (w : Written) (t : List ℕ) → PutMade S n made o w t → (step : Step) → step ≡ step_of w → step.size ≤ length o
@@ -76,8 +76,8 @@ module _ (p : List ℕ) (S : ℕ) (sound : source_error large p S ≡ 0) (o t : 
   }
 
 module _ (p : List ℕ) (s : Shape) (words : List ℕ) (count : ℕ) (dead ta td work : List ℕ) (k : Prepared p s words count dead ta td work) (S : ℕ) (l : S < node_count (shape_of p)) where
-  pub board_dead : S < length dead
-  board_dead = omega (arith, k.holds)
+  pub board_small : S < 4096
+  board_small = omega (arith, nodes_few (shape_of p) (shape_ok p k.of_plan.plan))
 
   dead_is : get_or dead S 0 ≡ bit_of (dead_node (faults_of p) S)
   dead_is = dead_byte p dead k.of_plan.plan k.nodes S
@@ -109,4 +109,4 @@ module _ (p : List ℕ) (s : Shape) (words : List ℕ) (count : ℕ) (dead ta td
         (n : ℕ) (made o t : List ℕ) (w : Written) → Listed p work S made n → Work p work → PutMade S n made o w t → (step : Step) → step ≡ step_of w → Boarded p S o step t
     board_written n made o t w listed sets put step e =
         let sound = no_error large p S source in
-        rw e (boarded p S sound o t w (put_is large p S 0 n made o w t (sym sound) refl (listed.held sets) listed.many put))
+        rw e (boarded p S sound o t w (put_is p S 0 n made o w t (sym sound) refl (listed.held sets) listed.many put))

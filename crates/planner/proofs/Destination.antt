@@ -38,7 +38,7 @@ use Rattle.first_clear.specs.Known.{route_told, is_given, via_route, Noted, Note
 use Rattle.first_clear.proofs.Own.{by_own}
 use Rattle.notes.proofs.Knowing.{shape_ok, nodes_few}
 use Rattle.notes.proofs.Destination.{is_box, length_is_law, has_is, small_at}
-use Rattle.planner.specs.Known.{Work, Ready, Room, Sifting, Last}
+use Rattle.planner.specs.Known.{Work, Ready, Sifting, Last}
 use Rattle.planned_sheet.proofs.Planning.{Source, pair_dead, pair_alive}
 use Rattle.planned_sheet.proofs.Unlisted.{pair_direct}
 
@@ -60,14 +60,8 @@ module _ (p : List ℕ) (s : Shape) (words : List ℕ) (count : ℕ) (dead ta td
   pub target_is : is_node (shape_of p) D ≡ true
   target_is = is_node_law (shape_of p) D (record { sound = shape_ok p h; below = to.node })
 
-  pub dest_dead : D < length dead
-  dest_dead = omega (arith, to.node, g.prepared.holds)
-
-  pub dest_note : (notes twos : List ℕ) → Room p notes twos → D < length notes
-  dest_note notes twos k = omega (arith, to.node, k.long)
-
-  pub dest_two : (notes twos : List ℕ) → Room p notes twos → D < length twos
-  dest_two notes twos k = omega (arith, to.node, k.wide)
+  pub dest_small : D < 4096
+  dest_small = omega (arith, to.node, nodes_few (shape_of p) (shape_ok p h))
 
   dead_is : get_or dead D 0 ≡ bit_of (dead_node (faults_of p) D)
   dead_is = dead_byte p dead h g.prepared.nodes D
@@ -146,9 +140,8 @@ module _ (p : List ℕ) (s : Shape) (words : List ℕ) (count : ℕ) (dead ta td
 
   pub pairing :
       is_clear p Adaptive S D ≡ false → (b : Box) → b ≡ box_of s a t → (set : List ℕ) (from : ℕ) → from + 256 ≤ length set → ToBetween p Adaptive S D set from →
-      (notes : List ℕ) → node_count (shape_of p) ≤ length notes → NotedBetween p S D notes → 4096 ≤ get_or notes D 0 → Pairing p s S D b.x b.y b.z set from notes
-  pairing direct b eb set from room back notes holds noted over = record {
-    holds = holds;
+      (notes : List ℕ) → NotedBetween p S D notes → 4096 ≤ get_or notes D 0 → Pairing p s S D b.x b.y b.z set from notes
+  pairing direct b eb set from room back notes noted over = record {
     plan = h;
     shape = g.prepared.of_plan.shape;
     source = g.source.node;
@@ -228,9 +221,8 @@ module _ (p : List ℕ) (s : Shape) (words : List ℕ) (count : ℕ) (dead ta td
           by_le 4096 note (λ k. k)
           (λ k. let z : via_route note len ≡ Outcome.Given (Route.Via note Adaptive Adaptive) len = rw (lt-ltb note 4096 k) refl in absurd (true≢false (sym (ap is_given (eo ∙ z)) ∙ sym eb ∙ n)))
 
-    pub last : Work p work → (notes : List ℕ) → node_count (shape_of p) ≤ length notes → Noted p S notes → (note : ℕ) → note ≡ get_or notes D 0 → is_clear p Deterministic S D ≡ false → Last p w s words count ta td work S D a t fa notes note
-    last sets notes holds noted note own blocked = record {
-      holds = holds;
+    pub last : Work p work → (notes : List ℕ) → Noted p S notes → (note : ℕ) → note ≡ get_or notes D 0 → is_clear p Deterministic S D ≡ false → Last p w s words count ta td work S D a t fa notes note
+    last sets notes noted note own blocked = record {
       of_plan = g.prepared.of_plan;
       weights = ew;
       masks = g.prepared.adaptive;
@@ -250,7 +242,6 @@ module _ (p : List ℕ) (w : Weights) (s : Shape) (words : List ℕ) (count : �
     (g : Last p w s words count ta td work S D a t fa notes note) where
   pub far_lost : FarLost p w s words count ta td S D a t fa note notes
   far_lost = record {
-    holds = g.holds;
     of_plan = g.of_plan;
     weights = g.weights;
     masks = g.masks;
@@ -266,7 +257,6 @@ module _ (p : List ℕ) (w : Weights) (s : Shape) (words : List ℕ) (count : �
 
   pub far_sets : (length work ≡ 0 → ⊥) → FarSets p w s work S D a t fa note notes
   far_sets ne = record {
-    holds = g.holds;
     plan = g.of_plan.plan;
     weights = g.weights;
     shape = g.of_plan.shape;

@@ -30,13 +30,12 @@ use Rattle.rows.specs.NextSet.{NextSet}
 use Rattle.rows.specs.Rows.{in_rows, in_set}
 use Rattle.rows.proofs.Bits.{bit_and_law, bit_past, bit_not, row_bit, row_past}
 use Rattle.search.specs.Number.{unclear}
-use Rattle.second_via.specs.Nodes.{AllUnclear}
 use Rattle.search.specs.Outward.{hops_row, rank_at, row_hops, place_hops, rank_of}
 use Rattle.search.proofs.Outwards.{Places, places, onward, same_rank}
 use Rattle.notes.specs.Known.{is_clear, IsAt, NoteTo}
 use Rattle.notes.proofs.Knowing.{shape_ok, nodes_few, all_bits}
 use Rattle.first_clear.specs.Known.{NotedBetween, TwoTo}
-use Rattle.planner.specs.Known.{Work, Ready, Room, Unskipped, NotesMade, TwosMade}
+use Rattle.planner.specs.Known.{Work, Ready, Unskipped, NotesMade, TwosMade}
 use Rattle.planner.specs.Ranked.{rank, Noting, LevelWord, PlaneWord, due_in}
 
 -- A node needs no note where the direct adaptive leg to it is clear.
@@ -110,6 +109,9 @@ module _ (p : List ℕ) (s : Shape) (words : List ℕ) (count : ℕ) (dead ta td
   same : s ≡ shape_of p
   same = ready.prepared.of_plan.shape
 
+  few : node_count (shape_of p) ≤ 4096
+  few = nodes_few (shape_of p) ok
+
   pub shape_sound : shape_error s ≡ 0
   shape_sound = rw same ok
 
@@ -141,7 +143,8 @@ module _ (p : List ℕ) (s : Shape) (words : List ℕ) (count : ℕ) (dead ta td
       -- No node that is not in the set lies between two ranks.
       pub pass : (L : ℕ) → K ≤ L → ((w : ℕ) → w < node_count (shape_of p) → K ≤ rank p S w → rank p S w < L → skips w ≡ true) → Noting p work S skip notes twos L
       pass L up none = record {
-        room = g.room;
+        long = g.long;
+        wide = g.wide;
         made = λ k w l b o. by_le K (rank p S w) (λ q. absurd (true≢false (sym (none w l q b) ∙ o))) (λ q. g.made k w l q o);
         left = λ w l o. g.left w l (⊎_elim (λ q. inl (omega arith)) (λ q. inr q) o);
         two = λ k w l b o. by_le K (rank p S w) (λ q. absurd (true≢false (sym (none w l q b) ∙ o))) (λ q. g.two k w l q o);
@@ -160,7 +163,7 @@ module _ (p : List ℕ) (s : Shape) (words : List ℕ) (count : ℕ) (dead ta td
         noted = set notes D x
 
         mine : get_or noted D 0 ≡ x
-        mine = get_or-set_same notes D x 0 (omega (arith, to.node, g.room.long))
+        mine = get_or-set_same notes D x 0 (omega (arith, to.node, few, g.long))
 
         other : (w : ℕ) → (w ≡ D → ⊥) → get_or noted w 0 ≡ get_or notes w 0
         other w ne = get_or-set_other notes D w x 0 ne
@@ -183,10 +186,11 @@ module _ (p : List ℕ) (s : Shape) (words : List ℕ) (count : ℕ) (dead ta td
         pub turn : (n : ℕ) → (Work p work → NotedBetween p S D noted → is_clear p Adaptive S D ≡ false → 4096 ≤ get_or noted D 0 → TwoTo p S D n) →
             Noting p work S skip noted (set twos D n) (rank_of s a t + 1)
         turn n pair =
-            let new : get_or (set twos D n) D 0 ≡ n = get_or-set_same twos D n 0 (omega (arith, to.node, g.room.wide)) in
+            let new : get_or (set twos D n) D 0 ≡ n = get_or-set_same twos D n 0 (omega (arith, to.node, few, g.wide)) in
             let is : (w : ℕ) → w < node_count (shape_of p) → rank p S w ≡ K → w ≡ D = λ w l e. same_rank (shape_of p) ok S w D ready.source.node l to.node (e ∙ sym here) in
             record {
-              room = record { long = omega (arith, length-set notes D x, g.room.long); wide = omega (arith, length-set twos D n, g.room.wide) };
+              long = length-set notes D x ∙ g.long;
+              wide = length-set twos D n ∙ g.wide;
               made = λ k w l b o. by_order (rank p S w) K
                   (λ q. rw (other w (apart w q)) (g.made k w l q o))
                   (λ q. rw (is w l q, mine) (note k))
@@ -338,11 +342,12 @@ module _ (p : List ℕ) (s : Shape) (words : List ℕ) (count : ℕ) (dead ta td
         (λ in'. rw (row_bit (λ c. eqb (axis_hops s.y (wrapped_in s Y) a.y c) (r - far)) s.y y in', lt-ltb y s.y in') (same_test hops-y (axis_hops s.z (wrapped_in s Z) a.z z) far r ef up)))))
         (λ low. none (ew ∙ rw (lt-ltb r far low) refl) (λ in' q. omega arith))
 
-    pub begun : (old notes twos : List ℕ) → Room p old twos → AllUnclear old notes → Noting p work S skip notes twos 0
-    begun old notes twos k all = record {
-      room = record { long = omega (arith, all.long, k.long); wide = k.wide };
+    pub begun : (twos : List ℕ) → length twos ≡ 4096 → Noting p work S skip (replicate 4096 unclear) twos 0
+    begun twos wide = record {
+      long = length-replicate 4096 unclear;
+      wide = wide;
       made = λ k w l b. absurd (omega arith);
-      left = λ w l o. all.each w (omega (arith, k.long));
+      left = λ w l o. get_or-replicate 4096 w unclear 0 (omega (arith, few));
       two = λ k w l b. absurd (omega arith);
     }
 

@@ -10,17 +10,17 @@ use Rattle.theory.proofs.Cases.{by_le}
 use Rattle.shape.specs.declared.shape.Shape.{Shape}
 use Rattle.shape.specs.declared.shape.Coords.{Coords}
 use Rattle.machine.specs.declared.leg.Mode.TheVariants.{Adaptive, Deterministic}
-use Rattle.machine.specs.Number.{node_count, Inside}
+use Rattle.machine.specs.Number.{node_count}
 use Rattle.machine.specs.Node.{coords_answer}
 use Rattle.plan.specs.Layout.{shape_of}
 use Rattle.plan.specs.Checks.{large, plan_error}
 use Rattle.dead.proofs.Table.{is_node_law}
-use Rattle.masks.specs.Masks.{Targets, Ended}
+use Rattle.masks.specs.Masks.{gather_at, Masked}
 use Rattle.notes.specs.Known.{OfPlan, IsAt, BothTo, ToEnd}
 use Rattle.planner.specs.Known.{Filled}
 use Rattle.notes.specs.Rows.{Elsewhere}
 use Rattle.notes.proofs.Knowing.{shape_ok, other_set}
-use Rattle.notes.proofs.Destination.{toward_at_law}
+use Rattle.notes.proofs.Destination.{gathered_at}
 
 -- The sets to the nodes before n stand in the run.
 pub record Filling (p : List ℕ) (n : ℕ) (old work : List ℕ) : Type 0 where
@@ -53,16 +53,16 @@ module _ (p : List ℕ) (h : plan_error large p ≡ 0) where
 -- What both sets to the node n are made of.
 pub to_fill :
     (p : List ℕ) (s : Shape) (words : List ℕ) (count : ℕ) (ta td : List ℕ) (n : ℕ) (c : Coords) (adaptive deterministic : List ℕ) →
-    OfPlan p s words count → Targets Adaptive s ta → Targets Deterministic s td → n < node_count (shape_of p) → c ≡ coords_answer s n →
-    (Targets Adaptive s ta → Inside s c → Ended Adaptive false s c adaptive) → (Targets Deterministic s td → Inside s c → Ended Deterministic false s c deterministic) →
+    OfPlan p s words count → Masked Adaptive false s ta → Masked Deterministic false s td → n < node_count (shape_of p) → c ≡ coords_answer s n →
+    ((i : ℕ) → i < 288 → get_or adaptive i 0 ≡ gather_at ta c i) → ((i : ℕ) → i < 288 → get_or deterministic i 0 ≡ gather_at td c i) →
     ToEnd p s words count n c adaptive deterministic
 to_fill p s words count ta td n c adaptive deterministic k ma md l ec ga gd =
     let at = at_coords p k.plan s n c k.shape l ec in
     record {
       of_plan = k;
       node = at;
-      adaptive = toward_at_law p s n c ta adaptive k.plan k.shape at Adaptive ma ga;
-      deterministic = toward_at_law p s n c td deterministic k.plan k.shape at Deterministic md gd;
+      adaptive = gathered_at p s n c ta adaptive k.plan at Adaptive false ma ga;
+      deterministic = gathered_at p s n c td deterministic k.plan at Deterministic false md gd;
     }
 
 pub all_filled : (p : List ℕ) (n : ℕ) (old work : List ℕ) → node_count (shape_of p) ≤ n → Filling p n old work → Filled p work

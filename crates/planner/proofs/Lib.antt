@@ -1,4 +1,3 @@
-pub mod Lent
 pub mod Standing
 pub mod NextOutside
 pub mod Destination

@@ -54,8 +54,8 @@ module _ (p : List ℕ) (s : Shape) (words : List ℕ) (count : ℕ) (k : OfPlan
   ok = shape_ok p k.plan
 
   -- The losses sifted for the row of t.
-  module _ (D : ℕ) (t : Coords) (to : IsAt p D t) (masks : List ℕ) (full : Ended Adaptive false s t masks) (b : Box) (eb : b ≡ box_of s a t) (old kept : List ℕ) (found : ℕ) (long : count ≤ length old)
-      (sifted : Sifted b.y b.z masks words (min count (min (length words) (length old))) old kept found) where
+  module _ (D : ℕ) (t : Coords) (to : IsAt p D t) (masks : List ℕ) (full : Ended Adaptive false s t masks) (b : Box) (eb : b ≡ box_of s a t) (old kept : List ℕ) (found : ℕ) (long : length old ≡ 256)
+      (sifted : Sifted b.y b.z masks words (min count 256) old kept found) where
     module _ (E : ℕ) (l : E < node_count (shape_of p)) (y : (coords_of (shape_of p) E).y ≡ t.y) (z : (coords_of (shape_of p) E).z ≡ t.z) where
       abbrev e : Coords
       e = coords_of (shape_of p) E
@@ -101,15 +101,15 @@ module _ (p : List ℕ) (s : Shape) (words : List ℕ) (count : ℕ) (k : OfPlan
         same_losses : (m : Mode) → on_leg rule m (shape_of p) kept found c e ≡ on_leg rule m (shape_of p) words count c e
         unfolding on_leg
         same_losses m =
-            let few : min count (min (length words) (length old)) ≡ count = omega (arith, k.losses.room) in
-            sifted.same (λ x. loss_meets rule m (shape_of p) x c e) (loss_missed m) ∙ rw few
+            let few : min count 256 ≡ count = omega (arith, k.losses.few) in
+            sifted.same long (λ x. loss_meets rule m (shape_of p) x c e) (loss_missed m) ∙ rw few
 
       row_near : NearLosses p S E words count kept found
-      row_near = record { few = omega (arith, sifted.few, sifted.long); same = λ m v h w. same_losses v h w m }
+      row_near = record { few = omega (arith, sifted.few); same = λ m v h w. same_losses v h w m }
 
     pub sifted_row : (work : List ℕ) → NearRow p work S words count kept found (t.y + 16 * t.z)
     sifted_row work = record {
-      long = omega (arith, sifted.long);
+      long = sifted.long ∙ long;
       each = λ none E l e.
           let at = small_at p D t k.plan to in
           let there = small_at p E _ k.plan (record { node = l; at = refl }) in

@@ -3,14 +3,13 @@ use Prim.Native.Nat.{ℕ, zero, suc, ◌+◌, ◌*◌, ◌/◌, ◌%◌, ◌≤�
 use native.Mathlib.Omega.{arith}
 use mathlib.Core.Path.{◌≡◌, refl, sym, ap, ◌∙◌}
 use mathlib.Core.Logic.{inl, inr}
-use mathlib.Core.Bool.{Bool, true, false, true≢false, not, ◌&&◌, ◌||◌}
+use mathlib.Core.Bool.{Bool, true, false, not, ◌&&◌, ◌||◌}
 use mathlib.Core.List.{List}
 use lib.ListN.{length, get_or}
-use borrow.Author.Tests.{lt-ltb, le-ltb}
-use Rattle.theory.proofs.Cases.{test, by_le}
-use Rattle.numbers.specs.Numbers.{node_outside, dead_end, no_clear_choice}
+use borrow.Author.Tests.{lt-ltb}
+use Rattle.theory.proofs.Cases.{test}
+use Rattle.numbers.specs.Numbers.{node_outside, dead_end}
 use Rattle.theory.specs.Checks.{declined, ◌then◌}
-use Rattle.theory.proofs.Checks.{then_zero}
 use Rattle.shape.specs.declared.shape.Shape.{Shape}
 use Rattle.shape.specs.declared.shape.Coords.{Coords}
 use Rattle.theory.specs.Machine.{sum_by}
@@ -25,9 +24,6 @@ use Rattle.machine.specs.Number.{node_count, coords_of}
 use Rattle.machine.proofs.Nodes.{node_of}
 use Rattle.machine.proofs.Laws.{hops_self}
 use Rattle.plan.specs.Layout.{shape_of, weights_of, faults_of}
-use Rattle.plan.specs.declared.limits.Limits.{Limits}
-use Rattle.plan.proofs.Callers.{accepted_large}
-use Rattle.choice.proofs.Alike.{pair_error_alike, pair_alike}
 use Rattle.plan.specs.Checks.{large, plan_error}
 use Rattle.dead.specs.Dead.{dead_node}
 use Rattle.choice.specs.declared.outcome.Outcome.{Outcome}
@@ -46,11 +42,11 @@ use Rattle.masks.specs.Span.{box_of}
 use Rattle.masks.specs.Masks.{Ended}
 use Rattle.search.specs.FirstVia.{is_via, FirstOf}
 use Rattle.notes.specs.Known.{is_clear, OfPlan, IsAt, FromSet, NoteTo, Between, BetweenMade}
-use Rattle.first_clear.specs.Known.{is_given, route_told, via_route, Noted, TwoTo, Apart, FarLost}
+use Rattle.first_clear.specs.Known.{route_told, via_route, Noted, NotedBetween, TwoTo, Apart, FarLost}
 use Rattle.notes.proofs.Knowing.{shape_ok, row_small}
 use Rattle.notes.proofs.Destination.{is_box, length_is_law, small_at, all_near, here_near}
 use Rattle.first_clear.proofs.Own.{by_own}
-use Rattle.planner.specs.Known.{Ready, Soon, NotesMade, TwosMade, Twos, Ends, Beside}
+use Rattle.planner.specs.Known.{Ready, NotesMade, TwosMade, Twos, Ends, Beside}
 
 -- ---- the checks of a pair
 -- None of them declines.
@@ -75,25 +71,25 @@ accepted p S D h =
     record { plan = k.0; source = k.1; target = k.2; alive = k.3 }
 
 -- ---- the answer
-pub refused_pair : (L : Limits) (p : List ℕ) (S D e : ℕ) → e ≡ pair_error L p S D → (e ≡ 0 → ⊥) → Outcome.Refused e ≡ told (far_in p) S (pair L p S D)
+pub refused_pair : (p : List ℕ) (S D e : ℕ) → e ≡ pair_error large p S D → (e ≡ 0 → ⊥) → Outcome.Refused e ≡ told (far_in p) S (pair large p S D)
 unfolding pair answered told told_as
-refused_pair L p S D zero q ne = absurd (ne refl)
-refused_pair L p S D (suc e) q ne = rw (sym q)
+refused_pair p S D zero q ne = absurd (ne refl)
+refused_pair p S D (suc e) q ne = rw (sym q)
 
 chosen_pair : (p : List ℕ) (S D : ℕ) → pair_error large p S D ≡ 0 → told (far_in p) S (chosen (route_in p S D)) ≡ told (far_in p) S (pair large p S D)
 unfolding pair answered
 chosen_pair p S D h = rw h
 
 -- ---- what is worked out of an accepted pair
-pub known : (p : List ℕ) → plan_error large p ≡ 0 → (words : List ℕ) (count : ℕ) → AreLosses p words count → OfPlan p (shape_of p) words count
-known p h words count l = record { plan = h; shape = refl; losses = l }
-
 pub node_at_law : (p : List ℕ) (s : Shape) (n : ℕ) (c : Coords) → s ≡ shape_of p → is_node (shape_of p) n ≡ true → c ≡ coords_answer s n → IsAt p n c
 node_at_law p s n c e k q = record { node = (node_of (shape_of p) n k).below; at = q ∙ rw (e, k) }
 
-module _ (p : List ℕ) (s : Shape) (S D : ℕ) (es : s ≡ shape_of p) (none : pair_error large p S D ≡ 0) where
+module _ (p : List ℕ) (s : Shape) (S D e : ℕ) (es : s ≡ shape_of p) (ee : e ≡ pair_error large p S D) (zero : e ≡ 0) where
   A : Accepted p S D
-  A = accepted p S D none
+  A = accepted p S D (sym ee ∙ zero)
+
+  pub known : (words : List ℕ) (count : ℕ) → AreLosses p words count → OfPlan p s words count
+  known words count l = record { plan = A.plan; shape = es; losses = l }
 
   pub from_at : (c : Coords) → c ≡ coords_answer s S → IsAt p S c
   from_at c q = node_at_law p s S c es A.source q
@@ -104,31 +100,18 @@ module _ (p : List ℕ) (s : Shape) (S D : ℕ) (es : s ≡ shape_of p) (none : 
   pub source_alive : dead_node (faults_of p) S ≡ false
   source_alive = A.alive
 
--- A pair that a caller accepts the large caller accepts, and both are told the same of it.
-plan_of_law : (L : Limits) (p : List ℕ) (S D : ℕ) → pair_error L p S D ≡ 0 → plan_error L p ≡ 0
-unfolding pair_error
-plan_of_law L p S D h = (then_zero (plan_error L p) _ h).0
-
-pub pair_large : (L : Limits) (p : List ℕ) (S D : ℕ) → pair_error L p S D ≡ 0 → (plan_error L p ≡ plan_error large p) × (pair_error large p S D ≡ 0)
-pair_large L p S D h =
-    let plan = plan_of_law L p S D h in
-    let e = plan ∙ sym (accepted_large p L plan) in
-    (e, sym (pair_error_alike L large p e S D) ∙ h)
-
-pub paired : (L : Limits) (p : List ℕ) (S D e : ℕ) → e ≡ pair_error L p S D → e ≡ 0 → (r : Outcome) → r ≡ route_told p S D → r ≡ told (far_in p) S (pair L p S D)
-paired L p S D e ee none r q =
-    let same = pair_large L p S D (sym ee ∙ none) in
-    q ∙ chosen_pair p S D same.1 ∙ ap (told (far_in p) S) (sym (pair_alike L large p same.0 S D))
+  pub paired : (r : Outcome) → r ≡ route_told p S D → r ≡ told (far_in p) S (pair large p S D)
+  paired r q = q ∙ chosen_pair p S D (sym ee ∙ zero)
 
 -- ---- the first steps of a pair
 module _ (p : List ℕ) (w : Weights) (ew : w ≡ weights_of p) (s : Shape) (words : List ℕ) (count : ℕ) (k : OfPlan p s words count) (S D : ℕ) (a t : Coords) (from : IsAt p S a) (to : IsAt p D t) where
   -- The test of a single leg.
-  pub leg_is : (m : Mode) (b : Bool) → b ≡ not (on_leg rule m s words (min count (length words)) a t) → b ≡ is_clear p m S D
+  pub leg_is : (m : Mode) (b : Bool) → b ≡ not (on_leg rule m s words (min count 256) a t) → b ≡ is_clear p m S D
   leg_is m b e =
-      let few : min count (length words) ≡ count = omega (arith, k.losses.room) in
+      let few : min count 256 ≡ count = omega (arith, k.losses.few) in
       e ∙ rw (few, k.shape, from.at, to.at) (sym (clear_is p k.plan words count k.losses S D from.node to.node m))
 
-  pub direct_told : (b : Bool) → b ≡ not (on_leg rule Adaptive s words (min count (length words)) a t) → b ≡ true → (len : ℕ) → len ≡ distance_word w s a t → Outcome.Given (Route.Direct Adaptive) len ≡ route_told p S D
+  pub direct_told : (b : Bool) → b ≡ not (on_leg rule Adaptive s words (min count 256) a t) → b ≡ true → (len : ℕ) → len ≡ distance_word w s a t → Outcome.Given (Route.Direct Adaptive) len ≡ route_told p S D
   unfolding told told_as sum_by
   direct_told b e y len q =
       let c = sym (leg_is Adaptive b e) ∙ y in
@@ -164,8 +147,11 @@ beside_is p s S D a t g b eb old new long less w l way =
 
 -- The notes of the nodes between are made, D's among them; and the notes of all.
 module _ (p : List ℕ) (S : ℕ) (notes : List ℕ) where
-  pub own_noted : (D : ℕ) (skip : List ℕ) → NotesMade p S skip notes → Beside p S D skip → D < node_count (shape_of p) → NoteTo p S D (get_or notes D 0)
-  own_noted D skip made beside l = made.outside D l (beside D l (omega (arith, hops_self (shape_of p) D)))
+  pub between_noted : (D : ℕ) (skip : List ℕ) → NotesMade p S skip notes → Beside p S D skip → NotedBetween p S D notes
+  between_noted D skip made beside w l way = made.outside w l (beside w l way)
+
+  pub own_noted : (D : ℕ) → D < node_count (shape_of p) → NotedBetween p S D notes → NoteTo p S D (get_or notes D 0)
+  own_noted D l noted = noted D l (omega (arith, hops_self (shape_of p) D))
 
   pub all_twos : (fa twos : List ℕ) → FromSet p Adaptive S fa → TwosMade p S fa notes twos → Twos p S notes twos
   all_twos fa twos out made w l direct =
@@ -181,9 +167,8 @@ module _ (p : List ℕ) (s : Shape) (words : List ℕ) (count : ℕ) (dead ta td
   pub pair_two : (skip notes twos : List ℕ) → TwosMade p S skip notes twos → Beside p S D skip → 4096 ≤ get_or notes D 0 → TwoTo p S D (get_or twos D 0)
   pair_two skip notes twos made beside over = made.each D to.node (beside D to.node (omega (arith, hops_self (shape_of p) D))) (λ v l way. inl (beside v l way)) direct over
 
-  pub pair_far : (notes : List ℕ) → node_count (shape_of p) ≤ length notes → Noted p S notes → (note : ℕ) → note ≡ get_or notes D 0 → is_clear p Deterministic S D ≡ false → FarLost p w s words count ta td S D a t fa note notes
-  pair_far notes holds noted note own blocked = record {
-    holds = holds;
+  pub pair_far : (notes : List ℕ) → Noted p S notes → (note : ℕ) → note ≡ get_or notes D 0 → is_clear p Deterministic S D ≡ false → FarLost p w s words count ta td S D a t fa note notes
+  pair_far notes noted note own blocked = record {
     of_plan = g.prepared.of_plan;
     weights = ew;
     masks = g.prepared.adaptive;
@@ -218,18 +203,3 @@ module _ (p : List ℕ) (w : Weights) (ew : w ≡ weights_of p) (s : Shape) (wor
         direct = direct;
       } in
       eo ∙ rw (lt-ltb via 4096 low) (by_own p s S D len apart via note low)
-
--- ---- the first steps of a pair, as a whole
--- Directly, or by the lowest via between the ends; else neither leg settles it.
-pub soon_direct : (p : List ℕ) (S D : ℕ) (r : Outcome) → r ≡ route_told p S D → is_given r ≡ true → Soon p S D r
-soon_direct p S D r q g = record { given = λ _. q; left = λ n. absurd (true≢false (sym g ∙ n)) }
-
-pub soon_via :
-    (p : List ℕ) (S D via len : ℕ) (o : Outcome) → o ≡ via_route via len → (via < 4096 → o ≡ route_told p S D) → is_clear p Adaptive S D ≡ false → Soon p S D o
-unfolding via_route
-soon_via p S D via len o eo told direct = record {
-  given = λ y. by_le 4096 via
-      (λ k. let z : via_route via len ≡ Outcome.Refused no_clear_choice = rw (le-ltb via 4096 k) refl in absurd (true≢false (sym y ∙ ap is_given (eo ∙ z))))
-      (λ k. told k);
-  left = λ _. direct;
-}

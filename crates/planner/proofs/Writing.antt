@@ -24,14 +24,14 @@ use Rattle.choice.specs.declared.outcome.Outcome.{Outcome}
 use Rattle.choice.specs.Outcome.{told}
 use Rattle.choice.specs.Pair.{far_in, pair}
 use Rattle.routes.specs.declared.layout.Entry.{Entry}
-use Rattle.routes.specs.Layout.{most_entries, written, entry_place}
+use Rattle.routes.specs.Layout.{most_entries, most_bytes}
 use Rattle.routes.specs.Said.{entry_for, heard}
 use Rattle.planner.specs.declared.outside.At.{At}
 use Rattle.planner.specs.Outside.{place_of, Stands, NextOutside}
 use Rattle.route_value.specs.Making.{Holds, Added}
 use Rattle.route_value.proofs.InPlace.{none_held}
 use Rattle.losses.specs.OfPlan.{AreLosses}
-use Rattle.masks.specs.Masks.{Targets}
+use Rattle.masks.specs.Masks.{Masked}
 use Rattle.notes.specs.Known.{is_clear, IsAt}
 use Rattle.planner.specs.Known.{Work, Prepared, Ready, Listed}
 use Rattle.planned_sheet.specs.Sheet.{source_error}
@@ -48,7 +48,7 @@ pub record Going (p : List ℕ) (s : Shape) (words : List ℕ) (count : ℕ) (de
   pub out : at.z < s.z → (at.x < s.x) × (in_set s fa 0 at.node ≡ false)
   pub entries : List Entry
   pub listing : Listing p S entries at.node
-  pub held : Work p work → Holds (node_count (shape_of p) - 1) entries bytes
+  pub held : Work p work → Holds entries bytes
   pub long : length entries ≡ listed
 
 module _ (p : List ℕ) (s : Shape) (words : List ℕ) (count : ℕ) (dead ta td work : List ℕ) (S : ℕ) (a : Coords) (fa fd : List ℕ) (ready : Ready p s words count dead ta td work S a fa fd) where
@@ -67,7 +67,7 @@ module _ (p : List ℕ) (s : Shape) (words : List ℕ) (count : ℕ) (dead ta td
   pub node_known : (at : At) → Stands s at → at.x < s.x → at.z < s.z → (t : Coords) → t ≡ place_of at → IsAt p at.node t
   node_known at g hx hz t e = record { node = rw same at (stands_node s ok at g hx hz); at = e ∙ sym (stands_at s ok at g hx hz) ∙ ap (λ m. coords_of m at.node) same }
 
-  module _ (bytes : List ℕ) (listed : ℕ) (from r : At) (stand : Stands s from) (next : NextOutside s fa from r) (entries : List Entry) (before : Listing p S entries from.node) (held : Work p work → Holds (node_count (shape_of p) - 1) entries bytes) (long : length entries ≡ listed) where
+  module _ (bytes : List ℕ) (listed : ℕ) (from r : At) (stand : Stands s from) (next : NextOutside s fa from r) (entries : List Entry) (before : Listing p S entries from.node) (held : Work p work → Holds entries bytes) (long : length entries ≡ listed) where
     found : Going p s words count dead ta td work S a fa fd bytes listed r
     found =
         let few = stands_below s ok r next.stands in
@@ -90,7 +90,7 @@ module _ (p : List ℕ) (s : Shape) (words : List ℕ) (count : ℕ) (dead ta td
 
   module _ (bytes : List ℕ) (listed : ℕ) (at : At) (g : Going p s words count dead ta td work S a fa fd bytes listed at) where
     pub few : listed ≤ most_entries
-    few = omega (arith, Lists.few p S source g.entries at.node g.listing, g.long, nodes_few (shape_of p) (shape_ok p accepted))
+    few = omega (arith, Lists.few p S source g.entries at.node g.listing, g.long)
 
     module _ (l : at.z < s.z) where
       pub is_at : (t : Coords) → t ≡ place_of at → IsAt p at.node t
@@ -99,11 +99,8 @@ module _ (p : List ℕ) (s : Shape) (words : List ℕ) (count : ℕ) (dead ta td
       pub unclear : is_clear p Adaptive S at.node ≡ false
       unclear = sym (ready.adaptive at.node (is_at (place_of at) refl).node) ∙ rw (← same) (g.out l).1
 
-      pub roomy : listed < node_count (shape_of p) - 1
+      pub roomy : listed < most_entries
       roomy = omega (arith, (entered p S source g.entries at.node g.listing (is_at (place_of at) refl).node unclear _ _ refl refl).0, g.long)
-
-      pub more_fit : listed < most_entries
-      more_fit = omega (arith, roomy, nodes_few (shape_of p) (shape_ok p accepted))
 
       pub places : (at.x < 16) × (at.node < 4096)
       places = (omega (arith, (g.out l).0, (sound s ok X).high), omega (arith, (is_at (place_of at) refl).node, nodes_few (shape_of p) (shape_ok p accepted)))
@@ -122,7 +119,7 @@ module _ (p : List ℕ) (s : Shape) (words : List ℕ) (count : ℕ) (dead ta td
           let n = entered p S source g.entries at.node g.listing (is_at (place_of at) refl).node unclear _ is refl refl in
           let long : length (g.entries ++ (is ∷ [])) ≡ listed + 1 = omega (arith, length-append g.entries (is ∷ []), g.long) in
           found after-bytes (listed + 1) _ r after next (g.entries ++ (is ∷ [])) n.1
-          (λ w. let same : e ≡ is = ee ∙ ap f (eo w) in rw (← same) (put _ g.entries (g.held w) g.long roomy more_fit)) long
+          (λ w. let same : e ≡ is = ee ∙ ap f (eo w) in rw (← same) (put g.entries (g.held w) g.long roomy)) long
 
     pub done : s.z ≤ at.z → Listed p work S bytes listed
     done m =
@@ -131,19 +128,18 @@ module _ (p : List ℕ) (s : Shape) (words : List ℕ) (count : ℕ) (dead ta td
         let all = ended p S g.entries at.node g.listing (omega arith) in
         record { held = λ w. rw (← all) (g.held w); many = sym g.long ∙ ap length all }
 
-  pub begun : (bytes : List ℕ) → entry_place written (node_count (shape_of p) - 1) ≤ length bytes → (r : At) → NextOutside s fa (record { node = 0; x = 0; y = 0; z = 0 }) r → Going p s words count dead ta td work S a fa fd bytes 0 r
-  begun bytes b r next = found bytes 0 _ r (starts s ok) next [] (begin p S) (λ _. none_held _ bytes b) refl
+  pub begun : (bytes : List ℕ) → most_bytes ≤ length bytes → (r : At) → NextOutside s fa (record { node = 0; x = 0; y = 0; z = 0 }) r → Going p s words count dead ta td work S a fa fd bytes 0 r
+  begun bytes b r next = found bytes 0 _ r (starts s ok) next [] (begin p S) (λ _. none_held bytes b) refl
 
 -- What is made of a plan for its sound source S, with no sets to its nodes.
 pub planned_known :
     (p : List ℕ) (S : ℕ) (s : Shape) (words : List ℕ) (count : ℕ) (dead ta td : List ℕ) (a : Coords) → source_error large p S ≡ 0 → s ≡ shape_of p → AreLosses p words count →
-    (m : ℕ) → length dead ≡ m → node_count (shape_of p) ≤ m → ((n : ℕ) → get_or dead n 0 ≡ bit_of (node_answer large p n)) → Targets Adaptive s ta → Targets Deterministic s td → a ≡ coords_answer s S →
+    ((n : ℕ) → get_or dead n 0 ≡ bit_of (node_answer large p n)) → Masked Adaptive false s ta → Masked Deterministic false s td → a ≡ coords_answer s S →
     Prepared p s words count dead ta td [] × (IsAt p S a × (dead_node (faults_of p) S ≡ false))
-planned_known p S s words count dead ta td a h es l m long fits nodes ma md c =
+planned_known p S s words count dead ta td a h es l nodes ma md c =
     let k = source_of large p S h in (
       record {
         of_plan = record { plan = k.plan; shape = es; losses = l };
-        holds = omega arith;
         nodes = nodes;
         adaptive = ma;
         deterministic = md;

@@ -1,5 +1,5 @@
 -- The code's own steps: what is known of an accepted plan p while the routes from S are planned.
-use Rattle.std.specs.Prelude.{ℕ, ◌+◌, ◌-◌, ◌*◌, ◌≤◌, ◌<◌, ◌≡◌, ◌⊎◌, true, false, List, length, get_or}
+use Rattle.std.specs.Prelude.{ℕ, ◌+◌, ◌*◌, ◌≤◌, ◌<◌, ◌≡◌, ◌⊎◌, true, false, List, length, get_or}
 use Rattle.shape.specs.declared.shape.Shape.{Shape}
 use Rattle.shape.specs.declared.shape.Coords.{Coords}
 use Rattle.machine.specs.declared.leg.Mode.TheVariants.{Adaptive, Deterministic}
@@ -10,12 +10,11 @@ use Rattle.plan.specs.Layout.{shape_of, weights_of, faults_of}
 use Rattle.plan.specs.Checks.{large, plan_error}
 use Rattle.dead.specs.Dead.{dead_node, bit_of, node_answer}
 use Rattle.rows.specs.Rows.{in_set}
-use Rattle.masks.specs.Masks.{Targets}
+use Rattle.masks.specs.Masks.{Masked}
 use Rattle.route_value.specs.Making.{Holds}
 use Rattle.planned_sheet.specs.Sheet.{entries_from}
 use Rattle.notes.specs.Known.{is_clear, OfPlan, IsAt, FromSet, BothTo, NearLosses, NoteTo}
-use Rattle.choice.specs.declared.outcome.Outcome.{Outcome}
-use Rattle.first_clear.specs.Known.{route_told, is_given, Noted, TwoTo}
+use Rattle.first_clear.specs.Known.{Noted, TwoTo}
 
 -- A run with both sets to each node, 512 rows a node.
 pub record Filled (p work : List ℕ) : Type 0 where
@@ -31,22 +30,21 @@ Work p work = (length work ≡ 0) ⊎ Filled p work
 -- What the losses for the row of D, at t, are sifted by: those of the plan, and the masks of all targets.
 pub record Sifting (p : List ℕ) (s : Shape) (words : List ℕ) (count : ℕ) (ta : List ℕ) (S D : ℕ) (a t : Coords) : Type 0 where
   pub of_plan : OfPlan p s words count
-  pub masks : Targets Adaptive s ta
+  pub masks : Masked Adaptive false s ta
   pub source : IsAt p S a
   pub target : IsAt p D t
 
 -- The first n of `near` stand for all losses, for every destination of a row, y + 16 × z, where the run `work` is empty.
 pub record NearRow (p work : List ℕ) (S : ℕ) (words : List ℕ) (count : ℕ) (near : List ℕ) (n row : ℕ) : Type 0 where
-  pub long : count ≤ length near
+  pub long : length near ≡ 256
   pub each : length work ≡ 0 → (D : ℕ) → D < node_count (shape_of p) → (coords_of (shape_of p) D).y + 16 * (coords_of (shape_of p) D).z ≡ row → NearLosses p S D words count near n
 
 -- What depends on the plan alone: its shape, losses and dead nodes, the masks of all targets, and a run for the sets to all nodes.
 pub record Prepared (p : List ℕ) (s : Shape) (words : List ℕ) (count : ℕ) (dead ta td work : List ℕ) : Type 0 where
   pub of_plan : OfPlan p s words count
-  pub holds : node_count (shape_of p) ≤ length dead
   pub nodes : (n : ℕ) → get_or dead n 0 ≡ bit_of (node_answer large p n)
-  pub adaptive : Targets Adaptive s ta
-  pub deterministic : Targets Deterministic s td
+  pub adaptive : Masked Adaptive false s ta
+  pub deterministic : Masked Deterministic false s td
   pub room : Roomy p work
 
 -- And on the source S, which is sound: the nodes with a clear leg from it.
@@ -56,11 +54,6 @@ pub record Ready (p : List ℕ) (s : Shape) (words : List ℕ) (count : ℕ) (de
   pub alive : dead_node (faults_of p) S ≡ false
   pub adaptive : FromSet p Adaptive S fa
   pub deterministic : FromSet p Deterministic S fd
-
--- A note and two vias have a place for each node.
-pub record Room (p notes twos : List ℕ) : Type 0 where
-  pub long : node_count (shape_of p) ≤ length notes
-  pub wide : node_count (shape_of p) ≤ length twos
 
 -- The notes of the nodes that are not in the set `skip`, and of those to which the direct adaptive leg is clear.
 pub record NotesMade (p : List ℕ) (S : ℕ) (skip notes : List ℕ) : Type 0 where
@@ -93,28 +86,22 @@ pub record Ends (p : List ℕ) (s : Shape) (S D : ℕ) (a t : Coords) : Type 0 w
 abbrev pub Beside : List ℕ → ℕ → ℕ → List ℕ → Type 0
 Beside p S D rows = (w : ℕ) → w < node_count (shape_of p) → hops (shape_of p) S w + hops (shape_of p) w D ≡ hops (shape_of p) S D → in_set (shape_of p) rows 0 w ≡ false
 
--- The first steps to one destination: a route, or none yet where the direct adaptive leg is not clear.
-pub record Soon (p : List ℕ) (S D : ℕ) (r : Outcome) : Type 0 where
-  pub given : is_given r ≡ true → r ≡ route_told p S D
-  pub left : is_given r ≡ false → is_clear p Adaptive S D ≡ false
-
 -- The last step to one destination.
 pub record Last (p : List ℕ) (w : Weights) (s : Shape) (words : List ℕ) (count : ℕ) (ta td work : List ℕ) (S D : ℕ) (a t : Coords) (fa notes : List ℕ) (note : ℕ) : Type 0 where
   pub of_plan : OfPlan p s words count
   pub weights : w ≡ weights_of p
-  pub masks : Targets Adaptive s ta
-  pub others : Targets Deterministic s td
+  pub masks : Masked Adaptive false s ta
+  pub others : Masked Deterministic false s td
   pub sets : Work p work
   pub source : IsAt p S a
   pub target : IsAt p D t
   pub adaptive : FromSet p Adaptive S fa
   pub direct : is_clear p Adaptive S D ≡ false
   pub blocked : is_clear p Deterministic S D ≡ false
-  pub holds : node_count (shape_of p) ≤ length notes
   pub own : note ≡ get_or notes D 0
   pub noted : Noted p S notes
 
 -- The entries of the sheet from S are so many; and the bytes hold them, if the run `work` is empty or has the sets to all nodes.
 pub record Listed (p work : List ℕ) (S : ℕ) (bytes : List ℕ) (count : ℕ) : Type 0 where
-  pub held : Work p work → Holds (node_count (shape_of p) - 1) (entries_from large p S 0 (node_count (shape_of p))) bytes
+  pub held : Work p work → Holds (entries_from large p S 0 (node_count (shape_of p))) bytes
   pub many : count ≡ length (entries_from large p S 0 (node_count (shape_of p)))

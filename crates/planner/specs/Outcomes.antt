@@ -3,7 +3,7 @@ use Rattle.std.specs.Prelude.{ℕ, ◌&&◌, List, ltb, eqb}
 use Rattle.machine.specs.declared.leg.Mode.TheVariants.{Adaptive}
 use Rattle.machine.specs.Number.{node_count}
 use Rattle.plan.specs.Layout.{shape_of}
-use Rattle.plan.specs.declared.limits.Limits.{Limits}
+use Rattle.plan.specs.Checks.{Limits}
 use Rattle.packet.specs.declared.route.Route.{Route}
 use Rattle.choice.specs.declared.outcome.Outcome.{Outcome}
 use Rattle.choice.specs.Outcome.{told}

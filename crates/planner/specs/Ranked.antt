@@ -9,7 +9,7 @@ use Rattle.rows.specs.Rows.{in_rows, in_set}
 use Rattle.search.specs.Number.{unclear}
 use Rattle.search.specs.Outward.{place_hops, row_hops, rank_of}
 use Rattle.notes.specs.Known.{NoteTo}
-use Rattle.planner.specs.Known.{Work, Room, Unskipped, TwoOf}
+use Rattle.planner.specs.Known.{Work, Unskipped, TwoOf}
 
 -- A node's place in the order in which they are noted.
 abbrev pub rank : List ℕ → ℕ → ℕ → ℕ
@@ -17,7 +17,8 @@ rank p S w = rank_of (shape_of p) (coords_of (shape_of p) S) (coords_of (shape_o
 
 -- The nodes of a lower rank than K that are not in the set `skip` have their notes and two vias; the others have none.
 pub record Noting (p work : List ℕ) (S : ℕ) (skip notes twos : List ℕ) (K : ℕ) : Type 0 where
-  pub room : Room p notes twos
+  pub long : length notes ≡ 4096
+  pub wide : length twos ≡ 4096
   pub made : Work p work → (w : ℕ) → w < node_count (shape_of p) → rank p S w < K → in_set (shape_of p) skip 0 w ≡ false → NoteTo p S w (get_or notes w 0)
   pub left : (w : ℕ) → w < node_count (shape_of p) → (K ≤ rank p S w) ⊎ (in_set (shape_of p) skip 0 w ≡ true) → get_or notes w 0 ≡ unclear
   pub two :

@@ -4,7 +4,7 @@ ghost use Rattle.machine.specs.declared.leg.Mode.TheVariants.{Adaptive, Determin
 ghost use Rattle.machine.specs.Number.{node_count};
 ghost use Rattle.plan.specs.Layout.{shape_of};
 ghost use Rattle.plan.specs.Checks.{large, plan_error};
-ghost use Rattle.masks.specs.Masks.{Masked, Targets};
+ghost use Rattle.masks.specs.Masks.{Masked};
 ghost use Rattle.notes.specs.Known.{OfPlan};
 ghost use Rattle.planner.specs.Run.{RunMade};
 ghost use Rattle.planner.specs.Known.{Filled, Work, Prepared};
@@ -13,8 +13,8 @@ ghost use Rattle.planner.specs.Steps.{step_of, Boarded};
 use crate::fill::fill;
 use crate::listed::routes_from;
 use crate::run::Run;
-use dead::put_dead_nodes;
-use losses::put_losses;
+use dead::dead_nodes;
+use losses::losses;
 use machine::leg::Mode;
 use machine::node::coords;
 use masks::table::{gather, table};
@@ -22,7 +22,6 @@ use numbers::OUTPUT_SHORT;
 use plan::layout::shape_in;
 use route_value::put_made;
 use routes::layout::SHEET_BYTES;
-use search::best::UNCLEAR;
 use shape::Shape;
 use sheet::output::Written;
 
@@ -52,20 +51,19 @@ fn step_of(answer: Written) -> Step
 fn write_board(
     plan: &[u8],
     shape: Shape,
-    words: &[u16],
+    words: &[u16; 256],
     count: usize,
-    dead: &[u8],
-    ta: &[u16],
-    td: &[u16],
+    dead: &[u8; 4096],
+    ta: &[u16; 4608],
+    td: &[u16; 4608],
     work: &[u16],
-    sa: &[u16],
-    sd: &[u16],
+    sa: &[u16; 4608],
+    sd: &[u16; 4608],
     source: u16,
     out: &mut [u8],
 ) -> Step
     requires prepared { Prepared plan.now shape words.now count dead.now ta.now td.now work.now }
     requires masked { (Masked Adaptive true shape sa.now) × (Masked Deterministic true shape sd.now) }
-    requires sa_len { (length sa.now ≡ 4608) × (length sd.now ≡ 4608) }
     requires source_bound { source < node_count (shape_of plan.now) }
     ensures size_in_bounds { result.size ≤ length out.old }
     ensures boarded { Work plan.now work.now → Boarded plan.now source out.old result out.new }
@@ -80,10 +78,6 @@ fn write_board(
     let a = coords(shape, source);
     let adaptive = gather(sa, a);
     let deterministic = gather(sd, a);
-    let mut near = [0u16; 256];
-    let mut notes = [UNCLEAR; 4096];
-    let mut twos = [UNCLEAR; 4096];
-    let mut sums = [UNCLEAR; 4096];
     let mut bytes = [0u8; SHEET_BYTES];
     let entries = routes_from(
         plan,
@@ -98,10 +92,6 @@ fn write_board(
         a,
         &adaptive,
         &deterministic,
-        &mut near,
-        &mut notes,
-        &mut twos,
-        &mut sums,
         &mut bytes,
     );
     step_of(put_made(source, entries, &mut bytes, out))
@@ -111,21 +101,20 @@ fn write_board(
 fn boards_from(
     plan: &[u8],
     shape: Shape,
-    words: &[u16],
+    words: &[u16; 256],
     count: usize,
-    dead: &[u8],
-    ta: &[u16],
-    td: &[u16],
+    dead: &[u8; 4096],
+    ta: &[u16; 4608],
+    td: &[u16; 4608],
     work: &[u16],
-    sa: &[u16],
-    sd: &[u16],
+    sa: &[u16; 4608],
+    sd: &[u16; 4608],
     from: u16,
     all: u16,
     out: &mut [u8],
 ) -> Run
     requires prepared { Prepared plan.now shape words.now count dead.now ta.now td.now work.now }
     requires masked { (Masked Adaptive true shape sa.now) × (Masked Deterministic true shape sd.now) }
-    requires sa_len { (length sa.now ≡ 4608) × (length sd.now ≡ 4608) }
     requires all_value { all ≡ node_count (shape_of plan.now) }
     ensures { Work plan.now work.now → RunMade plan.now from out.old result out.new }
 {
@@ -165,23 +154,22 @@ fn boards_from(
 fn boards_by(
     plan: &[u8],
     shape: Shape,
-    words: &[u16],
+    words: &[u16; 256],
     count: usize,
-    ta: &[u16],
-    td: &[u16],
+    ta: &[u16; 4608],
+    td: &[u16; 4608],
     work: &[u16],
     from: u16,
     all: u16,
     out: &mut [u8],
 ) -> Run
     requires of_plan { OfPlan plan.now shape words.now count }
-    requires targets { Targets Adaptive shape ta.now }
-    requires targets_2 { Targets Deterministic shape td.now }
+    requires masked { Masked Adaptive false shape ta.now }
+    requires masked_2 { Masked Deterministic false shape td.now }
     requires all_value { (all ≡ node_count (shape_of plan.now)) × (512 * all ≤ length work.now) }
     ensures { Work plan.now work.now → RunMade plan.now from out.old result out.new }
 {
-    let mut dead = [0u8; 4096];
-    put_dead_nodes(plan, &mut dead);
+    let dead = dead_nodes(plan);
     let sa = table(Mode::Adaptive, true, shape);
     let sd = table(Mode::Deterministic, true, shape);
     boards_from(
@@ -195,8 +183,9 @@ pub fn more_boards(plan: &[u8], from: u16, all: u16, work: &[u16], out: &mut [u8
     ensures { Filled plan.now work.now → RunMade plan.now from out.old result out.new }
 {
     let shape = shape_in(plan);
-    let mut words = [0u16; 256];
-    let count = put_losses(plan, &mut words) as usize;
+    let lost = losses(plan);
+    let words = lost.words;
+    let count = lost.count as usize;
     let ta = table(Mode::Adaptive, false, shape);
     let td = table(Mode::Deterministic, false, shape);
     boards_by(plan, shape, &words, count, &ta, &td, work, from, all, out)
@@ -208,8 +197,9 @@ pub fn fill_boards(plan: &[u8], all: u16, work: &mut [u16])
     ensures { Filled plan.now work.new }
 {
     let shape = shape_in(plan);
-    let mut words = [0u16; 256];
-    let count = put_losses(plan, &mut words) as usize;
+    let lost = losses(plan);
+    let words = lost.words;
+    let count = lost.count as usize;
     let ta = table(Mode::Adaptive, false, shape);
     let td = table(Mode::Deterministic, false, shape);
     fill(plan, shape, &words, count, &ta, &td, all, work);
@@ -221,8 +211,9 @@ pub fn write_boards(plan: &[u8], from: u16, all: u16, work: &mut [u16], out: &mu
     ensures { RunMade plan.now from out.old result out.new }
 {
     let shape = shape_in(plan);
-    let mut words = [0u16; 256];
-    let count = put_losses(plan, &mut words) as usize;
+    let lost = losses(plan);
+    let words = lost.words;
+    let count = lost.count as usize;
     let ta = table(Mode::Adaptive, false, shape);
     let td = table(Mode::Deterministic, false, shape);
     fill(plan, shape, &words, count, &ta, &td, all, work);

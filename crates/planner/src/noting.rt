@@ -3,14 +3,14 @@ ghost use Rattle.std.specs.Prelude.{◌≡◌, false, ℕ, ◌+◌, ◌-◌, ◌
 ghost use Rattle.shape.specs.declared.shape.Dim.TheVariants.{X, Y};
 ghost use Rattle.shape.specs.Shape.{wrapped_in};
 ghost use Rattle.machine.specs.declared.leg.Mode.TheVariants.{Adaptive};
-ghost use Rattle.machine.specs.Number.{node_count, Inside};
-ghost use Rattle.plan.specs.Layout.{shape_of, weights_of, faults_of};
+ghost use Rattle.machine.specs.Number.{Inside};
+ghost use Rattle.plan.specs.Layout.{weights_of, faults_of};
 ghost use Rattle.dead.specs.Dead.{dead_node};
 ghost use Rattle.rows.specs.Rows.{in_rows};
 ghost use Rattle.search.specs.Outward.{hops_row, rank_at, row_hops, rank_of};
 ghost use Rattle.notes.specs.Known.{is_clear, IsAt, ToBetween, NearLosses, NoteTo};
 ghost use Rattle.first_clear.specs.Known.{NotedBetween, TwoTo};
-ghost use Rattle.planner.specs.Known.{Work, NearRow, Ready, Room, NotesMade, TwosMade};
+ghost use Rattle.planner.specs.Known.{Work, NearRow, Ready, NotesMade, TwosMade};
 ghost use Rattle.planner.specs.Ranked.{Noting, LevelWord, PlaneWord, due_in};
 
 use crate::sifted::sift_row;
@@ -22,7 +22,6 @@ use rows::member::has;
 use rows::next::next_set;
 use search::best::UNCLEAR;
 use search::outward::rows_by_hops;
-use second_via::reach::set_unclear;
 use shape::axis::hops;
 use shape::shape::wrapped;
 use shape::{Coords, Dim, Shape};
@@ -34,13 +33,13 @@ fn note_to(
     plan: &[u8],
     weights: Weights,
     shape: Shape,
-    words: &[u16],
+    words: &[u16; 256],
     count: usize,
-    near: &[u16],
+    near: &[u16; 256],
     nears: usize,
-    dead: &[u8],
-    ta: &[u16],
-    td: &[u16],
+    dead: &[u8; 4096],
+    ta: &[u16; 4608],
+    td: &[u16; 4608],
     work: &[u16],
     source: u16,
     a: Coords,
@@ -77,11 +76,11 @@ fn note_to(
 fn two_to(
     plan: &[u8],
     shape: Shape,
-    words: &[u16],
+    words: &[u16; 256],
     count: usize,
-    dead: &[u8],
-    ta: &[u16],
-    td: &[u16],
+    dead: &[u8; 4096],
+    ta: &[u16; 4608],
+    td: &[u16; 4608],
     work: &[u16],
     source: u16,
     a: Coords,
@@ -90,12 +89,11 @@ fn two_to(
     dest: u16,
     t: Coords,
     run: &[u16; 1024],
-    notes: &[u32],
+    notes: &[u32; 4096],
 ) -> u32
     requires ready { Ready plan.now shape words.now count dead.now ta.now td.now work.now source a fa.now fd.now }
     requires at { IsAt plan.now dest t }
     requires to_between { length work.now ≡ 0 → is_clear plan.now Adaptive source dest ≡ false → dead_node (faults_of plan.now) dest ≡ false → ToBetween plan.now Adaptive source dest run.now 0 }
-    requires plan_in_bounds { node_count (shape_of plan.now) ≤ length notes.now }
     ensures { Work plan.now work.now → NotedBetween plan.now source dest notes.now → is_clear plan.now Adaptive source dest ≡ false → 4096 ≤ get_or notes.now dest 0 → TwoTo plan.now source dest result }
 {
     if has(fa, 0, t) {
@@ -120,13 +118,13 @@ fn note_node(
     plan: &[u8],
     weights: Weights,
     shape: Shape,
-    words: &[u16],
+    words: &[u16; 256],
     count: usize,
-    near: &[u16],
+    near: &[u16; 256],
     nears: usize,
-    dead: &[u8],
-    ta: &[u16],
-    td: &[u16],
+    dead: &[u8; 4096],
+    ta: &[u16; 4608],
+    td: &[u16; 4608],
     work: &[u16],
     source: u16,
     a: Coords,
@@ -135,8 +133,8 @@ fn note_node(
     skip: &[u16; 256],
     t: Coords,
     run: &mut [u16; 1024],
-    notes: &mut [u32],
-    twos: &mut [u32],
+    notes: &mut [u32; 4096],
+    twos: &mut [u32; 4096],
 )
     requires ready { Ready plan.now shape words.now count dead.now ta.now td.now work.now source a fa.now fd.now }
     requires weights_value { weights ≡ weights_of plan.now }
@@ -161,13 +159,13 @@ fn note_word(
     plan: &[u8],
     weights: Weights,
     shape: Shape,
-    words: &[u16],
+    words: &[u16; 256],
     count: usize,
-    near: &[u16],
+    near: &[u16; 256],
     nears: usize,
-    dead: &[u8],
-    ta: &[u16],
-    td: &[u16],
+    dead: &[u8; 4096],
+    ta: &[u16; 4608],
+    td: &[u16; 4608],
     work: &[u16],
     source: u16,
     a: Coords,
@@ -180,8 +178,8 @@ fn note_word(
     r: u8,
     k: u8,
     run: &mut [u16; 1024],
-    notes: &mut [u32],
-    twos: &mut [u32],
+    notes: &mut [u32; 4096],
+    twos: &mut [u32; 4096],
 )
     requires ready { Ready plan.now shape words.now count dead.now ta.now td.now work.now source a fa.now fd.now }
     requires weights_value { weights ≡ weights_of plan.now }
@@ -231,12 +229,12 @@ fn note_row(
     plan: &[u8],
     weights: Weights,
     shape: Shape,
-    words: &[u16],
+    words: &[u16; 256],
     count: usize,
-    near: &mut [u16],
-    dead: &[u8],
-    ta: &[u16],
-    td: &[u16],
+    near: &mut [u16; 256],
+    dead: &[u8; 4096],
+    ta: &[u16; 4608],
+    td: &[u16; 4608],
     work: &[u16],
     source: u16,
     a: Coords,
@@ -248,16 +246,17 @@ fn note_row(
     z: u8,
     r: u8,
     run: &mut [u16; 1024],
-    notes: &mut [u32],
-    twos: &mut [u32],
+    notes: &mut [u32; 4096],
+    twos: &mut [u32; 4096],
 )
-    requires count_in_bounds { count ≤ length near.old }
+    requires near_len { length near.old ≡ 256 }
     requires ready { Ready plan.now shape words.now count dead.now ta.now td.now work.now source a fa.now fd.now }
     requires weights_value { weights ≡ weights_of plan.now }
     requires y_lt_y { (y < shape.y) × (z < shape.z) × (r ≡ row_hops shape a y z) }
     requires by_index { (k : ℕ) → k < 16 → get_or levels.now k 0 ≡ hops_row shape.x (wrapped_in shape X) a.x k }
     requires noting { Noting plan.now work.now source skip.now notes.old twos.old (rank_at r y z 0 0) }
-    ensures { Noting plan.now work.now source skip.now notes.new twos.new (rank_at r y z 16 0) }
+    ensures noting_2 { Noting plan.now work.now source skip.now notes.new twos.new (rank_at r y z 16 0) }
+    ensures near_len_2 { length near.new ≡ 256 }
 {
     let row = 16 * z as usize + y as usize;
     let left = others(skip[row]);
@@ -305,12 +304,12 @@ fn note_plane(
     plan: &[u8],
     weights: Weights,
     shape: Shape,
-    words: &[u16],
+    words: &[u16; 256],
     count: usize,
-    near: &mut [u16],
-    dead: &[u8],
-    ta: &[u16],
-    td: &[u16],
+    near: &mut [u16; 256],
+    dead: &[u8; 4096],
+    ta: &[u16; 4608],
+    td: &[u16; 4608],
     work: &[u16],
     source: u16,
     a: Coords,
@@ -322,16 +321,17 @@ fn note_plane(
     z: u8,
     r: u8,
     run: &mut [u16; 1024],
-    notes: &mut [u32],
-    twos: &mut [u32],
+    notes: &mut [u32; 4096],
+    twos: &mut [u32; 4096],
 )
-    requires count_in_bounds { count ≤ length near.old }
+    requires near_len { length near.old ≡ 256 }
     requires ready { Ready plan.now shape words.now count dead.now ta.now td.now work.now source a fa.now fd.now }
     requires weights_value { weights ≡ weights_of plan.now }
     requires by_index { (k : ℕ) → k < 16 → get_or levels.now k 0 ≡ hops_row shape.x (wrapped_in shape X) a.x k }
     requires z_lt_z { (z < shape.z) × PlaneWord shape a z r word }
     requires noting { Noting plan.now work.now source skip.now notes.old twos.old (65536 * r + 4096 * z) }
-    ensures { Noting plan.now work.now source skip.now notes.new twos.new (65536 * r + 4096 * (z + 1)) }
+    ensures noting_2 { Noting plan.now work.now source skip.now notes.new twos.new (65536 * r + 4096 * (z + 1)) }
+    ensures near_len_2 { length near.new ≡ 256 }
 {
     let mut y = next_set(word, 0);
     while y < 16 {
@@ -348,12 +348,12 @@ fn note_rows(
     plan: &[u8],
     weights: Weights,
     shape: Shape,
-    words: &[u16],
+    words: &[u16; 256],
     count: usize,
-    near: &mut [u16],
-    dead: &[u8],
-    ta: &[u16],
-    td: &[u16],
+    near: &mut [u16; 256],
+    dead: &[u8; 4096],
+    ta: &[u16; 4608],
+    td: &[u16; 4608],
     work: &[u16],
     source: u16,
     a: Coords,
@@ -364,16 +364,17 @@ fn note_rows(
     rows: &[u16; 16],
     r: u8,
     run: &mut [u16; 1024],
-    notes: &mut [u32],
-    twos: &mut [u32],
+    notes: &mut [u32; 4096],
+    twos: &mut [u32; 4096],
 )
-    requires count_in_bounds { count ≤ length near.old }
+    requires near_len { length near.old ≡ 256 }
     requires ready { Ready plan.now shape words.now count dead.now ta.now td.now work.now source a fa.now fd.now }
     requires weights_value { weights ≡ weights_of plan.now }
     requires by_index { (k : ℕ) → k < 16 → get_or levels.now k 0 ≡ hops_row shape.x (wrapped_in shape X) a.x k }
     requires by_index_2 { (k : ℕ) → k < 16 → get_or rows.now k 0 ≡ hops_row shape.y (wrapped_in shape Y) a.y k }
     requires noting { Noting plan.now work.now source skip.now notes.old twos.old (65536 * r) }
-    ensures { Noting plan.now work.now source skip.now notes.new twos.new (65536 * (r + 1)) }
+    ensures noting_2 { Noting plan.now work.now source skip.now notes.new twos.new (65536 * (r + 1)) }
+    ensures near_len_2 { length near.new ≡ 256 }
 {
     let mut z: u8 = 0;
     while z < shape.z {
@@ -387,42 +388,41 @@ fn note_rows(
     }
 }
 
-// Of every node that is not in the set `skip`. `near`: a place for each loss.
-pub fn note_all(
+// Of every node that is not in the set `skip`.
+pub fn notes_from(
     plan: &[u8],
     weights: Weights,
     shape: Shape,
-    words: &[u16],
+    words: &[u16; 256],
     count: usize,
-    near: &mut [u16],
-    dead: &[u8],
-    ta: &[u16],
-    td: &[u16],
+    dead: &[u8; 4096],
+    ta: &[u16; 4608],
+    td: &[u16; 4608],
     work: &[u16],
     source: u16,
     a: Coords,
     fa: &[u16; 256],
     fd: &[u16; 256],
     skip: &[u16; 256],
-    notes: &mut [u32],
-    twos: &mut [u32],
-)
-    requires count_in_bounds { count ≤ length near.old }
-    requires room { Room plan.now notes.old twos.old }
+    twos: &mut [u32; 4096],
+) -> [u32; 4096]
+    requires twos_len { length twos.old ≡ 4096 }
     requires ready { Ready plan.now shape words.now count dead.now ta.now td.now work.now source a fa.now fd.now }
     requires weights_value { weights ≡ weights_of plan.now }
-    ensures { Work plan.now work.now → NotesMade plan.now source skip.now notes.new × TwosMade plan.now source skip.now notes.new twos.new }
+    ensures { Work plan.now work.now → NotesMade plan.now source skip.now result × TwosMade plan.now source skip.now result twos.new }
 {
-    set_unclear(notes);
+    let mut notes = [UNCLEAR; 4096];
     let mut run = [0u16; 1024];
+    let mut near = [0u16; 256];
     let levels = rows_by_hops(shape.x, wrapped(shape, Dim::X), a.x);
     let rows = rows_by_hops(shape.y, wrapped(shape, Dim::Y), a.y);
     let mut r: u8 = 0;
     while r < 31 {
         note_rows(
-            plan, weights, shape, words, count, near, dead, ta, td, work, source, a, fa, fd, skip,
-            &levels, &rows, r, &mut run, notes, twos,
+            plan, weights, shape, words, count, &mut near, dead, ta, td, work, source, a, fa, fd,
+            skip, &levels, &rows, r, &mut run, &mut notes, twos,
         );
         r = r + 1;
     }
+    notes
 }

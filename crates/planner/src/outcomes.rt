@@ -1,29 +1,27 @@
 // What planning answers for every destination of a source.
-ghost use Rattle.std.specs.Prelude.{◌≡◌, false, ℕ, ◌≤◌, length, get_or};
-ghost use Rattle.machine.specs.Number.{node_count};
-ghost use Rattle.plan.specs.Layout.{shape_of, faults_of};
+ghost use Rattle.std.specs.Prelude.{◌≡◌, false, ℕ, get_or};
+ghost use Rattle.plan.specs.Layout.{faults_of};
 ghost use Rattle.plan.specs.Checks.{large};
 ghost use Rattle.dead.specs.Dead.{dead_node};
 ghost use Rattle.planned_sheet.specs.Sheet.{source_error};
 ghost use Rattle.notes.specs.Known.{IsAt};
 ghost use Rattle.first_clear.specs.Known.{Noted};
-ghost use Rattle.planner.specs.Known.{Work, Prepared, Ready, Room, Twos};
+ghost use Rattle.planner.specs.Known.{Work, Prepared, Ready, Twos};
 ghost use Rattle.planner.specs.Outcomes.{no_outcome, outcome_at};
 
 use crate::dest::outcome_to;
-use crate::noting::note_all;
+use crate::noting::notes_from;
 use crate::outside::{At, following};
 use crate::sheets::source_error;
 use choice::Outcome;
-use dead::put_dead_nodes;
-use losses::put_losses;
+use dead::dead_nodes;
+use losses::losses;
 use machine::leg::Mode;
 use machine::node::coords;
 use masks::table::table;
 use notes::sets_of::from_set;
 use packet::Route;
 use plan::layout::{shape_in, weights_in};
-use plan::limits::large;
 use search::best::UNCLEAR;
 use shape::{Coords, Shape};
 
@@ -31,24 +29,22 @@ use shape::{Coords, Shape};
 fn all_outcomes(
     plan: &[u8],
     shape: Shape,
-    words: &[u16],
+    words: &[u16; 256],
     count: usize,
-    dead: &[u8],
-    ta: &[u16],
-    td: &[u16],
+    dead: &[u8; 4096],
+    ta: &[u16; 4608],
+    td: &[u16; 4608],
     work: &[u16],
     source: u16,
     a: Coords,
     fa: &[u16; 256],
     fd: &[u16; 256],
-    notes: &[u32],
-    twos: &[u32],
-    sums: &mut [u32],
+    notes: &[u32; 4096],
+    twos: &[u32; 4096],
 ) -> [Outcome; 4096]
     requires ready { Ready plan.now shape words.now count dead.now ta.now td.now work.now source a fa.now fd.now }
     requires work { Work plan.now work.now }
     requires noted { Noted plan.now source notes.now × Twos plan.now source notes.now twos.now }
-    requires room { Room plan.now notes.now twos.now × (node_count (shape_of plan.now) ≤ length sums.old) }
     ensures { (d : ℕ) → get_or result d no_outcome ≡ outcome_at large plan.now source d }
 {
     let weights = weights_in(plan);
@@ -69,7 +65,7 @@ fn all_outcomes(
         let i = dest as usize;
         outcomes[i] = outcome_to(
             plan, weights, shape, words, count, dead, ta, td, work, source, a, fa, fd, notes, twos,
-            dest, t, sums,
+            dest, t,
         );
         at = following(shape, at);
     }
@@ -80,11 +76,11 @@ fn all_outcomes(
 fn outcomes_by(
     plan: &[u8],
     shape: Shape,
-    words: &[u16],
+    words: &[u16; 256],
     count: usize,
-    dead: &[u8],
-    ta: &[u16],
-    td: &[u16],
+    dead: &[u8; 4096],
+    ta: &[u16; 4608],
+    td: &[u16; 4608],
     work: &[u16],
     source: u16,
     a: Coords,
@@ -97,17 +93,13 @@ fn outcomes_by(
 {
     let fa = from_set(Mode::Adaptive, shape, words, count, a);
     let fd = from_set(Mode::Deterministic, shape, words, count, a);
-    let mut near = [0u16; 256];
-    let mut notes = [UNCLEAR; 4096];
     let mut twos = [UNCLEAR; 4096];
-    let mut sums = [UNCLEAR; 4096];
-    note_all(
+    let notes = notes_from(
         plan,
         weights_in(plan),
         shape,
         words,
         count,
-        &mut near,
         dead,
         ta,
         td,
@@ -117,12 +109,10 @@ fn outcomes_by(
         &fa,
         &fd,
         &fa,
-        &mut notes,
         &mut twos,
     );
     all_outcomes(
         plan, shape, words, count, dead, ta, td, work, source, a, &fa, &fd, &notes, &twos,
-        &mut sums,
     )
 }
 
@@ -132,10 +122,10 @@ fn outcomes_from(plan: &[u8], source: u16) -> [Outcome; 4096]
     ensures { (d : ℕ) → get_or result d no_outcome ≡ outcome_at large plan.now source d }
 {
     let shape = shape_in(plan);
-    let mut words = [0u16; 256];
-    let count = put_losses(plan, &mut words) as usize;
-    let mut dead = [0u8; 4096];
-    put_dead_nodes(plan, &mut dead);
+    let lost = losses(plan);
+    let words = lost.words;
+    let count = lost.count as usize;
+    let dead = dead_nodes(plan);
     let ta = table(Mode::Adaptive, false, shape);
     let td = table(Mode::Deterministic, false, shape);
     let none = [0u16; 0];
@@ -157,7 +147,7 @@ fn outcomes_from(plan: &[u8], source: u16) -> [Outcome; 4096]
 pub fn outcomes(plan: &[u8], source: u16) -> [Outcome; 4096]
     ensures { (d : ℕ) → get_or result d no_outcome ≡ outcome_at large plan.now source d }
 {
-    if source_error(large(), plan, source) != 0 {
+    if source_error(plan, source) != 0 {
         return [Outcome::Given(Route::Direct(Mode::Adaptive), 0); 4096];
     }
     outcomes_from(plan, source)

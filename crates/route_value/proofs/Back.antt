@@ -10,7 +10,7 @@ use Rattle.sheet.specs.declared.output.Written.TheVariants.{Bytes, Refused}
 use Rattle.sheet.specs.Output as Output
 use Rattle.sheet.specs.Output.{out_after}
 use Rattle.sheet.proofs.Outputs.{refused, unread, no_room, room}
-use Rattle.plan.specs.declared.limits.Limits.{Limits}
+use Rattle.plan.specs.Checks.{Limits}
 use Rattle.routes.specs.Layout.{written, entry_count, entry_place, most_entries}
 use Rattle.routes.specs.Checks.{sheet_error}
 use Rattle.route_value.specs.Writing.{rewritten, back_error}

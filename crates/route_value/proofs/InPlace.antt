@@ -14,7 +14,7 @@ use Rattle.sheet.specs.Output as Output
 use Rattle.sheet.specs.Output.{room_error, out_after}
 use Rattle.sheet.specs.Records.{records_bytes}
 use Rattle.routes.specs.declared.layout.Entry.{Entry}
-use Rattle.routes.specs.Layout.{written, entry_form, entries_at, entry_place, most_entries}
+use Rattle.routes.specs.Layout.{written, entry_form, entries_at, entry_place, most_entries, most_bytes}
 use Rattle.route_value.specs.Writing.{sheet_bytes}
 use Rattle.route_value.specs.Steps.{put_head, put_entry}
 use Rattle.route_value.specs.Making.{Holds, Added, PutMade}
@@ -38,12 +38,12 @@ take_row vs l i h =
     rw (sets-eq vs l i h) (take_at (take i l ++ vs) _ (i + length vs) n)
 
 -- ---- the entries
-pub none_held : (n : ℕ) (bytes : List ℕ) → entry_place written n ≤ length bytes → Holds n [] bytes
+pub none_held : (bytes : List ℕ) → most_bytes ≤ length bytes → Holds [] bytes
 unfolding records_bytes
-none_held n bytes h = record { room = h; entries = refl }
+none_held bytes h = record { room = h; entries = refl }
 
 pub added : (bytes after : List ℕ) (i : ℕ) (e : Entry) → after ≡ put_entry bytes i e → Added bytes i e after
-added bytes after i e q most es g n l h =
+added bytes after i e q es g n h =
     let vs = entry_form.bytes e in
     let rest = drop entries_at bytes in
     let k : after ≡ sets bytes (entry_place written i) vs = q ∙ entry_row bytes i e in
@@ -63,10 +63,10 @@ added bytes after i e q most es g n l h =
 
 -- Past the entries of a sheet, or of the bytes, nothing is put.
 pub no_entry_law : (bytes : List ℕ) (i : ℕ) (e : Entry) → most_entries ≤ i → Added bytes i e bytes
-no_entry_law bytes i e m most es g n l h = absurd (omega arith)
+no_entry_law bytes i e m es g n h = absurd (omega arith)
 
 pub no_place : (bytes : List ℕ) (i : ℕ) (e : Entry) → length bytes < entry_place written i + 7 → Added bytes i e bytes
-no_place bytes i e m most es g n l h = absurd (omega (arith, g.room))
+no_place bytes i e m es g n h = absurd (omega (arith, g.room))
 
 -- ---- the sheet
 left : (k : ℕ) (s o t : List ℕ) (w : Written) (n : ℕ) → (w ≡ Output.written k s) × (t ≡ out_after k s o) → w ≡ Refused n → t ≡ o
@@ -88,15 +88,15 @@ within s o w n put r = by_le (length s) (length o)
 
 module _ (S count : ℕ) (bytes o : List ℕ) where
   pub too_many : most_entries < count → PutMade S count bytes o (Refused wrong_route_sheet) o
-  too_many h = record { many = λ _. (refl, refl); short = λ _. (refl, refl); refused = λ n r. refl; fits = λ n r. refused_bytes wrong_route_sheet n r; made = λ most es g n l m. absurd (omega arith) }
+  too_many h = record { many = λ _. (refl, refl); short = λ _. (refl, refl); refused = λ n r. refl; fits = λ n r. refused_bytes wrong_route_sheet n r; made = λ es g n m. absurd (omega arith) }
 
   pub too_short : length bytes < entry_place written count → PutMade S count bytes o (Refused wrong_route_sheet) o
-  too_short h = record { many = λ _. (refl, refl); short = λ _. (refl, refl); refused = λ n r. refl; fits = λ n r. refused_bytes wrong_route_sheet n r; made = λ most es g n l m. absurd (omega (arith, g.room)) }
+  too_short h = record { many = λ _. (refl, refl); short = λ _. (refl, refl); refused = λ n r. refl; fits = λ n r. refused_bytes wrong_route_sheet n r; made = λ es g n m. absurd (omega (arith, g.room)) }
 
   module _ (head : List ℕ) (q : head ≡ put_head bytes S count) where
-    front : (most : ℕ) (es : List Entry) → Holds most es bytes → length es ≡ count → take (entry_place written count) head ≡ sheet_bytes S es
+    front : (es : List Entry) → Holds es bytes → length es ≡ count → take (entry_place written count) head ≡ sheet_bytes S es
     unfolding sheet_bytes
-    front most es g n =
+    front es g n =
         let k : take (7 * count) (drop entries_at bytes) ≡ records_bytes entry_form es = rw n at g.entries in
         ap (take (entry_place written count)) q
         ∙ take-add entries_at (7 * count) (put_head bytes S count)
@@ -111,5 +111,5 @@ module _ (S count : ℕ) (bytes o : List ℕ) where
       short = λ h. absurd (omega arith);
       refused = λ n r. left (room_error 0 (take (entry_place written count) head) o) (take (entry_place written count) head) o t w n put r;
       fits = λ n r. within (take (entry_place written count) head) o w n put.0 r;
-      made = λ most es g n _ _. rw (front most es g n) at put;
+      made = λ es g n _. rw (front es g n) at put;
     }

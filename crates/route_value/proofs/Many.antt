@@ -16,8 +16,7 @@ use Rattle.sheet.proofs.Outputs.{unread}
 use Rattle.shape.specs.declared.shape.Shape.{Shape}
 use Rattle.machine.specs.Node.{is_node}
 use Rattle.plan.specs.Layout.{shape_of}
-use Rattle.plan.specs.declared.limits.Limits.{Limits}
-use Rattle.plan.specs.Checks.{plan_error}
+use Rattle.plan.specs.Checks.{Limits, plan_error}
 use Rattle.routes.specs.Layout.{format_of, entries_in, source, entry_count, entry_at, no_entry, most_entries}
 use Rattle.routes.specs.Kinds.{via_kind, vias_kind, plain_kind}
 use Rattle.routes.specs.Checks.{head_good, via_good, entry_good, entries_good, routes_good, good_in, sheet_good, error_in, sheet_error}

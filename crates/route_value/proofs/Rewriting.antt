@@ -12,7 +12,7 @@ use Rattle.sheet.proofs.Records.{word_below, array_first, array_from, front}
 use Rattle.sheet.proofs.Heads.{word_same, front_same}
 use Rattle.sheet.proofs.Forms.{records_same}
 use Rattle.plan.specs.Layout.{shape_of}
-use Rattle.plan.specs.declared.limits.Limits.{Limits}
+use Rattle.plan.specs.Checks.{Limits}
 use Rattle.routes.specs.declared.layout.Format.{Format}
 use Rattle.routes.specs.Layout.{EntryFits, format_of, format_by, written, source, entry_count, entries_at, entry_place, entry_form, second_via, entry_read, entry_at, entries_of, size_after, no_entry, most_entries}
 use Rattle.routes.specs.Checks.{sheet_error}

@@ -18,8 +18,7 @@ use Rattle.sheet.proofs.Outputs.{same_bytes}
 use Rattle.sheet.proofs.RoundTrips.{after_writing}
 use Rattle.plan.specs.declared.reading.Answer.TheVariants.{Accepted}
 use Rattle.plan.specs.Layout.{shape_of}
-use Rattle.plan.specs.declared.limits.Limits.{Limits}
-use Rattle.plan.specs.Checks.{large, plan_error}
+use Rattle.plan.specs.Checks.{Limits, large, plan_error}
 use Rattle.plan.specs.Worked.{W}
 use Rattle.plan.proofs.Worked as Plan
 use Rattle.routes.specs.declared.layout.Entry.{Entry}

@@ -6,8 +6,7 @@ use mathlib.Core.Bool.{true}
 use mathlib.Core.List.{List}
 use Rattle.machine.specs.Node.{is_node}
 use Rattle.plan.specs.Layout.{shape_of}
-use Rattle.plan.specs.declared.limits.Limits.{Limits}
-use Rattle.plan.specs.Checks.{plan_error}
+use Rattle.plan.specs.Checks.{Limits, plan_error}
 use Rattle.choice.specs.Answer.{answered}
 use Rattle.routes.specs.declared.layout.Entry.{Entry}
 use Rattle.routes.specs.Checks.{routes_good, error_in, sheet_error}

@@ -6,18 +6,18 @@ use Rattle.sheet.specs.declared.output.Written.TheVariants.{Bytes, Refused}
 use Rattle.sheet.specs.Output.{room_error, written, out_after}
 use Rattle.sheet.specs.Records.{records_bytes}
 use Rattle.routes.specs.declared.layout.Entry.{Entry}
-use Rattle.routes.specs.Layout.{entry_form, entry_place, entries_at, most_entries}
+use Rattle.routes.specs.Layout.{entry_form, entry_place, entries_at, most_entries, most_bytes}
 use Rattle.routes.specs.Layout as Layout
 use Rattle.route_value.specs.Writing.{sheet_bytes}
 
--- Bytes with room for a sheet of n entries hold these entries, in the places of a sheet's first.
-pub record Holds (n : ℕ) (es : List Entry) (bytes : List ℕ) : Type 0 where
-  pub room : entry_place Layout.written n ≤ length bytes
+-- Bytes with room for any sheet hold these entries, in the places of a sheet's first.
+pub record Holds (es : List Entry) (bytes : List ℕ) : Type 0 where
+  pub room : most_bytes ≤ length bytes
   pub entries : take (entry_form.size * length es) (drop entries_at bytes) ≡ records_bytes entry_form es
 
 -- Entry number i is put behind those that the bytes hold.
 abbrev pub Added : List ℕ → ℕ → Entry → List ℕ → Type 0
-Added bytes i e after = (n : ℕ) (es : List Entry) → Holds n es bytes → length es ≡ i → i < n → i < most_entries → Holds n (es ++ (e ∷ [])) after
+Added bytes i e after = (es : List Entry) → Holds es bytes → length es ≡ i → i < most_entries → Holds (es ++ (e ∷ [])) after
 
 -- The answer w to putting the sheet of the entries that the bytes hold, and the output t afterwards: a refusal leaves it.
 pub record PutMade (S count : ℕ) (bytes o : List ℕ) (w : Written) (t : List ℕ) : Type 0 where
@@ -26,5 +26,5 @@ pub record PutMade (S count : ℕ) (bytes o : List ℕ) (w : Written) (t : List 
   pub refused : (n : ℕ) → w ≡ Refused n → t ≡ o
   pub fits : (n : ℕ) → w ≡ Bytes n → n ≤ length o
   pub made :
-      (n : ℕ) (es : List Entry) → Holds n es bytes → length es ≡ count → count ≤ n → count ≤ most_entries →
+      (es : List Entry) → Holds es bytes → length es ≡ count → count ≤ most_entries →
       (w ≡ written (room_error 0 (sheet_bytes S es) o) (sheet_bytes S es)) × (t ≡ out_after (room_error 0 (sheet_bytes S es) o) (sheet_bytes S es) o)

@@ -4,7 +4,7 @@ use Rattle.sheet.specs.Bytes.{upper_byte, lower_byte, word_bytes, list_from}
 use Rattle.sheet.specs.Head.{front_bytes}
 use Rattle.sheet.specs.Records.{records_bytes}
 use Rattle.sheet.specs.Output.{room_error}
-use Rattle.plan.specs.declared.limits.Limits.{Limits}
+use Rattle.plan.specs.Checks.{Limits}
 use Rattle.routes.specs.declared.layout.Entry.{Entry}
 use Rattle.routes.specs.Layout.{written, entry_form, size_after, no_entry, source, entries_of}
 use Rattle.routes.specs.Checks.{sheet_error}

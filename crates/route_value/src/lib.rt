@@ -2,10 +2,8 @@
 mod encode;
 mod making;
 mod reading;
-mod small;
 mod writing;
 
 pub use making::{put_made, set_entry};
 pub use reading::{Reading, Routes, read};
-pub use small::{SmallReading, SmallRoutes, read_small};
 pub use writing::{write, write_back};

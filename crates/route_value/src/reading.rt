@@ -6,7 +6,6 @@ ghost use Rattle.routes.specs.Checks.{sheet_error};
 ghost use Rattle.route_value.specs.Reading.{entry_array, reading};
 
 use plan::Answer;
-use plan::limits::large;
 use routes::layout::{MOST_ENTRIES, count_in, entry_in, source_in};
 use routes::{Entry, check};
 
@@ -27,7 +26,7 @@ pub struct Reading {
 // The entries of an accepted sheet, and zeros past them.
 fn entries_in(sheet: &[u8]) -> [Entry; MOST_ENTRIES]
     requires { entry_count sheet.now ≤ most_entries }
-    ensures { result ≡ entry_array most_entries sheet.now }
+    ensures { result ≡ entry_array sheet.now }
 {
     let count = count_in(sheet) as usize;
     let mut entries = [Entry {
@@ -47,7 +46,7 @@ fn entries_in(sheet: &[u8]) -> [Entry; MOST_ENTRIES]
 pub fn read(plan: &[u8], sheet: &[u8]) -> Reading
     ensures { result ≡ reading (sheet_error large plan.now sheet.now) sheet.now }
 {
-    let error = check(large(), plan, sheet);
+    let error = check(plan, sheet);
     if error != 0 {
         let none = [Entry {
             dest: 0,

@@ -8,8 +8,6 @@ use crate::encode::{encode, encode_again};
 use crate::reading::Routes;
 use logic::pick;
 use numbers::{OUTPUT_SHORT, WRONG_ROUTE_SHEET};
-use plan::Limits;
-use plan::limits::large;
 use routes::check;
 use routes::layout::{ENTRIES_AT, ENTRY_SIZE, MOST_ENTRIES, SHEET_BYTES, count_in};
 use sheet::output::{Written, put_sheet};
@@ -21,7 +19,7 @@ fn write_front(plan: &[u8], bytes: &[u8], end: usize, out: &mut [u8]) -> Written
     ensures out_after { out.new ≡ out_after (write_error large plan.now (take end bytes.now) out.old) (take end bytes.now) out.old }
 {
     let sheet = &bytes[..end];
-    put_sheet(sheet, check(large(), plan, sheet), out)
+    put_sheet(sheet, check(plan, sheet), out)
 }
 
 // The sheet of routes: what a check declines the sheet with, then 12.
@@ -40,11 +38,11 @@ pub fn write(plan: &[u8], routes: Routes, out: &mut [u8]) -> Written
 }
 
 // The sheet, of either version, in the format that is written: the plan's checks, 13, then 12.
-pub fn write_back(limits: Limits, plan: &[u8], sheet: &[u8], out: &mut [u8]) -> Written
-    ensures value { result ≡ written (back_error limits plan.now sheet.now out.old) (rewritten sheet.now) }
-    ensures out_after { out.new ≡ out_after (back_error limits plan.now sheet.now out.old) (rewritten sheet.now) out.old }
+pub fn write_back(plan: &[u8], sheet: &[u8], out: &mut [u8]) -> Written
+    ensures value { result ≡ written (back_error large plan.now sheet.now out.old) (rewritten sheet.now) }
+    ensures out_after { out.new ≡ out_after (back_error large plan.now sheet.now out.old) (rewritten sheet.now) out.old }
 {
-    let error = check(limits, plan, sheet);
+    let error = check(plan, sheet);
     if error != 0 {
         return Written::Refused(error);
     }

@@ -5,4 +5,3 @@ pub mod Lookups
 pub mod Rising
 pub mod Listed
 pub mod Saying
-pub mod Alike

@@ -22,15 +22,13 @@ use Rattle.weights.specs.declared.weights.Weights.{Weights}
 use Rattle.weights.specs.Weights.{weight_error}
 use Rattle.weights.specs.Distance.{distance, distance_answer}
 use Rattle.plan.specs.Layout.{shape_of, weights_of}
-use Rattle.plan.specs.declared.limits.Limits.{Limits}
-use Rattle.plan.specs.Checks.{torus_plans}
+use Rattle.plan.specs.Checks.{Limits, torus_plans}
 use Rattle.plan.proofs.Plans as Plans
 use Rattle.packet.specs.declared.route.Route.{Route}
 use Rattle.choice.specs.declared.outcome.Outcome.{Outcome}
 use Rattle.choice.specs.Answer.{Given, answered}
 use Rattle.choice.specs.Outcome.{told, told_as}
 use Rattle.choice.specs.Pair.{far_in}
-use Rattle.choice.proofs.Refusals.{refused_told}
 use Rattle.routes.specs.declared.layout.Entry.{Entry}
 use Rattle.routes.specs.declared.lookup.Part.{Part}
 use Rattle.routes.specs.declared.route.Found.{Found}
@@ -153,8 +151,12 @@ FoundGood m S Missing = Unit {0}
 
 module _ (L : Limits) (p s : List ℕ) (d : ℕ) where
   pub refused : (e : ℕ) → e ≡ lookup_error L p s d → (e ≡ 0 → ⊥) → Outcome.Refused e ≡ told (far_in p) (source s) (says L p s d)
-  unfolding says
-  refused e h n = rw (← h) (refused_told (far_in p) (source s) e (says_of (entries_of s) d) n)
+  unfolding says told told_as answered
+  refused e h n = rw (← h) (go e n)
+    where
+      go : (k : ℕ) → (k ≡ 0 → ⊥) → Outcome.Refused k ≡ told (far_in p) (source s) (answered k (says_of (entries_of s) d))
+      go zero n = absurd (n refl)
+      go (suc k) n = refl
 
   module _ (h : lookup_error L p s d ≡ 0) where
     abbrev w : Weights

@@ -107,7 +107,6 @@ module _ (m : Shape) (S : ℕ) where
 -- Routes that check 13 accepts.
 pub record Routed (m : Shape) (S : ℕ) (es : List Entry) : Type 0 where
   pub source : S < 65536
-  pub others : length es < node_count m
   pub few : length es ≤ most_entries
   pub fit : AllFit es
   pub rising : Rising 0 es
@@ -120,4 +119,4 @@ routed m S es h =
     let most = count_most m n.sound in
     let below = n.below in
     let r = (room m S below es 0 (omega arith) p.1).1 (omega arith) in
-    record { source = omega arith; others = omega arith; few = omega arith; fit = fit m S most es 0 p.1; rising = rising m S es 0 p.1 }
+    record { source = omega arith; few = omega arith; fit = fit m S most es 0 p.1; rising = rising m S es 0 p.1 }

@@ -14,8 +14,7 @@ use Rattle.theory.proofs.Bools.{and_true}
 use Rattle.sheet.specs.Head.{version, length_field}
 use Rattle.sheet.proofs.Heads.{length_field_law, length_sheet}
 use Rattle.plan.specs.Layout.{shape_of}
-use Rattle.plan.specs.declared.limits.Limits.{Limits}
-use Rattle.plan.specs.Checks.{plan_error}
+use Rattle.plan.specs.Checks.{Limits, plan_error}
 use Rattle.routes.specs.declared.layout.Format.{Format}
 use Rattle.routes.specs.Layout.{format_of, source, entry_count, entries_at, entry_size, entry_place, entry_at, entries_in, entries_of, size_after}
 use Rattle.routes.specs.Checks.{head_good, routes_good, good_in, error_in, sheet_error}

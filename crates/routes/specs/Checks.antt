@@ -7,8 +7,7 @@ use Rattle.sheet.specs.Head.{version, length_is}
 use Rattle.shape.specs.declared.shape.Shape.{Shape}
 use Rattle.machine.specs.Node.{is_node}
 use Rattle.plan.specs.Layout.{shape_of}
-use Rattle.plan.specs.declared.limits.Limits.{Limits}
-use Rattle.plan.specs.Checks.{plan_error}
+use Rattle.plan.specs.Checks.{Limits, plan_error}
 use Rattle.routes.specs.declared.layout.Format.{Format}
 use Rattle.routes.specs.declared.layout.Entry.{Entry}
 use Rattle.routes.specs.Layout.{format_of, source, entry_count, entries_at, entries_in, size_after}

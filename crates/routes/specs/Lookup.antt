@@ -5,7 +5,7 @@ use Rattle.numbers.specs.Numbers.{node_outside}
 use Rattle.theory.specs.Checks.{declined, ◌then◌}
 use Rattle.machine.specs.Node.{is_node}
 use Rattle.plan.specs.Layout.{shape_of}
-use Rattle.plan.specs.declared.limits.Limits.{Limits}
+use Rattle.plan.specs.Checks.{Limits}
 use Rattle.routes.specs.declared.layout.Entry.{Entry}
 use Rattle.routes.specs.declared.lookup.Part.{Part}
 use Rattle.routes.specs.Layout.{format_of, entry_count, entry_size, entry_place, entries_of}

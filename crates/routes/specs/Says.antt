@@ -3,7 +3,7 @@ use Rattle.std.specs.Prelude.{ℕ, cond, List, [], ◌∷◌, eqb}
 use Rattle.machine.specs.declared.leg.Mode.TheVariants.{Adaptive}
 use Rattle.machine.specs.Torus.{leg}
 use Rattle.choice.specs.Answer.{Answer, Given, answered}
-use Rattle.plan.specs.declared.limits.Limits.{Limits}
+use Rattle.plan.specs.Checks.{Limits}
 use Rattle.routes.specs.declared.layout.Entry.{Entry}
 use Rattle.routes.specs.Layout.{entries_of}
 use Rattle.routes.specs.Said.{said_by}

@@ -1,5 +1,6 @@
 // The plan's checks, then 13; 0 where none declines.
 ghost use Rattle.std.specs.Prelude.{◌≡◌, not, ◌&&◌, eqb};
+ghost use Rattle.plan.specs.Checks.{large};
 ghost use Rattle.routes.specs.Layout.{entries_of};
 ghost use Rattle.routes.specs.Checks.{head_good, is_via, via_good, entry_good, next_good, entries_good, sheet_good, sheet_error};
 
@@ -11,7 +12,6 @@ use logic::{both, pick};
 use machine::node::is_node;
 use numbers::WRONG_ROUTE_SHEET;
 use plan::layout::shape_in;
-use plan::{Limits, check_within};
 use shape::Shape;
 use sheet::head::{length_is, version_in};
 
@@ -99,11 +99,11 @@ fn sheet_good(shape: Shape, sheet: &[u8]) -> bool
     both(is_node(shape, source), entries_good(sheet, shape, source))
 }
 
-// The number of the first check that declines the sheet under the plan, of a caller with these limits; 0 where none does.
-pub fn check(limits: Limits, plan: &[u8], sheet: &[u8]) -> u8
-    ensures { result ≡ sheet_error limits plan.now sheet.now }
+// The number of the first check that declines the sheet under the plan; 0 where none does.
+pub fn check(plan: &[u8], sheet: &[u8]) -> u8
+    ensures { result ≡ sheet_error large plan.now sheet.now }
 {
-    let error = check_within(limits, plan);
+    let error = plan::check(plan);
     let wrong = pick(sheet_good(shape_in(plan), sheet), 0, WRONG_ROUTE_SHEET);
     pick(error == 0, wrong, error)
 }

@@ -1,5 +1,6 @@
 // Looking up a destination: its entry as the very bytes of the lent sheet, seven of version 3, five of version 2.
 ghost use Rattle.std.specs.Prelude.{◌≡◌, ◌+◌, ◌≤◌, length};
+ghost use Rattle.plan.specs.Checks.{large};
 ghost use Rattle.routes.specs.Layout.{entries_of};
 ghost use Rattle.routes.specs.Lookup.{find, lookup_error, PartOf, part_start, part_length, part_for};
 
@@ -8,14 +9,13 @@ use crate::layout::{count_in, entry_in, entry_place, entry_size, format_in};
 use logic::pick;
 use machine::node::is_node;
 use numbers::NODE_OUTSIDE;
-use plan::Limits;
 use plan::layout::shape_in;
 
 // The plan's checks, 13, then 9.
-pub fn lookup_error(limits: Limits, plan: &[u8], sheet: &[u8], dest: u16) -> u8
-    ensures { result ≡ lookup_error limits plan.now sheet.now dest }
+pub fn lookup_error(plan: &[u8], sheet: &[u8], dest: u16) -> u8
+    ensures { result ≡ lookup_error large plan.now sheet.now dest }
 {
-    let error = check(limits, plan, sheet);
+    let error = check(plan, sheet);
     let outside = pick(is_node(shape_in(plan), dest), 0, NODE_OUTSIDE);
     pick(error == 0, outside, error)
 }
@@ -44,11 +44,11 @@ pub struct Part {
 }
 
 // Of the destination's entry; none, at the sheet's start, where it is not listed or the lookup is declined.
-pub fn entry_part(limits: Limits, plan: &[u8], sheet: &[u8], dest: u16) -> Part
-    ensures value { result ≡ part_for limits plan.now sheet.now dest }
+pub fn entry_part(plan: &[u8], sheet: &[u8], dest: u16) -> Part
+    ensures value { result ≡ part_for large plan.now sheet.now dest }
     ensures size_in_bounds { result.start + result.size ≤ length sheet.now }
 {
-    if lookup_error(limits, plan, sheet, dest) != 0 {
+    if lookup_error(plan, sheet, dest) != 0 {
         return Part { start: 0, size: 0 };
     }
     let i = find_entry(sheet, dest);
@@ -64,10 +64,10 @@ pub fn entry_part(limits: Limits, plan: &[u8], sheet: &[u8], dest: u16) -> Part
 }
 
 // The entry as its very bytes in the lent sheet.
-pub fn lookup<'a>(limits: Limits, plan: &[u8], sheet: &'a [u8], dest: u16) -> &'a [u8]
-    ensures { PartOf sheet.entry result (part_start limits plan.now sheet.now dest) (part_length limits plan.now sheet.now dest) }
+pub fn lookup<'a>(plan: &[u8], sheet: &'a [u8], dest: u16) -> &'a [u8]
+    ensures { PartOf sheet.entry result (part_start large plan.now sheet.now dest) (part_length large plan.now sheet.now dest) }
 {
-    let part = entry_part(limits, plan, sheet, dest);
+    let part = entry_part(plan, sheet, dest);
     let start = part.start;
     let end = start + part.size;
     &sheet[start..end]

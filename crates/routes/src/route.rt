@@ -1,5 +1,6 @@
 // What a sheet says of a destination. It answers from the sheet alone and never judges its routes against the faults.
 ghost use Rattle.std.specs.Prelude.{◌≡◌};
+ghost use Rattle.plan.specs.Checks.{large};
 ghost use Rattle.choice.specs.Outcome.{told};
 ghost use Rattle.choice.specs.Pair.{far_in};
 ghost use Rattle.routes.specs.Layout.{source};
@@ -12,7 +13,6 @@ use crate::lookup::{find_entry, lookup_error};
 use choice::Outcome;
 use machine::leg::Mode;
 use packet::Route;
-use plan::Limits;
 use plan::layout::{shape_in, weights_in};
 use shape::Shape;
 use weights::Weights;
@@ -65,10 +65,10 @@ fn length_by(weights: Weights, shape: Shape, source: u16, e: Entry) -> u16
 }
 
 // The route with its length, or 10 or 11 for an entry of kind 160 or 176, or the number with which the lookup is declined.
-pub fn route(limits: Limits, plan: &[u8], sheet: &[u8], dest: u16) -> Outcome
-    ensures { result ≡ told (far_in plan.now) (source sheet.now) (says limits plan.now sheet.now dest) }
+pub fn route(plan: &[u8], sheet: &[u8], dest: u16) -> Outcome
+    ensures { result ≡ told (far_in plan.now) (source sheet.now) (says large plan.now sheet.now dest) }
 {
-    let error = lookup_error(limits, plan, sheet, dest);
+    let error = lookup_error(plan, sheet, dest);
     if error != 0 {
         return Outcome::Refused(error);
     }

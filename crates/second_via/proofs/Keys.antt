@@ -44,7 +44,6 @@ row_node s h v = row_number_law s (coords_of s v) ∙ number_coords s h v
 
 pub record First (s : Shape) (y z first : ℕ) : Type 0 where
   pub is : first ≡ first_of s y z
-  pub within : first + s.x ≤ node_count s
   pub fits : first + s.x ≤ 4096
 
 pub first_is : (s : Shape) → shape_error s ≡ 0 → (y z first : ℕ) → y < s.y → z < s.z → first ≡ number_of s (record { x = 0; y = y; z = z }) % 65536 → First s y z first
@@ -54,8 +53,7 @@ first_is s h y z first hy hz e =
     let i : Inside s (record { x = 0; y = y; z = z }) = record { x = omega arith; y = hy; z = hz } in
     let q : first ≡ first_of s y z = e ∙ number_fits s h (record { x = 0; y = y; z = z }) i ∙ omega arith in
     let l = number_below s h (record { x = s.x - 1; y = y; z = z }) (record { x = omega arith; y = hy; z = hz }) in
-    let w : first + s.x ≤ node_count s = omega (arith, l) in
-    record { is = q; within = w; fits = omega (arith, w, count_all s h) }
+    record { is = q; fits = omega (arith, l, count_all s h) }
 
 pub row_at : (len word first start : ℕ) (values : List ℕ) (best r : ℕ) → first ≡ start → Lowers best r (RowKeys len word first values) → Lowers best r (RowKeys len word start values)
 row_at len word first start values best r e w = rw e at w

@@ -1,15 +1,13 @@
 -- The sums of all planes are what each node reaches.
 use Prim.Native.Nat.{ℕ, ◌+◌, ◌*◌, ◌≤◌, ◌<◌}
 use native.Mathlib.Omega.{arith}
-use native.Mathlib.Decide.{ℕ_discrete}
 use mathlib.Core.Path.{◌≡◌, refl, sym, ◌∙◌}
 use mathlib.Core.Logic.{⊎_elim}
 use mathlib.Core.Bool.{Bool, true, false}
 use mathlib.Core.List.{List}
 use lib.Bits.{bit_and}
 use lib.Dec.{ltb}
-use lib.ListN.{length, get_or, set, length-set}
-use lib.Seq.{get_or-set_same, get_or-set_other}
+use lib.ListN.{length, get_or, replicate, get_or-replicate}
 use borrow.Author.Tests.{lt-ltb, le-ltb, ltb-true}
 use Rattle.theory.proofs.Bools.{and_true}
 use Rattle.theory.proofs.Cases.{test}
@@ -31,7 +29,7 @@ use Rattle.search.specs.Number.{unclear, det_of}
 use Rattle.search.specs.PartOf.{PartsOf}
 use Rattle.search.proofs.AllVias.{asks, length_parts}
 use Rattle.search.proofs.Seeking.{clash, in_run}
-use Rattle.second_via.specs.Nodes.{sum_of, AllUnclear, Stored, RowSums, SpaceSums}
+use Rattle.second_via.specs.Nodes.{sum_of, Stored, RowSums, SpaceSums}
 use Rattle.second_via.specs.Reach.{reaches, reach_in}
 use Rattle.second_via.proofs.Going.{all_at}
 use Rattle.second_via.proofs.Keys.{row_number_law, row_node}
@@ -50,34 +48,16 @@ pub a_sum : (note len : ℕ) (adaptive : Bool) (mode : ℕ) → note < unclear �
 unfolding sum_of
 a_sum note len adaptive mode l e = rw (lt-ltb note unclear l, e)
 
--- The array is `unclear` in its first i places.
-pub record Clearing (old : List ℕ) (i : ℕ) (new : List ℕ) : Type 0 where
-  pub long : length new ≡ length old
-  pub some : i ≤ length old
-  pub each : (v : ℕ) → v < i → get_or new v 0 ≡ unclear
-
-pub clear_none : (old : List ℕ) → Clearing old 0 old
-clear_none old = record { long = refl; some = omega arith; each = λ v l. absurd (omega arith) }
-
-pub clear_next : (old : List ℕ) (i : ℕ) (new : List ℕ) → i < length old → Clearing old i new → Clearing old (i + 1) (set new i unclear)
-clear_next old i new l p = record { long = length-set new i unclear ∙ p.long; some = omega arith; each = λ v k. go v k (ℕ_discrete v i) }
-  where
-    go : (v : ℕ) → v < i + 1 → Dec (v ≡ i) → get_or (set new i unclear) v 0 ≡ unclear
-    go v k (yes e) = rw e (get_or-set_same new i unclear 0 (omega (arith, p.long)))
-    go v k (no e) = get_or-set_other new i v unclear 0 e ∙ p.each v (omega (arith, e))
-
-pub all_clear : (old : List ℕ) (i : ℕ) (new : List ℕ) → length old ≤ i → Clearing old i new → AllUnclear old new
-all_clear old i new l p = record { long = p.long; each = λ v k. p.each v (omega arith) }
-
-pub unclear_now : (old new : List ℕ) → AllUnclear old new → (w : ℕ) → w < length new → get_or new w 0 ≡ unclear
-unclear_now old new u w l = u.each w (omega (arith, u.long))
+-- An array that is `unclear` throughout.
+pub all_unclear : (w : ℕ) → w < 4096 → get_or (replicate 4096 unclear) w 0 ≡ unclear
+all_unclear w l = get_or-replicate 4096 w unclear 0 l
 
 -- What is not asked.
 pub unreached :
     (k : Weights) (s : Shape) (A T : Coords) (bx by bz : ℕ) (notes to : List ℕ) (at : ℕ) → askable k s A T (length to) at ≡ false →
-    (old new : List ℕ) → AllUnclear old new → node_count s ≤ length old → (w : ℕ) → w < node_count s → get_or new w 0 ≡ reach_in k s A T bx by bz notes to at w
+    (w : ℕ) → w < 4096 → get_or (replicate 4096 unclear) w 0 ≡ reach_in k s A T bx by bz notes to at w
 unfolding reach_in reaches
-unreached k s A T bx by bz notes to at e old new u room w l = u.each w (omega arith) ∙ rw e
+unreached k s A T bx by bz notes to at e w l = all_unclear w l ∙ rw e
 
 module _
     (k : Weights) (s : Shape) (A T : Coords) (bx by bz : ℕ) (notes to : List ℕ) (at : ℕ) (ask : askable k s A T (length to) at ≡ true) (xs ys zs : List ℕ)
@@ -137,19 +117,20 @@ module _
       (record { at = sym e; sum = rw (e, length_is_law (coords_of s w) i, in_run to at (at + (16 * (coords_of s w).z + (coords_of s w).y)) (coords_of s w) refl) })))
 
   -- The array that was `unclear` throughout.
-  module _ (old new : List ℕ) (stored : Stored old new (SpaceSums s xs ys zs bx by bz notes to at)) (room : node_count s ≤ length old) (empty : (w : ℕ) → w < length old → get_or old w 0 ≡ unclear) where
-    outside : (w : ℕ) → w < node_count s → unclear ≡ reach_in k s A T bx by bz notes to at w → ((n : ℕ) → Meets w n → ⊥) → get_or new w 0 ≡ reach_in k s A T bx by bz notes to at w
-    outside w l e not-met = ⊎_elim (λ q. q ∙ empty w (omega arith) ∙ e) (λ p. absurd (not-met _ (there w _ p))) (stored.other w (omega arith))
+  module _ (old new : List ℕ) (stored : Stored old new (SpaceSums s xs ys zs bx by bz notes to at)) (long : length old ≡ 4096) (empty : (w : ℕ) → w < 4096 → get_or old w 0 ≡ unclear) where
+    outside : (w : ℕ) → w < 4096 → unclear ≡ reach_in k s A T bx by bz notes to at w → ((n : ℕ) → Meets w n → ⊥) → get_or new w 0 ≡ reach_in k s A T bx by bz notes to at w
+    outside w l e not-met = ⊎_elim (λ q. q ∙ empty w l ∙ e) (λ p. absurd (not-met _ (there w _ p))) (stored.other w (omega (arith, long)))
 
-    pub all_reached : (w : ℕ) → w < node_count s → get_or new w 0 ≡ reach_in k s A T bx by bz notes to at w
+    pub all_reached : (w : ℕ) → w < 4096 → get_or new w 0 ≡ reach_in k s A T bx by bz notes to at w
     unfolding reach_in reaches
     all_reached w l =
-        let a : ltb w (node_count s) ≡ true = lt-ltb w (node_count s) l in
-        test (in_product bx by bz (coords_of s w))
+        test (ltb w (node_count s))
+        (λ a. test (in_product bx by bz (coords_of s w))
         (λ b. test (in_set s to (at + 256) w)
-        (λ d. reach_is w _ (there w _ (stored.each w _ (omega arith) (here w a b d))))
+        (λ d. reach_is w _ (there w _ (stored.each w _ (omega (arith, long)) (here w a b d))))
         (λ d. outside w l (rw (ask, a, b, d)) (λ n m. clash _ m.leg d)))
-        (λ b. outside w l (rw (ask, a, b)) (λ n m. clash _ m.box b))
+        (λ b. outside w l (rw (ask, a, b)) (λ n m. clash _ m.box b)))
+        (λ a. outside w l (rw (ask, a)) (λ n m. clash _ m.below a))
 
 -- With the wraps as the code has them.
 pub reached :
@@ -158,8 +139,8 @@ pub reached :
     (k.x ≤ 8 → s.x ≤ 16 → A.x < s.x → T.x < s.x → PartsOf k.x s.x rx A.x T.x xs) →
     (k.y ≤ 8 → s.y ≤ 16 → A.y < s.y → T.y < s.y → PartsOf k.y s.y ry A.y T.y ys) →
     (k.z ≤ 8 → s.z ≤ 16 → A.z < s.z → T.z < s.z → PartsOf k.z s.z rz A.z T.z zs) →
-    (old new : List ℕ) → Stored old new (SpaceSums s xs ys zs bx by bz notes to at) → node_count s ≤ length old → ((w : ℕ) → w < length old → get_or old w 0 ≡ unclear) →
-    (w : ℕ) → w < node_count s → get_or new w 0 ≡ reach_in k s A T bx by bz notes to at w
+    (old new : List ℕ) → Stored old new (SpaceSums s xs ys zs bx by bz notes to at) → length old ≡ 4096 → ((w : ℕ) → w < 4096 → get_or old w 0 ≡ unclear) →
+    (w : ℕ) → w < 4096 → get_or new w 0 ≡ reach_in k s A T bx by bz notes to at w
 reached k s A T bx by bz notes to at ask xs ys zs rx ry rz ex ey ez px py pz =
     let a = asks k s A T (length to) at ask in
     all_reached k s A T bx by bz notes to at ask xs ys zs

@@ -46,11 +46,6 @@ pub record Cell : Type 0 where
   pub node : ℕ
   pub value : ℕ
 
--- Every place of the array has `unclear`.
-pub record AllUnclear (old new : List ℕ) : Type 0 where
-  pub long : length new ≡ length old
-  pub each : (v : ℕ) → v < length old → get_or new v 0 ≡ unclear
-
 -- The array `new` is `old`, but for the places that P has a cell of: there it has such a cell.
 pub record Stored (old new : List ℕ) (P : Cell → Type 0) : Type 0 where
   pub long : length new ≡ length old

@@ -1,5 +1,5 @@
 // The least of an array's values over the nodes of a product of masks that are in two sets.
-ghost use Rattle.std.specs.Prelude.{◌≡◌, ◌+◌, ◌*◌, ◌≤◌, ◌<◌, length, get_or};
+ghost use Rattle.std.specs.Prelude.{◌≡◌, ◌+◌, ◌*◌, ◌≤◌, ◌<◌, length};
 ghost use Rattle.shape.specs.Shape.{shape_error};
 ghost use Rattle.machine.specs.Number.{node_count};
 ghost use Rattle.search.specs.FirstVia.{is_via};
@@ -8,7 +8,6 @@ ghost use Rattle.second_via.specs.Least.{LeastAt};
 ghost use Rattle.second_via.specs.Nodes.{key_of, RowKeys, PlaneKeys, SpaceKeys};
 
 use machine::hop::number_at;
-use machine::number::node_count;
 use rows::next::next_set;
 use search::lowest::has_rows;
 use shape::shape::shape_error;
@@ -21,8 +20,8 @@ fn joined(value: u32, node: u16) -> u64
 }
 
 // One number for a value and its node, so that the least of them is the lowest node of the least value.
-fn key(values: &[u32], node: u16) -> u64
-    requires { node < length values.now }
+fn key(values: &[u32; 4096], node: u16) -> u64
+    requires { node < 4096 }
     ensures { result ≡ key_of values.now node }
 {
     let v = node as usize;
@@ -36,8 +35,8 @@ fn lesser(a: u64, b: u64) -> u64
 }
 
 // The places of a word that the dimension has. first: the number of the row's first node.
-fn row(len: u8, word: u16, first: u16, values: &[u32], known: u64) -> u64
-    requires { (len ≤ 16) × (first + len ≤ 4096) × (first + len ≤ length values.now) }
+fn row(len: u8, word: u16, first: u16, values: &[u32; 4096], known: u64) -> u64
+    requires { (len ≤ 16) × (first + len ≤ 4096) }
     ensures { Lowers known result (RowKeys len word first values.now) }
 {
     let mut best = known;
@@ -56,11 +55,11 @@ fn plane(
     from: &[u16; 256],
     to: &[u16],
     at: usize,
-    values: &[u32],
+    values: &[u32; 4096],
     z: u8,
     known: u64,
 ) -> u64
-    requires { (shape_error shape ≡ 0) × (at + 256 ≤ length to.now) × (z < shape.z) × (node_count shape ≤ length values.now) }
+    requires { (shape_error shape ≡ 0) × (at + 256 ≤ length to.now) × (z < shape.z) }
     ensures { Lowers known result (PlaneKeys shape bx by from.now to.now at values.now z) }
 {
     let mut best = known;
@@ -83,10 +82,10 @@ fn space(
     from: &[u16; 256],
     to: &[u16],
     at: usize,
-    values: &[u32],
+    values: &[u32; 4096],
     known: u64,
 ) -> u64
-    requires { (shape_error shape ≡ 0) × (at + 256 ≤ length to.now) × (node_count shape ≤ length values.now) }
+    requires { (shape_error shape ≡ 0) × (at + 256 ≤ length to.now) }
     ensures { Lowers known result (SpaceKeys shape bx by bz from.now to.now at values.now) }
 {
     let mut best = known;
@@ -98,7 +97,7 @@ fn space(
     best
 }
 
-// Only values below the bound; 4096 where there is none, or where a node has no value.
+// Only values below the bound; 4096 where there is none.
 pub fn least(
     shape: Shape,
     bx: u16,
@@ -107,19 +106,15 @@ pub fn least(
     from: &[u16; 256],
     to: &[u16],
     at: usize,
-    values: &[u32],
+    values: &[u32; 4096],
     bound: u32,
 ) -> u16
-    ensures least_at { node_count shape ≤ length values.now → LeastAt (node_count shape) (is_via shape bx by bz from.now to.now at) values.now bound result }
-    ensures upper_bound { result < 4096 → (result < length values.now) × (get_or values.now result 0 < bound) }
+    ensures { LeastAt (node_count shape) (is_via shape bx by bz from.now to.now at) values.now bound result }
 {
     if shape_error(shape) != 0 {
         return 4096;
     }
     if !has_rows(to.len(), at, 256) {
-        return 4096;
-    }
-    if values.len() < node_count(shape) as usize {
         return 4096;
     }
     let known = bound as u64 * 4096;

@@ -1,15 +1,13 @@
 // What each node can reach as second via.
 ghost use Rattle.std.specs.Prelude.{true, ◌≡◌, ℕ, ◌+◌, ◌≤◌, ◌<◌, length, get_or};
 ghost use Rattle.shape.specs.Shape.{shape_error};
-ghost use Rattle.machine.specs.Number.{node_count};
 ghost use Rattle.rows.specs.Bits.{bit};
 ghost use Rattle.search.specs.BestVia.{askable};
 ghost use Rattle.search.specs.Number.{unclear, det_of};
-ghost use Rattle.second_via.specs.Nodes.{sum_of, AllUnclear, Stored, RowSums, RowSumsAt, PlaneSums, SpaceSums};
+ghost use Rattle.second_via.specs.Nodes.{sum_of, Stored, RowSums, RowSumsAt, PlaneSums, SpaceSums};
 ghost use Rattle.second_via.specs.Reach.{reach_in};
 
 use machine::hop::number_at;
-use machine::number::node_count;
 use rows::next::next_set;
 use search::along::parts_along;
 use search::best::{UNCLEAR, is_askable};
@@ -39,16 +37,16 @@ fn sum(note: u32, part: u16, more: u8, adaptive: u16, x: u8) -> u32
 
 // The places of a word that the dimension has. first: the number of the row's first node. part: what the other dimensions make of the length.
 fn row(
-    sums: &mut [u32],
+    sums: &mut [u32; 4096],
     len: u8,
     word: u16,
     adaptive: u16,
     first: u16,
-    notes: &[u32],
+    notes: &[u32; 4096],
     xs: &[u8; 16],
     part: u16,
 )
-    requires { (len ≤ 16) × (part ≤ 510) × (first + len ≤ length notes.now) × (first + len ≤ length sums.old) }
+    requires { (len ≤ 16) × (first + len ≤ 4096) × (part ≤ 510) }
     ensures { Stored sums.old sums.new (RowSums len word adaptive first notes.now xs.now part) }
 {
     let mut x = next_set(word, 0);
@@ -62,11 +60,11 @@ fn row(
 
 // The row at y, z; part, more: what z and y make of the length.
 fn row_at(
-    sums: &mut [u32],
+    sums: &mut [u32; 4096],
     shape: Shape,
     xs: &[u8; 16],
     bx: u16,
-    notes: &[u32],
+    notes: &[u32; 4096],
     to: &[u16],
     at: usize,
     part: u8,
@@ -74,7 +72,7 @@ fn row_at(
     y: u8,
     z: u8,
 )
-    requires { (shape_error shape ≡ 0) × (at + 512 ≤ length to.now) × (y < shape.y) × (z < shape.z) × (node_count shape ≤ length notes.now) × (node_count shape ≤ length sums.old) }
+    requires { (shape_error shape ≡ 0) × (at + 512 ≤ length to.now) × (y < shape.y) × (z < shape.z) }
     ensures { Stored sums.old sums.new (RowSumsAt shape xs.now bx notes.now to.now at (part + more) y z) }
 {
     let r = 16 * z as usize + y as usize;
@@ -86,19 +84,19 @@ fn row_at(
 }
 
 fn plane(
-    sums: &mut [u32],
+    sums: &mut [u32; 4096],
     shape: Shape,
     xs: &[u8; 16],
     ys: &[u8; 16],
     bx: u16,
     by: u16,
-    notes: &[u32],
+    notes: &[u32; 4096],
     to: &[u16],
     at: usize,
     part: u8,
     z: u8,
 )
-    requires { (shape_error shape ≡ 0) × (at + 512 ≤ length to.now) × (z < shape.z) × (node_count shape ≤ length notes.now) × (node_count shape ≤ length sums.old) }
+    requires { (shape_error shape ≡ 0) × (at + 512 ≤ length to.now) × (z < shape.z) }
     ensures { Stored sums.old sums.new (PlaneSums shape xs.now ys.now bx by notes.now to.now at part z) }
 {
     let mut y = next_set(by, 0);
@@ -110,7 +108,7 @@ fn plane(
 }
 
 fn planes(
-    sums: &mut [u32],
+    sums: &mut [u32; 4096],
     shape: Shape,
     xs: &[u8; 16],
     ys: &[u8; 16],
@@ -118,11 +116,11 @@ fn planes(
     bx: u16,
     by: u16,
     bz: u16,
-    notes: &[u32],
+    notes: &[u32; 4096],
     to: &[u16],
     at: usize,
 )
-    requires { (shape_error shape ≡ 0) × (at + 512 ≤ length to.now) × (node_count shape ≤ length notes.now) × (node_count shape ≤ length sums.old) }
+    requires { (shape_error shape ≡ 0) × (at + 512 ≤ length to.now) }
     ensures { Stored sums.old sums.new (SpaceSums shape xs.now ys.now zs.now bx by bz notes.now to.now at) }
 {
     let mut z = next_set(bz, 0);
@@ -135,7 +133,7 @@ fn planes(
 
 // Each sum stored, where the question can be asked.
 fn asked(
-    sums: &mut [u32],
+    sums: &mut [u32; 4096],
     weights: Weights,
     shape: Shape,
     a: Coords,
@@ -143,13 +141,12 @@ fn asked(
     bx: u16,
     by: u16,
     bz: u16,
-    notes: &[u32],
+    notes: &[u32; 4096],
     to: &[u16],
     at: usize,
 )
-    requires { (askable weights shape a t (length to.now) at ≡ true) × (node_count shape ≤ length notes.now) × (node_count shape ≤ length sums.old) }
-    ensures by_index { ((w : ℕ) → w < length sums.old → get_or sums.old w 0 ≡ unclear) → (w : ℕ) → w < node_count shape → get_or sums.new w 0 ≡ reach_in weights shape a t bx by bz notes.now to.now at w }
-    ensures sums_len_unchanged { length sums.new ≡ length sums.old }
+    requires { askable weights shape a t (length to.now) at ≡ true }
+    ensures { length sums.old ≡ 4096 → ((w : ℕ) → w < 4096 → get_or sums.old w 0 ≡ unclear) → (w : ℕ) → w < 4096 → get_or sums.new w 0 ≡ reach_in weights shape a t bx by bz notes.now to.now at w }
 {
     let xs = parts_along(weights.x, shape.x, wrapped(shape, Dim::X), a.x, t.x);
     let ys = parts_along(weights.y, shape.y, wrapped(shape, Dim::Y), a.y, t.y);
@@ -157,19 +154,8 @@ fn asked(
     planes(sums, shape, &xs, &ys, &zs, bx, by, bz, notes, to, at);
 }
 
-// Every place of the array.
-pub fn set_unclear(sums: &mut [u32])
-    ensures { AllUnclear sums.old sums.new }
-{
-    let mut i: usize = 0;
-    while i < sums.len() {
-        sums[i] = UNCLEAR;
-        i = i + 1;
-    }
-}
-
 // bx, by, bz: the places of the second via. From `at` on the run has the nodes with a clear leg to t, adaptive, and behind them those with a clear
-// deterministic one. `sums` is `UNCLEAR` throughout where it or `notes` has no place for some node.
+// deterministic one.
 pub fn reach(
     weights: Weights,
     shape: Shape,
@@ -178,24 +164,16 @@ pub fn reach(
     bx: u16,
     by: u16,
     bz: u16,
-    notes: &[u32],
+    notes: &[u32; 4096],
     to: &[u16],
     at: usize,
-    sums: &mut [u32],
-)
-    ensures w_after { node_count shape ≤ length notes.now → node_count shape ≤ length sums.old → (w : ℕ) → w < node_count shape → get_or sums.new w 0 ≡ reach_in weights shape a t bx by bz notes.now to.now at w }
-    ensures sums_len_unchanged { length sums.new ≡ length sums.old }
+) -> [u32; 4096]
+    ensures { (w : ℕ) → w < 4096 → get_or result w 0 ≡ reach_in weights shape a t bx by bz notes.now to.now at w }
 {
-    set_unclear(sums);
+    let mut sums = [UNCLEAR; 4096];
     if !is_askable(weights, shape, a, t, to.len(), at) {
-        return;
+        return sums;
     }
-    let n = node_count(shape) as usize;
-    if notes.len() < n {
-        return;
-    }
-    if sums.len() < n {
-        return;
-    }
-    asked(sums, weights, shape, a, t, bx, by, bz, notes, to, at);
+    asked(&mut sums, weights, shape, a, t, bx, by, bz, notes, to, at);
+    sums
 }

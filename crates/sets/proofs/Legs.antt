@@ -5,7 +5,7 @@ use mathlib.Core.Path.{◌≡◌, refl, sym, ◌∙◌}
 use mathlib.Core.List.{List}
 use native.Mathlib.Omega.{arith}
 use native.Mathlib.Numerals.{add-one}
-use lib.ListN.{length, get_or}
+use lib.ListN.{get_or}
 use borrow.Author.Tests.{lt-ltb, le-ltb, eq-eqb, ne_eqb}
 use Rattle.theory.proofs.Cases.{by_le}
 use Rattle.shape.specs.declared.shape.Shape.{Shape}
@@ -93,10 +93,10 @@ loss_none m s w a t h k = rw (le-ltb (w / 4096) 9 h, ne_eqb (w / 4096) 9 k) at (
 -- ---- the losses so far
 pub record Trying (m : Mode) (s : Shape) (losses : List ℕ) (a t : Coords) (n i : ℕ) : Type 0 where
   pub most : i ≤ n
-  pub clipped : n ≤ length losses
+  pub clipped : n ≤ 256
   pub none_yet : on_leg rule m s losses i a t ≡ false
 
-pub try_begin : (m : Mode) (s : Shape) (losses : List ℕ) (a t : Coords) (count n : ℕ) → n ≡ min count (length losses) → Trying m s losses a t n 0
+pub try_begin : (m : Mode) (s : Shape) (losses : List ℕ) (a t : Coords) (count n : ℕ) → n ≡ min count 256 → Trying m s losses a t n 0
 unfolding on_leg some_below
 try_begin m s losses a t count n e = record { most = omega arith; clipped = omega arith; none_yet = refl }
 
@@ -113,9 +113,9 @@ some_at (suc n) f i h e = by_le n i (λ l. let q : n ≡ i = omega arith in rw (
     or_true true = refl
     or_true false = refl
 
-pub try_met : (m : Mode) (s : Shape) (losses : List ℕ) (a t : Coords) (count n i : ℕ) → n ≡ min count (length losses) → i < n → loss_meets rule m s (get_or losses i 0) a t ≡ true → false ≡ not (on_leg rule m s losses (min count (length losses)) a t)
+pub try_met : (m : Mode) (s : Shape) (losses : List ℕ) (a t : Coords) (count n i : ℕ) → n ≡ min count 256 → i < n → loss_meets rule m s (get_or losses i 0) a t ≡ true → false ≡ not (on_leg rule m s losses (min count 256) a t)
 unfolding on_leg
 try_met m s losses a t count n i e h k = rw (← e) (rw (some_at n (λ j. loss_meets rule m s (get_or losses j 0) a t) i h k))
 
-pub try_end : (m : Mode) (s : Shape) (losses : List ℕ) (a t : Coords) (count n i : ℕ) → n ≡ min count (length losses) → Trying m s losses a t n i → n ≤ i → true ≡ not (on_leg rule m s losses (min count (length losses)) a t)
-try_end m s losses a t count n i e p h = let k = p.most in let q : min count (length losses) ≡ i = omega arith in rw (q, p.none_yet)
+pub try_end : (m : Mode) (s : Shape) (losses : List ℕ) (a t : Coords) (count n i : ℕ) → n ≡ min count 256 → Trying m s losses a t n i → n ≤ i → true ≡ not (on_leg rule m s losses (min count 256) a t)
+try_end m s losses a t count n i e p h = let k = p.most in let q : min count 256 ≡ i = omega arith in rw (q, p.none_yet)

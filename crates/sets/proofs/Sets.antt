@@ -5,7 +5,7 @@ use mathlib.Core.Path.{◌≡◌, refl, ap, ◌∙◌}
 use mathlib.Core.List.{List}
 use native.Mathlib.Omega.{arith}
 use lib.Dec.{ltb, eqb}
-use lib.ListN.{length, get_or}
+use lib.ListN.{get_or}
 use borrow.Author.Tests.{eq-eqb, lt-ltb}
 use Rattle.shape.specs.declared.shape.Shape.{Shape}
 use Rattle.shape.specs.declared.shape.Coords.{Coords}
@@ -86,7 +86,7 @@ from_to_law false a t = refl
 
 -- The rows, at coordinates inside the shape: in the product, and no loss lies on the leg between e and them.
 pub clear_at :
-    (mode : Mode) (from : Bool) (s : Shape) (h : shape_error s ≡ 0) (e : Coords) (ie : Inside s e) (bx by bz : ℕ) (ends losses rows : List ℕ) (count : ℕ) → count ≤ length losses →
+    (mode : Mode) (from : Bool) (s : Shape) (h : shape_error s ≡ 0) (e : Coords) (ie : Inside s e) (bx by bz : ℕ) (ends losses rows : List ℕ) (count : ℕ) → count ≤ 256 →
     Ended mode from s e ends → Are (clear_in bx by bz ends losses count) rows → (c : Coords) → Inside s c →
     in_rows rows 0 c ≡ (in_product bx by bz c && not (on_leg rule mode s losses count (cond from e c) (cond from c e)))
 unfolding in_rows clear_in product some_in
@@ -100,13 +100,13 @@ clear_at mode from s h e ie bx by bz ends losses rows count few full are c ic =
     let r = 0 + (c.y + 16 * c.z) in
     let ry : r % 16 ≡ c.y = omega arith in
     let rz : r / 16 ≡ c.z = omega arith in
-    let n : min count (length losses) ≡ count = omega arith in
+    let n : min count 256 ≡ count = omega arith in
     let met : some_below count (λ i. loss_in ends (get_or losses i 0) c) ≡ on_leg rule mode s losses count (cond from e c) (cond from c e) = some_bit mode from s h e ie ends full c ic losses count ∙ rw (from_to_law from e c, from_to_law from c e) in
     are.bits r c.x (omega arith) (omega arith) ∙ rw (ry, rz, n) (ap (λ (b : Bool). in_product bx by bz c && not b) met)
 
 -- The same of a node.
 pub clear_set :
-    (mode : Mode) (from : Bool) (s : Shape) (h : shape_error s ≡ 0) (e : Coords) (ie : Inside s e) (bx by bz : ℕ) (ends losses rows : List ℕ) (count : ℕ) → count ≤ length losses →
+    (mode : Mode) (from : Bool) (s : Shape) (h : shape_error s ≡ 0) (e : Coords) (ie : Inside s e) (bx by bz : ℕ) (ends losses rows : List ℕ) (count : ℕ) → count ≤ 256 →
     Ended mode from s e ends → Are (clear_in bx by bz ends losses count) rows → (m : ℕ) → m < node_count s →
     in_set s rows 0 m ≡ (in_product bx by bz (coords_of s m) && not (on_leg rule mode s losses count (cond from e (coords_of s m)) (cond from (coords_of s m) e)))
 unfolding in_set
@@ -115,7 +115,7 @@ clear_set mode from s h e ie bx by bz ends losses rows count few full are m hm =
 
 -- The same of a node in the product.
 pub clear_in_law :
-    (mode : Mode) (from : Bool) (s : Shape) (h : shape_error s ≡ 0) (e : Coords) (ie : Inside s e) (bx by bz : ℕ) (ends losses rows : List ℕ) (count : ℕ) → count ≤ length losses →
+    (mode : Mode) (from : Bool) (s : Shape) (h : shape_error s ≡ 0) (e : Coords) (ie : Inside s e) (bx by bz : ℕ) (ends losses rows : List ℕ) (count : ℕ) → count ≤ 256 →
     Ended mode from s e ends → Are (clear_in bx by bz ends losses count) rows → (m : ℕ) → m < node_count s → in_product bx by bz (coords_of s m) ≡ true →
     in_set s rows 0 m ≡ not (on_leg rule mode s losses count (cond from e (coords_of s m)) (cond from (coords_of s m) e))
 clear_in_law mode from s h e ie bx by bz ends losses rows count few full are m hm i = clear_set mode from s h e ie bx by bz ends losses rows count few full are m hm ∙ rw i

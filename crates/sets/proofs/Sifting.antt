@@ -36,13 +36,12 @@ reaches_none by bz ends w h ne = rw (le-ltb (w / 4096) 9 h, ne_eqb (w / 4096) 9 
 -- ---- one after the other
 pub record Sifting (by bz : ℕ) (ends losses first kept : List ℕ) (n found i : ℕ) : Type 0 where
   pub most : i ≤ n
-  pub clipped : n ≤ length losses
-  pub room : n ≤ length first
+  pub clipped : n ≤ 256
   pub sifted : Sifted by bz ends losses i first kept found
 
-pub sift_begin : (by bz : ℕ) (ends losses kept : List ℕ) (count least n : ℕ) → least ≡ min (length losses) (length kept) → n ≡ min count least → Sifting by bz ends losses kept kept n 0 0
+pub sift_begin : (by bz : ℕ) (ends losses kept : List ℕ) (count n : ℕ) → n ≡ min count 256 → Sifting by bz ends losses kept kept n 0 0
 unfolding some_below
-sift_begin by bz ends losses kept count least n el e = record { most = omega arith; clipped = omega arith; room = omega arith; sifted = record { few = omega arith; long = refl; same = λ f no. refl } }
+sift_begin by bz ends losses kept count n e = record { most = omega arith; clipped = omega arith; sifted = record { few = omega arith; long = refl; same = λ l f no. refl } }
 
 -- What stands behind the first m is not looked at.
 front_same : (f : ℕ → Bool) (kept : List ℕ) (m w k : ℕ) → k ≤ m → some_below k (λ i. f (get_or (set kept m w) i 0)) ≡ some_below k (λ i. f (get_or kept i 0))
@@ -56,38 +55,34 @@ pub sift_turn :
 unfolding some_below
 sift_turn by bz ends losses first kept n found i w step b g h e eb es =
     let few = g.sifted.few in
-    let room = g.room in
+    let clipped = g.clipped in
     let old : (f : ℕ → Bool) → some_below found (λ j. f (get_or (set kept found w) j 0)) ≡ some_below found (λ j. f (get_or kept j 0)) = λ f. front_same f kept found w found (omega arith) in
     test b
     (λ t.
     let one : step ≡ 1 = es ∙ rw t in
     record {
       most = omega arith;
-      clipped = g.clipped;
-      room = room;
+      clipped = clipped;
       sifted = record {
         few = omega arith;
         long = length-set kept found w ∙ g.sifted.long;
-        same = λ f no. rw (one, add-one found, add-one i, get_or-set_same kept found w 0 (omega (arith, g.sifted.long)), old f, g.sifted.same f no, e);
+        same = λ l f no. rw (one, add-one found, add-one i, get_or-set_same kept found w 0 (omega (arith, l, g.sifted.long)), old f, g.sifted.same l f no, e);
       };
     })
     (λ t.
     let none : found + step ≡ found = omega (arith, es, ap (λ (k : Bool). cond {A = ℕ} k 1 0) t) in
     record {
       most = omega arith;
-      clipped = g.clipped;
-      room = room;
+      clipped = clipped;
       sifted = record {
         few = omega arith;
         long = length-set kept found w ∙ g.sifted.long;
-        same = λ f no. rw (none, add-one i, old f, g.sifted.same f no, sym e, no w (sym eb ∙ t));
+        same = λ l f no. rw (none, add-one i, old f, g.sifted.same l f no, sym e, no w (sym eb ∙ t));
       };
     })
 
-pub sift_end :
-    (by bz : ℕ) (ends losses first kept : List ℕ) (count least n found i : ℕ) → least ≡ min (length losses) (length first) → n ≡ min count least → Sifting by bz ends losses first kept n found i → n ≤ i →
-    Sifted by bz ends losses (min count (min (length losses) (length first))) first kept found
-sift_end by bz ends losses first kept count least n found i el e g h = let m = g.most in let q : i ≡ min count (min (length losses) (length first)) = omega arith in rw q at g.sifted
+pub sift_end : (by bz : ℕ) (ends losses first kept : List ℕ) (count n found i : ℕ) → n ≡ min count 256 → Sifting by bz ends losses first kept n found i → n ≤ i → Sifted by bz ends losses (min count 256) first kept found
+sift_end by bz ends losses first kept count n found i e g h = let m = g.most in let q : i ≡ min count 256 = omega arith in rw q at g.sifted
 
 -- ---- a loss that does not reach is not met, by any end whose masks are the same in Y and Z
 no_bit : (v b x : ℕ) → bit_and v b ≡ 0 → bit b x ≡ true → bit v x ≡ false
@@ -145,5 +140,5 @@ module _ (by bz : ℕ) (ends : List ℕ) (others : List ℕ) (same : (i : ℕ) �
       (λ q. rw (e, q)))
 
   -- So the sifted losses stand for all.
-  pub sifted_some : (losses old kept : List ℕ) (n m : ℕ) → Sifted by bz ends losses n old kept m → some_below m (λ i. loss_in others (get_or kept i 0) c) ≡ some_below n (λ i. loss_in others (get_or losses i 0) c)
-  sifted_some losses old kept n m g = g.same (λ w. loss_in others w c) missed
+  pub sifted_some : (losses old kept : List ℕ) (n m : ℕ) → Sifted by bz ends losses n old kept m → length old ≡ 256 → some_below m (λ i. loss_in others (get_or kept i 0) c) ≡ some_below n (λ i. loss_in others (get_or losses i 0) c)
+  sifted_some losses old kept n m g l = g.same l (λ w. loss_in others w c) missed

@@ -5,7 +5,7 @@ use native.Mathlib.Numerals.{add-one}
 use mathlib.Core.Path.{◌≡◌, refl, ◌∙◌}
 use mathlib.Core.Bool.{Bool, true, false, not, ◌&&◌, ◌||◌}
 use mathlib.Core.List.{List}
-use lib.ListN.{length, get_or}
+use lib.ListN.{get_or}
 use lib.Bits.{bit_and}
 use lib.Dec.{ltb, eqb}
 use borrow.Author.Tests.{lt-ltb, le-ltb, eq-eqb, ne_eqb, eqb-true, ltb-true}
@@ -107,10 +107,10 @@ module _ (ends : List ℕ) (w bx by bz : ℕ) where
 -- ---- one loss after the other
 pub record Clearing (bx by bz : ℕ) (ends losses rows : List ℕ) (n i : ℕ) : Type 0 where
   pub most : i ≤ n
-  pub clipped : n ≤ length losses
+  pub clipped : n ≤ 256
   pub are : Are (λ r x. product bx by bz r x && not (some_in ends losses i r x)) rows
 
-pub clear_begin : (bx by bz : ℕ) (ends losses rows : List ℕ) (count n : ℕ) → n ≡ min count (length losses) → Are (product bx by bz) rows → Clearing bx by bz ends losses rows n 0
+pub clear_begin : (bx by bz : ℕ) (ends losses rows : List ℕ) (count n : ℕ) → n ≡ min count 256 → Are (product bx by bz) rows → Clearing bx by bz ends losses rows n 0
 unfolding some_in some_below
 clear_begin bx by bz ends losses rows count n e p = record {
   most = omega arith;
@@ -142,9 +142,9 @@ clear_turn bx by bz ends losses rows next n i w p h e q = record {
     go true false false = refl
     go false a b = refl
 
-pub clear_end : (bx by bz : ℕ) (ends losses rows : List ℕ) (count n i : ℕ) → n ≡ min count (length losses) → Clearing bx by bz ends losses rows n i → n ≤ i → Are (clear_in bx by bz ends losses count) rows
+pub clear_end : (bx by bz : ℕ) (ends losses rows : List ℕ) (count n i : ℕ) → n ≡ min count 256 → Clearing bx by bz ends losses rows n i → n ≤ i → Are (clear_in bx by bz ends losses count) rows
 unfolding clear_in
 clear_end bx by bz ends losses rows count n i e p h =
     let m = p.most in
-    let q : i ≡ min count (length losses) = omega arith in
+    let q : i ≡ min count 256 = omega arith in
     record { long = p.are.long; bits = λ r x l k. p.are.bits r x l k ∙ rw q }

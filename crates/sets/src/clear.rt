@@ -48,13 +48,13 @@ pub fn clear_in(
     by: u16,
     bz: u16,
     ends: &[u16; 288],
-    losses: &[u16],
+    losses: &[u16; 256],
     count: usize,
 ) -> [u16; 256]
     ensures { Are (clear_in bx by bz ends.now losses.now count) result }
 {
     let mut rows = product(bx, by, bz);
-    let n = clipped(count, losses.len());
+    let n = clipped(count);
     let mut i: usize = 0;
     while i < n {
         less_loss(&mut rows, ends, losses[i], bx, by, bz);

@@ -1,5 +1,5 @@
 // Whether one leg is clear: each loss is tried, dimension by dimension.
-ghost use Rattle.std.specs.Prelude.{◌≡◌, not, ◌<◌, min, length};
+ghost use Rattle.std.specs.Prelude.{◌≡◌, not, ◌<◌, min};
 ghost use Rattle.machine.specs.Hop.{rule};
 ghost use Rattle.losses.specs.Loss.{loss_at, loss_meets, on_leg};
 ghost use Rattle.sets.specs.Part.{column, cells_in, dead_cells};
@@ -138,18 +138,18 @@ fn loss_meets(mode: Mode, shape: Shape, w: u16, a: Coords, t: Coords) -> bool
     false
 }
 
-// Whether none of the first `count` losses, or of all where there are fewer, lies on the leg from a to t.
+// Whether none of the first `count` losses lies on the leg from a to t; at most 256 are looked at.
 pub fn leg_clear(
     mode: Mode,
     shape: Shape,
-    losses: &[u16],
+    losses: &[u16; 256],
     count: usize,
     a: Coords,
     t: Coords,
 ) -> bool
-    ensures { result ≡ not (on_leg rule mode shape losses.now (min count (length losses.now)) a t) }
+    ensures { result ≡ not (on_leg rule mode shape losses.now (min count 256) a t) }
 {
-    let n = clipped(count, losses.len());
+    let n = clipped(count);
     let mut i: usize = 0;
     while i < n {
         if loss_meets(mode, shape, losses[i], a, t) {

@@ -42,9 +42,9 @@ pub fn mask_in(ends: &[u16; 288], kind: u16, d: u16, c: u16) -> u16
     ends[i as usize]
 }
 
-// How many of `count` losses are looked at.
-pub fn clipped(count: usize, room: usize) -> usize
-    ensures { result ≡ min count room }
+// How many of the losses are looked at.
+pub fn clipped(count: usize) -> usize
+    ensures { result ≡ min count 256 }
 {
-    if count < room { count } else { room }
+    if count < 256 { count } else { 256 }
 }

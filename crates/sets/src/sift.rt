@@ -1,5 +1,5 @@
 // The losses that can meet a leg between one end and a node at given places in Y and Z.
-ghost use Rattle.std.specs.Prelude.{◌≡◌, cond, ◌≤◌, ◌<◌, min, length};
+ghost use Rattle.std.specs.Prelude.{◌≡◌, cond, ◌≤◌, ◌<◌, min};
 ghost use Rattle.sets.specs.Sift.{part_reaches, dead_reaches, reaches, Sifted};
 
 use crate::part::{clipped, mask_in};
@@ -44,19 +44,19 @@ fn counted(kept: bool) -> usize
     if kept { 1 } else { 0 }
 }
 
-// `ends`: the masks of one end. Of the first `count` losses those that reach places of by in Y and of bz in Z, at the front of `kept`; their number. No more
-// are looked at than there are, or than `kept` has room for.
+// `ends`: the masks of one end. Of the first `count` losses those that reach places of by in Y and of bz in Z, at the front of `kept`; their number. At most
+// 256 are looked at.
 pub fn sift(
     by: u16,
     bz: u16,
     ends: &[u16; 288],
-    losses: &[u16],
+    losses: &[u16; 256],
     count: usize,
-    kept: &mut [u16],
+    kept: &mut [u16; 256],
 ) -> usize
-    ensures { Sifted by bz ends.now losses.now (min count (min (length losses.now) (length kept.old))) kept.old kept.new result }
+    ensures { Sifted by bz ends.now losses.now (min count 256) kept.old kept.new result }
 {
-    let n = clipped(count, clipped(losses.len(), kept.len()));
+    let n = clipped(count);
     let mut found: usize = 0;
     let mut i: usize = 0;
     while i < n {

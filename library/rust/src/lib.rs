@@ -1,7 +1,6 @@
 //! Nafthurm for a board's program in Rust: plan and route sheets, planned routes, packets, steps, walks, and hops taken back. Every call takes any bytes and any
 //! numbers; what each checks, and in which order, stands in library/nafthurm.h, and the numbers of refusals in docs/NUMBERS.md.
 mod raw;
-pub mod small;
 
 /// The largest plan sheet, of 256 faults.
 pub const PLAN_BYTES: usize = 780;
@@ -14,7 +13,7 @@ pub const LISTING_BYTES: usize = 94222;
 pub const ALL_WORDS_A_BOARD: usize = 512;
 pub const ALL_WORDS: usize = 2097152;
 
-/// The number of a refusal, 1 to 19.
+/// The number of a refusal, 1 to 18.
 #[derive(Clone, Copy, Debug, PartialEq, Eq)]
 pub struct Refused(pub u8);
 
@@ -123,7 +122,7 @@ fn accepted(number: u8) -> Result<(), Refused> {
 
 // ---- Plan sheets
 
-/// The checks of a plan: 1 to 6, 16, and then 7 and 8 fault by fault. Those of the small caller, with 19 before 7, are in `small`.
+/// The checks of a plan: 1 to 6, 16, and then 7 and 8 fault by fault.
 pub fn plan_check(plan: &[u8]) -> Result<(), Refused> {
     accepted(unsafe { raw::nafthurm_plan_check(plan.as_ptr(), plan.len()) })
 }

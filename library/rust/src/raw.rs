@@ -91,16 +91,6 @@ extern "C" {
     pub fn nafthurm_lookup(plan: *const u8, plan_size: usize, sheet: *const u8, sheet_size: usize, destination: u16) -> Part;
     pub fn nafthurm_lookup_route(plan: *const u8, plan_size: usize, sheet: *const u8, sheet_size: usize, destination: u16) -> Route;
     pub fn nafthurm_convert(plan: *const u8, plan_size: usize, sheet: *const u8, sheet_size: usize, out: *mut u8, out_size: usize) -> Converted;
-    pub fn nafthurm_small_plan_check(plan: *const u8, plan_size: usize) -> u8;
-    pub fn nafthurm_small_plan_shape(plan: *const u8, plan_size: usize) -> Shape;
-    pub fn nafthurm_small_plan_weights(plan: *const u8, plan_size: usize) -> Weights;
-    pub fn nafthurm_small_plan_write_back(plan: *const u8, plan_size: usize, out: *mut u8, out_size: usize) -> Written;
-    pub fn nafthurm_small_pair(plan: *const u8, plan_size: usize, source: u16, destination: u16) -> Planned;
-    pub fn nafthurm_small_write_sheet(plan: *const u8, plan_size: usize, source: u16, out: *mut u8, out_size: usize) -> Written;
-    pub fn nafthurm_small_sheet_check(plan: *const u8, plan_size: usize, sheet: *const u8, sheet_size: usize) -> u8;
-    pub fn nafthurm_small_sheet_write_back(plan: *const u8, plan_size: usize, sheet: *const u8, sheet_size: usize, out: *mut u8, out_size: usize) -> Written;
-    pub fn nafthurm_small_lookup(plan: *const u8, plan_size: usize, sheet: *const u8, sheet_size: usize, destination: u16) -> Part;
-    pub fn nafthurm_small_lookup_route(plan: *const u8, plan_size: usize, sheet: *const u8, sheet_size: usize, destination: u16) -> Route;
     pub fn nafthurm_new_packet(source: u16, destination: u16, route: Route) -> Packet;
     pub fn nafthurm_packet_check(shape: Shape, packet: Packet) -> u8;
     pub fn nafthurm_step(shape: Shape, packet: Packet, direction: u8) -> Stepped;

@@ -10,11 +10,8 @@ is-node-requires c κs = search rules
 cast-at : tie.Need-overflow-cast-at
 cast-at c = search rules
 
-slice-write-nodes : tie.Need-slice-write-nodes
-slice-write-nodes c = search rules
-
-same_length : tie.Need-same-length
-same_length c = search rules
+element-write-nodes : tie.Need-element-write-nodes
+element-write-nodes c = search rules
 
 returns : tie.Need-returns
 unfolding mark_node
@@ -26,5 +23,4 @@ returns-2 c = rw (sym c.before.is_node_law.ensures ∙ c.if1.false)
 
 pub mark_node_spec : {M : Type 1} → statement M
 mark_node_spec =
-    tie.close
-    (tie.spec is-node-requires cast-at slice-write-nodes same_length returns returns-2)
+    tie.close (tie.spec is-node-requires cast-at element-write-nodes returns returns-2)

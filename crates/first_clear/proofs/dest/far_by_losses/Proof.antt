@@ -4,11 +4,11 @@ use borrow.Author.Rules.{rules}
 use Rattle.first_clear.proofs.dest.far_by_losses.Statement.{statement}
 use Rattle.first_clear.proofs.dest.far_by_losses.Tie as tie
 
-toward-requires : tie.Need-toward-requires
-toward-requires c κs = search rules
+gather-requires : tie.Need-gather-requires
+gather-requires c κs = search rules
 
-toward-requires-2 : tie.Need-toward-requires-2
-toward-requires-2 c κs = search rules
+gather-requires-2 : tie.Need-gather-requires-2
+gather-requires-2 c κs = search rules
 
 over-requires : tie.Need-over-requires
 over-requires c κs = search rules
@@ -31,18 +31,15 @@ slice-aggregate-far-outcome c = search rules
 far-outcome-requires : tie.Need-far-outcome-requires
 far-outcome-requires c κs = search rules
 
-same_length : tie.Need-same-length
-same_length c = c.before.before.far-outcome.ensures.1
-
 returns : tie.Need-returns
-returns c = (λ p S D g. c.before.before.far-outcome.ensures.0 p S D (far_reaching p _ _ _ _ _ _ S D _ _ _ _ _ g _ _ _ _ c.before.before.before.before.before.before.before.before.before.before.before.before.over.ensures c.before.before.before.before.before.before.before.before.before.before.before.near.ensures _ (c.before.before.before.before.before.before.before.put-part.ensures.0 p _ D _ (far_ends p _ _ _ _ _ _ S D _ _ _ _ _ g _ _ c.before.before.before.before.before.before.before.before.before.before.before.before.before.before.toward.ensures c.before.before.before.before.before.before.before.before.before.before.before.before.before.toward2.ensures) (omega arith)) _ c.before.before.before.before.before.distance_at_law.ensures), c.before.before.far-outcome.ensures.1)
+returns c = λ p S D g. c.far-outcome.ensures p S D (far_reaching p _ _ _ _ _ _ S D _ _ _ _ _ g _ _ _ _ c.before.before.before.before.before.before.before.before.before.over.ensures c.before.before.before.before.before.before.before.before.near.ensures _ (c.before.before.before.before.put-part.ensures.0 p _ D _ (far_ends p _ _ _ _ _ _ S D _ _ _ _ _ g _ _ c.before.before.before.before.before.before.before.before.before.before.before.gather.ensures c.before.before.before.before.before.before.before.before.before.before.gather2.ensures) (omega arith)) _ c.before.before.distance_at_law.ensures)
 
 pub far_by_losses_spec : {M : Type 1} → statement M
 far_by_losses_spec =
     tie.close
     (tie.spec
-    toward-requires
-    toward-requires-2
+    gather-requires
+    gather-requires-2
     over-requires
     near-requires
     slice-aggregate-put-part
@@ -50,5 +47,4 @@ far_by_losses_spec =
     distance-at-requires
     slice-aggregate-far-outcome
     far-outcome-requires
-    same_length
     returns)

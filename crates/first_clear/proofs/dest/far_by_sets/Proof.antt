@@ -18,11 +18,8 @@ near-requires c κs = search rules
 far-outcome-requires : tie.Need-far-outcome-requires
 far-outcome-requires c κs = search rules
 
-same_length : tie.Need-same-length
-same_length c = c.before.before.far-outcome.ensures.1
-
 returns : tie.Need-returns
-returns c = (λ p S g. c.before.before.far-outcome.ensures.0 p S _ (sets_reaching p _ _ _ S _ _ _ _ _ _ g _ _ _ _ c.before.before.before.before.before.over.ensures c.before.before.before.before.near.ensures _ c.before.before.before.before.before.before.distance_at_law.ensures), c.before.before.far-outcome.ensures.1)
+returns c = λ p S g. c.far-outcome.ensures p S _ (sets_reaching p _ _ _ S _ _ _ _ _ _ g _ _ _ _ c.before.before.over.ensures c.before.near.ensures _ c.before.before.before.distance_at_law.ensures)
 
 pub far_by_sets_spec : {M : Type 1} → statement M
 far_by_sets_spec =
@@ -33,5 +30,4 @@ far_by_sets_spec =
     over-requires
     near-requires
     far-outcome-requires
-    same_length
     returns)

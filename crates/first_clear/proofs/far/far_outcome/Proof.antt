@@ -1,9 +1,9 @@
-use mathlib.Core.Path.{refl, sym, ◌∙◌}
+use mathlib.Core.Path.{sym, ◌∙◌}
 use native.Mathlib.Omega.{arith}
 use borrow.Author.Tests.{not_true, not_false}
 use Rattle.search.proofs.Clip.{rows_fit}
 use Rattle.notes.proofs.Knowing.{rows_missing}
-use Rattle.first_clear.proofs.Reaches.{notes_hold, own_note, note_via, via_known, node_here, second_inside, by_second, by_first}
+use Rattle.first_clear.proofs.Reaches.{own_note, note_via, via_known, node_here, second_inside, by_second, by_first}
 use Rattle.first_clear.proofs.Dests.{member, first_leg}
 use borrow.Author.Rules.{rules}
 use Rattle.first_clear.proofs.far.far_outcome.Statement.{statement}
@@ -13,13 +13,13 @@ has-rows-requires : tie.Need-has-rows-requires
 has-rows-requires c κs = search rules
 
 returns : tie.Need-returns
-returns c = (λ p S D g _. absurd (rows_missing _ _ _ _ c.before.has-rows.ensures (not_true _ c.if1.true) g.both.room), refl)
+returns c = λ p S D g. absurd (rows_missing _ _ _ _ c.before.has-rows.ensures (not_true _ c.if1.true) g.both.room)
 
 reach-requires : tie.Need-reach-requires
 reach-requires c κs = search rules
 
 add-least : tie.Need-overflow-add-least
-add-least c = let room = rows_fit _ _ _ (sym c.before.before.before.before.before.before.has-rows.ensures ∙ not_false _ c.before.before.before.before.before.if1.false) in let good = c.before.before.before.before.before.before.before.before.before.before.well-formed in omega (arith, room)
+add-least c = let room = rows_fit _ _ _ (sym c.before.before.before.has-rows.ensures ∙ not_false _ c.before.before.if1.false) in omega (arith, room)
 
 bound-requires : tie.Need-bound-requires
 bound-requires c κs = search rules
@@ -33,8 +33,8 @@ cast-i c = search rules
 mul-value : tie.Need-overflow-mul-value
 mul-value c = search rules
 
-slice-read-value : tie.Need-slice-read-value
-slice-read-value c = (c.before.before.least.ensures.1 c.before.if2.true).0
+array-read-value : tie.Need-array-read-value
+array-read-value c = search rules
 
 via-in-requires : tie.Need-via-in-requires
 via-in-requires c κs = search rules
@@ -54,11 +54,8 @@ has-requires-2 c κs = search rules
 by-two-requires : tie.Need-by-two-requires
 by-two-requires c κs = search rules
 
-same_length : tie.Need-same-length
-same_length c = c.before.before.before.before.before.before.before.before.before.before.before.before.before.before.before.reach.ensures.1
-
 returns-2 : tie.Need-returns-2
-returns-2 c = (λ p S D g room. let are = c.before.before.before.before.before.before.before.before.before.before.before.before.before.before.before.reach.ensures.0 (notes_hold p _ _ S D _ _ _ _ _ _ _ _ _ _ _ g) room in let least = c.before.before.before.before.before.before.before.before.before.least.ensures.0 (omega (arith, room, c.before.before.before.before.before.before.before.before.before.before.before.before.before.before.before.reach.ensures.1)) in let eb = c.before.before.before.before.before.before.before.before.before.before.bound.ensures in let found = c.before.before.before.before.before.before.before.before.if2.true in let here = node_here p _ _ S D _ _ _ _ _ _ _ _ _ _ _ g _ are _ eb _ least found in let leg = first_leg p _ S _ _ _ _ _ g.apart.plan g.apart.shape g.out (via_known p _ _ S D _ _ _ _ _ _ _ _ _ _ _ g _ are _ eb _ least found) c.before.before.before.before.before.via-in.ensures c.before.before.before.before.coords.ensures (c.before.before.before.has.ensures (omega arith)) in let back = member p _ _ _ _ _ _ g.apart.plan g.apart.shape here c.before.before.coords2.ensures (c.before.has2.ensures (omega (arith, g.both.room))) ∙ g.both.adaptive _ here (second_inside p _ _ S D _ _ _ _ _ _ _ _ _ _ _ g _ are _ eb _ least found) in by_second p _ _ S D _ _ _ _ _ _ _ _ _ _ _ g _ are _ eb _ least found _ _ leg back _ c.by_two.ensures, c.before.before.before.before.before.before.before.before.before.before.before.before.before.before.before.reach.ensures.1)
+returns-2 c = λ p S D g. let are = c.before.before.before.before.before.before.before.before.before.before.before.before.reach.ensures in let eb = c.before.before.before.before.before.before.before.before.before.bound.ensures in let least = c.before.before.before.before.before.before.before.before.least.ensures in let found = c.before.before.before.before.before.before.before.if2.true in let here = node_here p _ _ S D _ _ _ _ _ _ _ _ _ _ _ g _ are _ eb _ least found in let leg = first_leg p _ S _ _ _ _ _ g.apart.plan g.apart.shape g.out (via_known p _ _ S D _ _ _ _ _ _ _ _ _ _ _ g _ are _ eb _ least found) c.before.before.before.before.before.via-in.ensures c.before.before.before.before.coords.ensures (c.before.before.before.has.ensures (omega arith)) in let back = member p _ _ _ _ _ _ g.apart.plan g.apart.shape here c.before.before.coords2.ensures (c.before.has2.ensures (omega (arith, g.both.room))) ∙ g.both.adaptive _ here (second_inside p _ _ S D _ _ _ _ _ _ _ _ _ _ _ g _ are _ eb _ least found) in by_second p _ _ S D _ _ _ _ _ _ _ _ _ _ _ g _ are _ eb _ least found _ _ leg back _ c.by_two.ensures
 
 via-in-requires-2 : tie.Need-via-in-requires-2
 via-in-requires-2 c κs = search rules
@@ -72,11 +69,8 @@ has-requires-3 c κs = search rules
 by-one-requires : tie.Need-by-one-requires
 by-one-requires c κs = search rules
 
-same-length-2 : tie.Need-same-length-2
-same-length-2 c = c.before.before.before.before.before.before.before.before.before.before.before.before.reach.ensures.1
-
 returns-3 : tie.Need-returns-3
-returns-3 c = (λ p S D g room. let are = c.before.before.before.before.before.before.before.before.before.before.before.before.reach.ensures.0 (notes_hold p _ _ S D _ _ _ _ _ _ _ _ _ _ _ g) room in let least = c.before.before.before.before.before.before.least.ensures.0 (omega (arith, room, c.before.before.before.before.before.before.before.before.before.before.before.before.reach.ensures.1)) in by_first p _ _ S D _ _ _ _ _ _ _ _ _ _ _ g _ are _ c.before.before.before.before.before.before.before.bound.ensures _ least c.before.before.before.before.before.if2.false _ (λ low. first_leg p _ S _ _ _ _ _ g.apart.plan g.apart.shape g.out (note_via p S D _ g.apart.plan (own_note p _ _ S D _ _ _ _ _ _ _ _ _ _ _ g) low) c.before.before.before.via-in2.ensures c.before.before.coords3.ensures (c.before.has3.ensures (omega arith))) _ c.by_one.ensures, c.before.before.before.before.before.before.before.before.before.before.before.before.reach.ensures.1)
+returns-3 c = λ p S D g. let are = c.before.before.before.before.before.before.before.before.before.before.reach.ensures in by_first p _ _ S D _ _ _ _ _ _ _ _ _ _ _ g _ are _ c.before.before.before.before.before.before.before.bound.ensures _ c.before.before.before.before.before.before.least.ensures c.before.before.before.before.before.if2.false _ (λ low. first_leg p _ S _ _ _ _ _ g.apart.plan g.apart.shape g.out (note_via p S D _ g.apart.plan (own_note p _ _ S D _ _ _ _ _ _ _ _ _ _ _ g) low) c.before.before.before.via-in2.ensures c.before.before.coords3.ensures (c.before.has3.ensures (omega arith))) _ c.by_one.ensures
 
 pub far_outcome_spec : {M : Type 1} → statement M
 far_outcome_spec =
@@ -90,18 +84,16 @@ far_outcome_spec =
     least-requires
     cast-i
     mul-value
-    slice-read-value
+    array-read-value
     via-in-requires
     coords-requires
     has-requires
     coords-requires-2
     has-requires-2
     by-two-requires
-    same_length
     returns-2
     via-in-requires-2
     coords-requires-3
     has-requires-3
     by-one-requires
-    same-length-2
     returns-3)

@@ -7,9 +7,6 @@ use Rattle.listing_text.proofs.checks.listing_error.Tie as tie
 returns : tie.Need-returns
 returns c = no_source c.before.before.args.input.now (omega arith)
 
-large-requires : tie.Need-large-requires
-large-requires c κs = search rules
-
 sub-source-error : tie.Need-overflow-sub-source-error
 sub-source-error c = search rules
 
@@ -26,14 +23,13 @@ source-error-requires : tie.Need-source-error-requires
 source-error-requires c κs = search rules
 
 returns-2 : tie.Need-returns-2
-returns-2 c = read_source c.before.before.before.before.before.before.args.input.now c.before.source_in.result c.source_error_law.result (omega arith) c.before.source_in.ensures (rw c.before.before.before.large.ensures at c.source_error_law.ensures)
+returns-2 c = read_source c.before.before.before.before.before.args.input.now c.before.source_in.result c.source_error_law.result (omega arith) c.before.source_in.ensures c.source_error_law.ensures
 
 pub listing_error_spec : {M : Type 1} → statement M
 listing_error_spec =
     tie.close
     (tie.spec
     returns
-    large-requires
     sub-source-error
     part-source-error-start
     part-source-error-end

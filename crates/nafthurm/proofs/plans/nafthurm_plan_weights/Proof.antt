@@ -2,14 +2,14 @@ use borrow.Author.Rules.{rules}
 use Rattle.nafthurm.proofs.plans.nafthurm_plan_weights.Statement.{statement}
 use Rattle.nafthurm.proofs.plans.nafthurm_plan_weights.Tie as tie
 
-large-requires : tie.Need-large-requires
-large-requires c κs = search rules
+weights-of-requires : tie.Need-weights-of-requires
+weights-of-requires c κs = search rules
 
-weights-within-requires : tie.Need-weights-within-requires
-weights-within-requires c κs = search rules
+weights-for-requires : tie.Need-weights-for-requires
+weights-for-requires c κs = search rules
 
 returns : tie.Need-returns
-returns c = rw (← c.before.large.ensures) c.weights-within.ensures
+returns c = rw (← c.before.weights-of.ensures) c.weights-for.ensures
 
 pub nafthurm_plan_weights_spec : {M : Type 1} → statement M
-nafthurm_plan_weights_spec = tie.close (tie.spec large-requires weights-within-requires returns)
+nafthurm_plan_weights_spec = tie.close (tie.spec weights-of-requires weights-for-requires returns)

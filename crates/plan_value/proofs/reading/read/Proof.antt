@@ -1,8 +1,6 @@
-use Rattle.plan_value.specs.Reading.{no_plan, plan_of, reading}
-use mathlib.Core.Path.{refl, sym, ◌∙◌}
-use Rattle.plan.specs.declared.reading.Answer.TheVariants.{Refused}
-use Rattle.plan_value.specs.declared.reading.Reading.{Reading}
-use Rattle.plan.proofs.Readings.{refused_as, read_as}
+use Rattle.plan_value.specs.Reading.{plan_of, reading}
+use mathlib.Core.Path.{sym, ◌∙◌}
+use Rattle.plan_value.proofs.Readings.{refused, read_as}
 use borrow.Author.Rules.{rules}
 use Rattle.plan_value.proofs.reading.read.Statement.{statement}
 use Rattle.plan_value.proofs.reading.read.Tie as tie
@@ -11,8 +9,7 @@ check-requires : tie.Need-check-requires
 check-requires c κs = tt
 
 returns : tie.Need-returns
-unfolding reading
-returns c = refused_as {A = Reading} (λ k. reading k c.before.before.before.args.sheet.now) _ _ c.before.check.ensures (λ k. record { answer = Refused k; plan = no_plan }) (λ k. refl) c.if1.true
+returns c = refused _ _ _ c.before.check.ensures c.if1.true
 
 faults-in-requires : tie.Need-faults-in-requires
 faults-in-requires c κs = sym c.before.check.ensures ∙ c.if1.false
@@ -31,7 +28,7 @@ count-in-requires c κs = tt
 
 returns-2 : tie.Need-returns-2
 unfolding reading plan_of
-returns-2 c = read_as (λ k. reading k c.before.before.before.before.before.before.before.before.args.sheet.now) _ _ c.before.before.before.before.before.before.check.ensures c.before.before.before.before.before.if1.false _ (rw (c.count-in.ensures, c.before.weights-in.ensures, c.before.before.shape-in.ensures, c.before.before.before.version-in.ensures, c.before.before.before.before.faults-in.ensures))
+returns-2 c = read_as _ _ _ c.before.before.before.before.before.before.check.ensures c.before.before.before.before.before.if1.false _ (rw (c.count-in.ensures, c.before.weights-in.ensures, c.before.before.shape-in.ensures, c.before.before.before.version-in.ensures, c.before.before.before.before.faults-in.ensures))
 
 pub read_spec : {M : Type 1} → statement M
 read_spec =

@@ -31,9 +31,6 @@ mul-end c = omega arith
 add-end : tie.Need-overflow-add-end
 add-end c = omega (arith, c.head_size_law.ensures.1.1)
 
-large-requires : tie.Need-large-requires
-large-requires c κs = search rules
-
 array-share-prefix-bytes : tie.Need-array-share-prefix-bytes
 array-share-prefix-bytes c = search rules
 
@@ -47,7 +44,7 @@ same_length : tie.Need-same-length
 same_length c = search rules
 
 returns-2 : tie.Need-returns-2
-returns-2 c = rw (← c.before.before.before.before.before.before.before.encoded.ensures) (rw (← c.before.before.before.before.before.before.head_size_law.ensures.0) (rw c.before.before.before.before.before.large.ensures at c.before.before.write-back.ensures))
+returns-2 c = rw (← c.before.before.before.before.before.before.encoded.ensures) (rw (← c.before.before.before.before.before.head_size_law.ensures.0) c.before.before.write-back.ensures)
 
 pub write_spec : {M : Type 1} → statement M
 write_spec =
@@ -61,7 +58,6 @@ write_spec =
     cast-end
     mul-end
     add-end
-    large-requires
     array-share-prefix-bytes
     slice-aggregate-write-back
     write-back-requires

@@ -27,16 +27,16 @@ part-write-board-end : tie.Need-slice-bounds-write-board-end invariant-loop decr
 part-write-board-end c = search rules
 
 write-board-requires : tie.Need-write-board-requires invariant-loop decreases-loop
-write-board-requires c κs = (c.before.before.before.before.before.before.before.before.before.before.before.before.requires.0, (c.before.before.before.before.before.before.before.before.before.before.before.before.requires.1.0, (c.before.before.before.before.before.before.before.before.before.before.before.before.requires.1.1.0, let e = c.before.before.before.before.before.before.before.before.before.before.before.before.requires.1.1.1 in omega arith)))
+write-board-requires c κs = (c.before.before.before.before.before.before.requires.0, (c.before.before.before.before.before.before.requires.1.0, let e = c.before.before.before.before.before.before.requires.1.1 in omega arith))
 
 same_length : tie.Need-same-length invariant-loop decreases-loop
 same_length c = run_long _ _ _ _ _ _ _ _ c.before.before.before.before.before.before.loop.invariant (omega arith) _ _ c.before.before.before.write-board.ensures.0 (search rules) c.before.before.before.write-board.ensures.1
 
 returns : tie.Need-returns invariant-loop decreases-loop
-returns c = run_full _ _ _ _ _ _ _ _ c.before.before.before.before.before.before.loop.invariant (omega arith) _ _ c.before.before.before.write-board.ensures.0 (search rules) c.before.before.before.write-board.ensures.1 c.if1.true c.before.before.before.before.before.before.before.before.before.before.before.before.before.before.before.before.requires.1.1.1
+returns c = run_full _ _ _ _ _ _ _ _ c.before.before.before.before.before.before.loop.invariant (omega arith) _ _ c.before.before.before.write-board.ensures.0 (search rules) c.before.before.before.write-board.ensures.1 c.if1.true c.before.before.before.before.before.before.before.before.before.before.requires.1.1
 
 add-size : tie.Need-overflow-add-size invariant-loop decreases-loop
-add-size c = let h = c.before.before.before.before.before.before.before.before.before.before.before.before.before.before.before.before.before.well-formed in omega (arith, (run_turned _ _ _ _ _ _ _ _ c.before.before.before.before.before.before.before.loop.invariant (omega arith) _ _ c.before.before.before.before.write-board.ensures.0 (search rules) c.before.before.before.before.write-board.ensures.1 c.before.if1.false).within)
+add-size c = let h = c.before.before.before.before.before.before.before.before.before.before.before.well-formed in omega (arith, (run_turned _ _ _ _ _ _ _ _ c.before.before.before.before.before.before.before.loop.invariant (omega arith) _ _ c.before.before.before.before.write-board.ensures.0 (search rules) c.before.before.before.before.write-board.ensures.1 c.before.if1.false).within)
 
 add-next : tie.Need-overflow-add-next invariant-loop decreases-loop
 add-next c = omega arith
@@ -51,7 +51,7 @@ same-length-2 : tie.Need-same-length-2 invariant-loop decreases-loop
 same-length-2 c = c.before.loop.invariant.long
 
 returns-2 : tie.Need-returns-2 invariant-loop decreases-loop
-returns-2 c = run_done _ _ _ _ _ _ _ _ c.before.loop.invariant (omega arith) c.before.before.before.before.before.before.before.before.before.before.before.requires.1.1.1
+returns-2 c = run_done _ _ _ _ _ _ _ _ c.before.loop.invariant (omega arith) c.before.before.before.before.before.requires.1.1
 
 pub boards_from_spec : {M : Type 1} → statement M
 boards_from_spec =

@@ -1,7 +1,5 @@
-use native.Mathlib.Omega.{arith}
-use Rattle.plan.specs.Checks.{large}
-use Rattle.planner.proofs.Lent.{losses_put, faults_fit}
 use borrow.Author.Rules.{rules}
+use native.Mathlib.Omega.{arith}
 use mathlib.Core.Logic.{inr}
 use Rattle.planner.proofs.Boarding.{run_plan}
 use Rattle.planner.proofs.boards.write_boards.Statement.{statement}
@@ -10,11 +8,8 @@ use Rattle.planner.proofs.boards.write_boards.Tie as tie
 shape-in-requires : tie.Need-shape-in-requires
 shape-in-requires c κs = search rules
 
-slice-aggregate-put-losses : tie.Need-slice-aggregate-put-losses
-slice-aggregate-put-losses c = search rules
-
-put-losses-requires : tie.Need-put-losses-requires
-put-losses-requires c κs = search rules
+losses-requires : tie.Need-losses-requires
+losses-requires c κs = search rules
 
 cast-count : tie.Need-overflow-cast-count
 cast-count c = search rules
@@ -25,29 +20,11 @@ table-requires c κs = search rules
 table-requires-2 : tie.Need-table-requires-2
 table-requires-2 c κs = search rules
 
-slice-aggregate-fill : tie.Need-slice-aggregate-fill
-slice-aggregate-fill c = search rules
-
-slice-aggregate-fill-2 : tie.Need-slice-aggregate-fill-2
-slice-aggregate-fill-2 c = search rules
-
-slice-aggregate-fill-3 : tie.Need-slice-aggregate-fill-3
-slice-aggregate-fill-3 c = search rules
-
 fill-requires : tie.Need-fill-requires
-fill-requires c κs = (run_plan _ _ _ _ c.before.before.before.before.before.before.before.before.before.before.before.before.before.requires.0 c.before.before.before.before.before.before.before.before.before.shape-in.ensures (losses_put _ _ _ _ c.before.before.before.before.before.before.before.before.before.before.before.before.before.requires.0 c.before.before.before.before.before.before.before.put-losses.ensures (omega (arith, faults_fit large _ c.before.before.before.before.before.before.before.before.before.before.before.before.before.requires.0))), ((λ _. c.before.before.before.before.before.table.ensures), ((λ _. c.before.before.before.before.table2.ensures), (c.before.before.before.before.before.before.before.before.before.before.before.before.before.requires.1, c.before.before.before.before.before.before.before.before.before.before.before.before.before.requires.2))))
-
-slice-aggregate-boards-by : tie.Need-slice-aggregate-boards-by
-slice-aggregate-boards-by c = search rules
-
-slice-aggregate-boards-by-2 : tie.Need-slice-aggregate-boards-by-2
-slice-aggregate-boards-by-2 c = search rules
-
-slice-aggregate-boards-by-3 : tie.Need-slice-aggregate-boards-by-3
-slice-aggregate-boards-by-3 c = search rules
+fill-requires c κs = (run_plan _ _ _ _ c.before.before.before.before.before.before.before.before.before.before.before.before.before.requires.0 c.before.before.before.before.before.before.before.before.before.shape-in.ensures c.before.before.before.before.before.before.before.before.losses.ensures, (c.before.before.before.before.before.table.ensures, (c.before.before.before.before.table2.ensures, (c.before.before.before.before.before.before.before.before.before.before.before.before.before.requires.1, c.before.before.before.before.before.before.before.before.before.before.before.before.before.requires.2))))
 
 boards-by-requires : tie.Need-boards-by-requires
-boards-by-requires c κs = (run_plan _ _ _ _ c.before.before.before.before.before.before.before.before.before.before.before.before.before.before.before.before.before.before.before.before.before.requires.0 c.before.before.before.before.before.before.before.before.before.before.before.before.before.before.before.before.before.shape-in.ensures (losses_put _ _ _ _ c.before.before.before.before.before.before.before.before.before.before.before.before.before.before.before.before.before.before.before.before.before.requires.0 c.before.before.before.before.before.before.before.before.before.before.before.before.before.before.before.put-losses.ensures (omega (arith, faults_fit large _ c.before.before.before.before.before.before.before.before.before.before.before.before.before.before.before.before.before.before.before.before.before.requires.0))), ((λ _. c.before.before.before.before.before.before.before.before.before.before.before.before.before.table.ensures), ((λ _. c.before.before.before.before.before.before.before.before.before.before.before.before.table2.ensures), (c.before.before.before.before.before.before.before.before.before.before.before.before.before.before.before.before.before.before.before.before.before.requires.1, omega (arith, c.before.before.before.before.before.before.before.before.before.before.before.before.before.before.before.before.before.before.before.before.before.requires.2, c.before.before.before.before.before.before.before.fill.auto)))))
+boards-by-requires c κs = (run_plan _ _ _ _ c.before.before.before.before.before.before.before.before.before.before.before.before.before.before.before.before.before.before.before.before.before.requires.0 c.before.before.before.before.before.before.before.before.before.before.before.before.before.before.before.before.before.shape-in.ensures c.before.before.before.before.before.before.before.before.before.before.before.before.before.before.before.before.losses.ensures, (c.before.before.before.before.before.before.before.before.before.before.before.before.before.table.ensures, (c.before.before.before.before.before.before.before.before.before.before.before.before.table2.ensures, (c.before.before.before.before.before.before.before.before.before.before.before.before.before.before.before.before.before.before.before.before.before.requires.1, omega (arith, c.before.before.before.before.before.before.before.before.before.before.before.before.before.before.before.before.before.before.before.before.before.requires.2, c.before.before.before.before.before.before.before.fill.auto)))))
 
 same_length : tie.Need-same-length
 same_length c = search rules
@@ -63,18 +40,11 @@ write_boards_spec =
     tie.close
     (tie.spec
     shape-in-requires
-    slice-aggregate-put-losses
-    put-losses-requires
+    losses-requires
     cast-count
     table-requires
     table-requires-2
-    slice-aggregate-fill
-    slice-aggregate-fill-2
-    slice-aggregate-fill-3
     fill-requires
-    slice-aggregate-boards-by
-    slice-aggregate-boards-by-2
-    slice-aggregate-boards-by-3
     boards-by-requires
     same_length
     same-length-2

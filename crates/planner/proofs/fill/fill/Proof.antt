@@ -21,11 +21,11 @@ loop-holds c = (omega arith, none_filled _ _)
 coords-requires : tie.Need-coords-requires invariant-loop decreases-loop
 coords-requires c κs = search rules
 
-toward-requires : tie.Need-toward-requires invariant-loop decreases-loop
-toward-requires c κs = search rules
+gather-requires : tie.Need-gather-requires invariant-loop decreases-loop
+gather-requires c κs = search rules
 
-toward-requires-2 : tie.Need-toward-requires-2 invariant-loop decreases-loop
-toward-requires-2 c κs = search rules
+gather-requires-2 : tie.Need-gather-requires-2 invariant-loop decreases-loop
+gather-requires-2 c κs = search rules
 
 cast-at : tie.Need-overflow-cast-at invariant-loop decreases-loop
 cast-at c = search rules
@@ -43,13 +43,13 @@ loop-less : tie.Need-loop-smaller invariant-loop decreases-loop
 loop-less c = omega arith
 
 loop-again : tie.Need-loop-preserved invariant-loop decreases-loop
-loop-again c = let pre = c.before.before.before.before.before.before.before.before.before.before.before.before.before.before.before.before.requires in let inv = c.before.before.before.before.before.before.before.before.before.before.loop.invariant.1 in let room : 512 * c.before.before.before.before.before.before.before.before.before.before.loop.node + 512 ≤ length c.before.before.before.before.before.before.before.before.before.before.loop.work = omega (arith, pre.1.1.1.1, inv.long) in let ends = to_fill _ _ _ _ c.before.before.before.before.before.before.before.before.before.before.before.before.before.before.before.before.args.ta.now c.before.before.before.before.before.before.before.before.before.before.before.before.before.before.before.before.args.td.now _ _ c.before.before.before.before.before.before.before.toward.result c.before.before.before.before.before.before.toward2.result pre.0 pre.1.0 pre.1.1.0 (omega (arith, pre.1.1.1.0)) c.before.before.before.before.before.before.before.before.coords.ensures c.before.before.before.before.before.before.before.toward.ensures c.before.before.before.before.before.before.toward2.ensures in let e = c.before.before.put_both.ensures in (omega arith, one_filled _ pre.0.plan _ _ _ _ _ refl inv (e.0 _ _ _ _ ends room) (e.1 room))
+loop-again c = let pre = c.before.before.before.before.before.before.before.before.before.before.before.before.before.requires in let inv = c.before.before.before.before.before.before.before.before.before.before.loop.invariant.1 in let room : 512 * c.before.before.before.before.before.before.before.before.before.before.loop.node + 512 ≤ length c.before.before.before.before.before.before.before.before.before.before.loop.work = omega (arith, pre.1.1.1.1, inv.long) in let ends = to_fill _ _ _ _ _ _ _ _ c.before.before.before.before.before.before.before.gather.result c.before.before.before.before.before.before.gather2.result pre.0 pre.1.0 pre.1.1.0 (omega (arith, pre.1.1.1.0)) c.before.before.before.before.before.before.before.before.coords.ensures c.before.before.before.before.before.before.before.gather.ensures c.before.before.before.before.before.before.gather2.ensures in let e = c.before.before.put_both.ensures in (omega arith, one_filled _ pre.0.plan _ _ _ _ _ refl inv (e.0 _ _ _ _ ends room) (e.1 room))
 
 same_length : tie.Need-same-length invariant-loop decreases-loop
 same_length c = c.before.loop.invariant.1.long
 
 returns : tie.Need-returns invariant-loop decreases-loop
-returns c = all_filled _ _ _ _ (let e = c.before.before.before.before.before.before.before.requires.1.1.1.0 in omega arith) c.before.loop.invariant.1
+returns c = all_filled _ _ _ _ (let e = c.before.before.before.before.requires.1.1.1.0 in omega arith) c.before.loop.invariant.1
 
 pub fill_spec : {M : Type 1} → statement M
 fill_spec =
@@ -59,8 +59,8 @@ fill_spec =
     decreases-loop
     loop-holds
     coords-requires
-    toward-requires
-    toward-requires-2
+    gather-requires
+    gather-requires-2
     cast-at
     mul_at
     put-both-requires

@@ -1,5 +1,4 @@
-use native.Mathlib.Omega.{arith}
-use Rattle.planner.proofs.Lent.{room_kept}
+use mathlib.Core.Path.{refl}
 use Rattle.planner.proofs.Pairs.{all_noted, all_twos}
 use borrow.Author.Rules.{rules}
 use Rattle.planner.proofs.listed.routes_from.Statement.{statement}
@@ -14,26 +13,14 @@ from-masks-requires-2 c κs = search rules
 weights-in-requires : tie.Need-weights-in-requires
 weights-in-requires c κs = search rules
 
-note-all-requires : tie.Need-note-all-requires
-note-all-requires c κs = (c.before.before.before.before.before.before.before.before.before.before.before.before.before.before.before.before.before.before.before.before.requires.1.1.1.1.1.0, (c.before.before.before.before.before.before.before.before.before.before.before.before.before.before.before.before.before.before.before.before.requires.1.1.1.1.1.1.0.0, (record { prepared = c.before.before.before.before.before.before.before.before.before.before.before.before.before.before.before.before.before.before.before.before.requires.0; source = c.before.before.before.before.before.before.before.before.before.before.before.before.before.before.before.before.before.before.before.before.requires.1.0; alive = c.before.before.before.before.before.before.before.before.before.before.before.before.before.before.before.before.before.before.before.before.requires.1.1.1.1.0; adaptive = c.before.before.before.before.before.before.before.before.from-masks.ensures _ _ _ _ _ c.before.before.before.before.before.before.before.before.before.before.before.before.before.before.before.before.before.before.before.before.requires.0.of_plan c.before.before.before.before.before.before.before.before.before.before.before.before.before.before.before.before.before.before.before.before.requires.1.0 c.before.before.before.before.before.before.before.before.before.before.before.before.before.before.before.before.before.before.before.before.requires.1.1.0; deterministic = c.before.before.before.before.before.before.before.from-masks2.ensures _ _ _ _ _ c.before.before.before.before.before.before.before.before.before.before.before.before.before.before.before.before.before.before.before.before.requires.0.of_plan c.before.before.before.before.before.before.before.before.before.before.before.before.before.before.before.before.before.before.before.before.requires.1.0 c.before.before.before.before.before.before.before.before.before.before.before.before.before.before.before.before.before.before.before.before.requires.1.1.1.0 }, c.before.before.before.before.before.before.weights-in.ensures)))
+notes-from-requires : tie.Need-notes-from-requires
+notes-from-requires c κs = (refl, (record { prepared = c.before.before.before.before.before.before.before.before.before.before.requires.0; source = c.before.before.before.before.before.before.before.before.before.before.requires.1.0; alive = c.before.before.before.before.before.before.before.before.before.before.requires.1.1.1.1.0; adaptive = c.before.before.before.before.before.before.from-masks.ensures _ _ _ _ _ c.before.before.before.before.before.before.before.before.before.before.requires.0.of_plan c.before.before.before.before.before.before.before.before.before.before.requires.1.0 c.before.before.before.before.before.before.before.before.before.before.requires.1.1.0; deterministic = c.before.before.before.before.before.from-masks2.ensures _ _ _ _ _ c.before.before.before.before.before.before.before.before.before.before.requires.0.of_plan c.before.before.before.before.before.before.before.before.before.before.requires.1.0 c.before.before.before.before.before.before.before.before.before.before.requires.1.1.1.0 }, c.before.before.before.before.weights-in.ensures))
 
 list-requires : tie.Need-list-requires
-list-requires c κs = let g = c.before.before.before.before.before.before.before.before.before.before.before.before.before.before.before.before.before.before.before.before.before.before.before.before.before.before.before.before.before.before.before.before.before.requires in (record { prepared = c.before.before.before.before.before.before.before.before.before.before.before.before.before.before.before.before.before.before.before.before.before.before.before.before.before.before.before.before.before.before.before.before.before.requires.0; source = c.before.before.before.before.before.before.before.before.before.before.before.before.before.before.before.before.before.before.before.before.before.before.before.before.before.before.before.before.before.before.before.before.before.requires.1.0; alive = c.before.before.before.before.before.before.before.before.before.before.before.before.before.before.before.before.before.before.before.before.before.before.before.before.before.before.before.before.before.before.before.before.before.requires.1.1.1.1.0; adaptive = c.before.before.before.before.before.before.before.before.before.before.before.before.before.before.before.before.before.before.before.before.before.from-masks.ensures _ _ _ _ _ c.before.before.before.before.before.before.before.before.before.before.before.before.before.before.before.before.before.before.before.before.before.before.before.before.before.before.before.before.before.before.before.before.before.requires.0.of_plan c.before.before.before.before.before.before.before.before.before.before.before.before.before.before.before.before.before.before.before.before.before.before.before.before.before.before.before.before.before.before.before.before.before.requires.1.0 c.before.before.before.before.before.before.before.before.before.before.before.before.before.before.before.before.before.before.before.before.before.before.before.before.before.before.before.before.before.before.before.before.before.requires.1.1.0; deterministic = c.before.before.before.before.before.before.before.before.before.before.before.before.before.before.before.before.before.before.before.before.from-masks2.ensures _ _ _ _ _ c.before.before.before.before.before.before.before.before.before.before.before.before.before.before.before.before.before.before.before.before.before.before.before.before.before.before.before.before.before.before.before.before.before.requires.0.of_plan c.before.before.before.before.before.before.before.before.before.before.before.before.before.before.before.before.before.before.before.before.before.before.before.before.before.before.before.before.before.before.before.before.before.requires.1.0 c.before.before.before.before.before.before.before.before.before.before.before.before.before.before.before.before.before.before.before.before.before.before.before.before.before.before.before.before.before.before.before.before.before.requires.1.1.1.0 }, ((λ w. (all_noted _ _ _ _ (c.before.before.before.before.before.before.before.before.before.before.before.before.before.before.before.before.before.before.before.before.before.from-masks.ensures _ _ _ _ _ g.0.of_plan g.1.0 g.1.1.0) (c.before.before.before.before.before.before.before.before.before.before.before.before.note-all.ensures w).0, all_twos _ _ _ _ _ (c.before.before.before.before.before.before.before.before.before.before.before.before.before.before.before.before.before.before.before.before.before.from-masks.ensures _ _ _ _ _ g.0.of_plan g.1.0 g.1.1.0) (c.before.before.before.before.before.before.before.before.before.before.before.before.note-all.ensures w).1)), ((room_kept _ _ _ _ _ g.1.1.1.1.1.1.0.0 (omega arith) (omega arith), omega (arith, g.1.1.1.1.1.1.0.1)), g.1.1.1.1.1.1.1)))
+list-requires c κs = let g = c.before.before.before.before.before.before.before.before.before.before.before.before.before.before.before.before.requires in (record { prepared = c.before.before.before.before.before.before.before.before.before.before.before.before.before.before.before.before.requires.0; source = c.before.before.before.before.before.before.before.before.before.before.before.before.before.before.before.before.requires.1.0; alive = c.before.before.before.before.before.before.before.before.before.before.before.before.before.before.before.before.requires.1.1.1.1.0; adaptive = c.before.before.before.before.before.before.before.before.before.before.before.before.from-masks.ensures _ _ _ _ _ c.before.before.before.before.before.before.before.before.before.before.before.before.before.before.before.before.requires.0.of_plan c.before.before.before.before.before.before.before.before.before.before.before.before.before.before.before.before.requires.1.0 c.before.before.before.before.before.before.before.before.before.before.before.before.before.before.before.before.requires.1.1.0; deterministic = c.before.before.before.before.before.before.before.before.before.before.before.from-masks2.ensures _ _ _ _ _ c.before.before.before.before.before.before.before.before.before.before.before.before.before.before.before.before.requires.0.of_plan c.before.before.before.before.before.before.before.before.before.before.before.before.before.before.before.before.requires.1.0 c.before.before.before.before.before.before.before.before.before.before.before.before.before.before.before.before.requires.1.1.1.0 }, ((λ w. (all_noted _ _ _ _ (c.before.before.before.before.before.before.before.before.before.before.before.before.from-masks.ensures _ _ _ _ _ g.0.of_plan g.1.0 g.1.1.0) (c.before.before.before.before.before.notes-from.ensures w).0, all_twos _ _ _ _ _ (c.before.before.before.before.before.before.before.before.before.before.before.before.from-masks.ensures _ _ _ _ _ g.0.of_plan g.1.0 g.1.1.0) (c.before.before.before.before.before.notes-from.ensures w).1)), g.1.1.1.1.1))
 
 same_length : tie.Need-same-length
 same_length c = search rules
-
-same-length-2 : tie.Need-same-length-2
-same-length-2 c = search rules
-
-same-length-3 : tie.Need-same-length-3
-same-length-3 c = search rules
-
-same-length-4 : tie.Need-same-length-4
-same-length-4 c = search rules
-
-same-length-5 : tie.Need-same-length-5
-same-length-5 c = search rules
 
 returns : tie.Need-returns
 returns c = search rules
@@ -45,11 +32,7 @@ routes_from_spec =
     from-masks-requires
     from-masks-requires-2
     weights-in-requires
-    note-all-requires
+    notes-from-requires
     list-requires
     same_length
-    same-length-2
-    same-length-3
-    same-length-4
-    same-length-5
     returns)

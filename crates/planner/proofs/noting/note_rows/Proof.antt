@@ -1,6 +1,6 @@
 use native.Mathlib.Omega.{arith}
 use Prim.Native.Nat.{◌+◌, ◌-◌, ◌*◌, ◌≤◌}
-use mathlib.Core.Path.{◌≡◌, refl}
+use mathlib.Core.Path.{◌≡◌}
 use lib.ListN.{length}
 use Rattle.planner.specs.Ranked.{Noting}
 use Rattle.planner.proofs.EachNote.{same_noting, planes_done, plane_word}
@@ -9,13 +9,13 @@ use Rattle.planner.proofs.noting.note_rows.Statement.{statement}
 use Rattle.planner.proofs.noting.note_rows.Tie as tie
 
 abbrev invariant-loop : tie.invariant-loop
-invariant-loop plan weights shape words count near₀ dead ta td work source a fa fd skip levels rows r run₀ notes₀ twos₀ z₀ near run notes twos z = (z ≤ shape.z) × Noting plan work source skip notes twos (65536 * r + 4096 * z) × (length near ≡ length near₀) × (length notes ≡ length notes₀) × (length twos ≡ length twos₀)
+invariant-loop plan weights shape words count near₀ dead ta td work source a fa fd skip levels rows r run₀ notes₀ twos₀ z₀ near run notes twos z = (z ≤ shape.z) × (length near ≡ 256) × Noting plan work source skip notes twos (65536 * r + 4096 * z)
 
 abbrev decreases-loop : tie.decreases-loop
 decreases-loop plan weights shape words count near₀ dead ta td work source a fa fd skip levels rows r run₀ notes₀ twos₀ z₀ near run notes twos z = shape.z - z
 
 loop-holds : tie.Need-loop-init invariant-loop decreases-loop
-loop-holds c = (omega arith, same_noting _ _ _ _ _ _ _ _ (omega arith) c.before.before.before.before.before.before.before.before.before.requires.1.1.1.1.1, refl, refl, refl)
+loop-holds c = (omega arith, c.before.before.requires.0, same_noting _ _ _ _ _ _ _ _ (omega arith) c.before.before.requires.1.1.1.1.1)
 
 wrapped-requires : tie.Need-wrapped-requires invariant-loop decreases-loop
 wrapped-requires c κs = search rules
@@ -27,7 +27,7 @@ due-rows-requires : tie.Need-due-rows-requires invariant-loop decreases-loop
 due-rows-requires c κs = search rules
 
 note-plane-requires : tie.Need-note-plane-requires invariant-loop decreases-loop
-note-plane-requires c κs = (omega (arith, c.before.before.before.before.before.before.before.before.before.before.before.before.before.before.before.before.before.before.before.requires.0, c.before.before.before.before.before.before.before.before.before.loop.invariant.2), (c.before.before.before.before.before.before.before.before.before.before.before.before.before.before.before.before.before.before.before.requires.1.0, (c.before.before.before.before.before.before.before.before.before.before.before.before.before.before.before.before.before.before.before.requires.1.1.0, (c.before.before.before.before.before.before.before.before.before.before.before.before.before.before.before.before.before.before.before.requires.1.1.1.0, ((c.before.before.before.before.before.before.before.if1.true, plane_word _ _ _ _ _ _ _ _ _ _ _ _ c.before.before.before.before.before.before.before.before.before.before.before.before.before.before.before.before.before.before.before.requires.1.0 c.before.before.before.before.before.before.before.before.before.before.before.before.before.before.before.before.before.before.before.args.skip.now _ c.before.before.before.before.before.before.before.before.before.before.before.before.before.before.before.before.before.before.before.requires.1.1.1.1.0 _ _ _ _ c.before.before.before.before.before.before.before.if1.true (rw (c.before.before.before.before.before.hops.ensures, c.before.before.before.before.before.before.wrapped.ensures)) c.before.before.before.before.due-rows.ensures), c.before.before.before.before.before.before.before.before.before.loop.invariant.1)))))
+note-plane-requires c κs = (c.before.before.before.before.before.before.before.before.before.loop.invariant.1, (c.before.before.before.before.before.before.before.before.before.before.before.before.requires.1.0, (c.before.before.before.before.before.before.before.before.before.before.before.before.requires.1.1.0, (c.before.before.before.before.before.before.before.before.before.before.before.before.requires.1.1.1.0, ((c.before.before.before.before.before.before.before.if1.true, plane_word _ _ _ _ _ _ _ _ _ _ _ _ c.before.before.before.before.before.before.before.before.before.before.before.before.requires.1.0 c.before.before.before.before.before.before.before.before.before.before.before.before.args.skip.now _ c.before.before.before.before.before.before.before.before.before.before.before.before.requires.1.1.1.1.0 _ _ _ _ c.before.before.before.before.before.before.before.if1.true (rw (c.before.before.before.before.before.hops.ensures, c.before.before.before.before.before.before.wrapped.ensures)) c.before.before.before.before.due-rows.ensures), c.before.before.before.before.before.before.before.before.before.loop.invariant.2)))))
 
 add-z : tie.Need-overflow-add-z invariant-loop decreases-loop
 add-z c = omega arith
@@ -36,19 +36,10 @@ loop-less : tie.Need-loop-smaller invariant-loop decreases-loop
 loop-less c = omega arith
 
 loop-again : tie.Need-loop-preserved invariant-loop decreases-loop
-loop-again c = (omega arith, c.before.before.before.before.before.before.note-plane.ensures, omega (arith, c.before.before.before.before.before.before.before.before.before.before.before.before.before.before.before.before.loop.invariant.2), omega (arith, c.before.before.before.before.before.before.before.before.before.before.before.before.before.before.before.before.loop.invariant.3), omega (arith, c.before.before.before.before.before.before.before.before.before.before.before.before.before.before.before.before.loop.invariant.4))
-
-same_length : tie.Need-same-length invariant-loop decreases-loop
-same_length c = c.before.before.loop.invariant.2
-
-same-length-2 : tie.Need-same-length-2 invariant-loop decreases-loop
-same-length-2 c = c.before.before.loop.invariant.3
-
-same-length-3 : tie.Need-same-length-3 invariant-loop decreases-loop
-same-length-3 c = c.before.before.loop.invariant.4
+loop-again c = (omega arith, c.note-plane.ensures.1, c.note-plane.ensures.0)
 
 returns : tie.Need-returns invariant-loop decreases-loop
-returns c = planes_done _ _ _ _ _ _ _ _ _ _ _ _ c.before.before.before.before.before.before.before.before.before.before.before.before.requires.1.0 _ _ _ c.if1.false c.before.before.loop.invariant.0 _ _ c.before.before.loop.invariant.1
+returns c = (planes_done _ _ _ _ _ _ _ _ _ _ _ _ c.before.before.before.before.before.requires.1.0 _ _ _ c.if1.false c.before.before.loop.invariant.0 _ _ c.before.before.loop.invariant.2, c.before.before.loop.invariant.1)
 
 pub note_rows_spec : {M : Type 1} → statement M
 note_rows_spec =
@@ -64,7 +55,4 @@ note_rows_spec =
     add-z
     loop-less
     loop-again
-    same_length
-    same-length-2
-    same-length-3
     returns)

@@ -1,65 +1,65 @@
+use Rattle.planner.proofs.Pairs.{refused_pair, known, from_at, to_at, source_alive, paired}
 use native.Mathlib.Omega.{arith}
-use mathlib.Core.Path.{sym, ◌∙◌}
-use Rattle.plan.specs.Checks.{large}
-use Rattle.planner.proofs.Lent.{losses_put, faults_fit}
-use Rattle.planner.proofs.Pairs.{refused_pair, accepted, known, pair_large, paired}
+use Rattle.planner.proofs.pair.pair.Reads as reads
+use Rattle.planner.proofs.pair.pair.Lts as lts
+use Rattle.losses.proofs.losses.Reads as losses-reads
+use Rattle.machine.proofs.node.coords.Reads as coords-reads
+use Rattle.plan.proofs.layout.shape_in.Reads as shape-in-reads
+use Rattle.planner.proofs.pair.pair_error.Reads as pair-error-reads
+use Rattle.planner.proofs.pair.route.Reads as route-reads
 use borrow.Author.Rules.{rules}
 use Rattle.planner.proofs.pair.pair.Statement.{statement}
 use Rattle.planner.proofs.pair.pair.Tie as tie
 
-large-requires : tie.Need-large-requires
-large-requires c κs = search rules
-
+-- src/pair.rt:105:9
 pair-error-requires : tie.Need-pair-error-requires
-pair-error-requires c κs = search rules
+pair-error-requires c κs = tt
 
+-- src/pair.rt:107:9
 returns : tie.Need-returns
-returns c = refused_pair _ _ _ _ _ (rw c.before.before.large.ensures at c.before.pair_error_law.ensures) c.if1.true
+returns c = refused_pair _ _ _ _ c.before.pair_error_law.ensures c.if1.true
 
-slice-aggregate-put-losses : tie.Need-slice-aggregate-put-losses
-slice-aggregate-put-losses c = search rules
+-- src/pair.rt:109:9
+shape-in-requires : tie.Need-shape-in-requires
+shape-in-requires c κs = tt
 
-put-losses-requires : tie.Need-put-losses-requires
-put-losses-requires c κs = search rules
+-- src/pair.rt:110:9
+losses-requires : tie.Need-losses-requires
+losses-requires c κs = tt
 
+-- src/pair.rt:112:17
 cast-count : tie.Need-overflow-cast-count
-cast-count c = search rules
+cast-count c = omega arith
 
-slice-aggregate-soon : tie.Need-slice-aggregate-soon
-slice-aggregate-soon c = search rules
+weights-in-requires : tie.Need-weights-in-requires
+weights-in-requires c κs = search rules
 
-soon-requires : tie.Need-soon-requires
-soon-requires c κs = let same = pair_large large _ _ _ (sym (rw c.before.before.before.before.before.before.large.ensures at c.before.before.before.before.before.pair_error_law.ensures) ∙ c.before.before.before.before.if1.false) in let plan = (accepted _ _ _ same.1).plan in let own = same.0 ∙ plan in let k = known _ plan _ _ (losses_put _ _ _ _ plan c.before.before.put-losses.ensures (omega (arith, faults_fit large _ own))) in (k, same.1)
+-- src/pair.rt:120:9
+coords-requires : tie.Need-coords-requires
+coords-requires c κs = tt
 
-is-given-requires : tie.Need-is-given-requires
-is-given-requires c κs = search rules
+-- src/pair.rt:121:9
+coords-requires-2 : tie.Need-coords-requires-2
+coords-requires-2 c κs = tt
 
+route-requires : tie.Need-route-requires
+route-requires c κs = let is = c.before.before.before.before.before.before.before.shape-in.ensures in let error = c.before.before.before.before.before.before.before.before.before.pair_error_law.ensures in let zero = c.before.before.before.before.before.before.before.before.if1.false in (known _ _ _ _ _ is error zero _ _ c.before.before.before.before.before.before.losses.ensures, (from_at _ _ _ _ _ is error zero _ c.before.coords.ensures, (to_at _ _ _ _ _ is error zero _ c.coords2.ensures, (source_alive _ _ _ _ _ is error zero, c.before.before.before.weights-in.ensures))))
+
+-- src/pair.rt:102:1
 returns-2 : tie.Need-returns-2
-returns-2 c = paired _ _ _ _ _ (rw c.before.before.before.before.before.before.before.before.before.large.ensures at c.before.before.before.before.before.before.before.before.pair_error_law.ensures) c.before.before.before.before.before.before.before.if1.false _ (c.before.before.soon.ensures.given (sym c.before.is-given.ensures ∙ c.if2.true))
-
-slice-aggregate-further-large : tie.Need-slice-aggregate-further-large
-slice-aggregate-further-large c = search rules
-
-further-large-requires : tie.Need-further-large-requires
-further-large-requires c κs = let same = pair_large large _ _ _ (sym (rw c.before.before.before.before.before.before.before.before.before.before.large.ensures at c.before.before.before.before.before.before.before.before.before.pair_error_law.ensures) ∙ c.before.before.before.before.before.before.before.before.if1.false) in let plan = (accepted _ _ _ same.1).plan in let own = same.0 ∙ plan in let k = known _ plan _ _ (losses_put _ _ _ _ plan c.before.before.before.before.before.before.put-losses.ensures (omega (arith, faults_fit large _ own))) in (k, (same.1, c.before.before.before.soon.ensures.left (sym c.before.before.is-given.ensures ∙ c.before.if2.false)))
-
-returns-3 : tie.Need-returns-3
-returns-3 c = paired _ _ _ _ _ (rw c.before.before.before.before.before.before.before.before.before.before.before.large.ensures at c.before.before.before.before.before.before.before.before.before.before.pair_error_law.ensures) c.before.before.before.before.before.before.before.before.before.if1.false _ c.further-large.ensures
+returns-2 c = paired _ _ _ _ _ c.before.before.before.before.before.before.before.before.shape-in.ensures c.before.before.before.before.before.before.before.before.before.before.pair_error_law.ensures c.before.before.before.before.before.before.before.before.before.if1.false _ c.route.ensures
 
 pub pair_spec : {M : Type 1} → statement M
 pair_spec =
     tie.close
     (tie.spec
-    large-requires
     pair-error-requires
     returns
-    slice-aggregate-put-losses
-    put-losses-requires
+    shape-in-requires
+    losses-requires
     cast-count
-    slice-aggregate-soon
-    soon-requires
-    is-given-requires
-    returns-2
-    slice-aggregate-further-large
-    further-large-requires
-    returns-3)
+    weights-in-requires
+    coords-requires
+    coords-requires-2
+    route-requires
+    returns-2)

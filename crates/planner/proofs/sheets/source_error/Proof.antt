@@ -3,8 +3,8 @@ use borrow.Author.Rules.{rules}
 use Rattle.planner.proofs.sheets.source_error.Statement.{statement}
 use Rattle.planner.proofs.sheets.source_error.Tie as tie
 
-check-within-requires : tie.Need-check-within-requires
-check-within-requires c κs = search rules
+check-requires : tie.Need-check-requires
+check-requires c κs = search rules
 
 shape-in-requires : tie.Need-shape-in-requires
 shape-in-requires c κs = search rules
@@ -19,13 +19,13 @@ first-error-requires : tie.Need-first-error-requires
 first-error-requires c κs = search rules
 
 returns : tie.Need-returns
-returns c = source_error_law _ _ _ c.before.before.before.shape-in.ensures _ c.before.before.before.before.check-within.ensures _ _ _ c.first_error_law.ensures _ c.before.before.is_node_law.ensures c.before.is-dead-node.ensures
+returns c = source_error_law _ _ c.before.before.before.shape-in.ensures _ c.before.before.before.before.check.ensures _ _ _ c.first_error_law.ensures _ c.before.before.is_node_law.ensures c.before.is-dead-node.ensures
 
 pub source_error_spec : {M : Type 1} → statement M
 source_error_spec =
     tie.close
     (tie.spec
-    check-within-requires
+    check-requires
     shape-in-requires
     is-node-requires
     is-dead-node-requires

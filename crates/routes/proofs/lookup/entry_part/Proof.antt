@@ -8,7 +8,7 @@ lookup-error-requires : tie.Need-lookup-error-requires
 lookup-error-requires c κs = search rules
 
 returns : tie.Need-returns
-returns c = declined_part _ _ _ _ (λ z. c.if1.true (c.before.lookup_error_law.ensures ∙ z))
+returns c = declined_part _ _ _ _ (λ z. c.if1.true (c.before.lookup-error.ensures ∙ z))
 
 find-entry-requires : tie.Need-find-entry-requires
 find-entry-requires c κs = search rules
@@ -26,10 +26,10 @@ entry-size-requires : tie.Need-entry-size-requires
 entry-size-requires c κs = search rules
 
 returns-2 : tie.Need-returns-2
-returns-2 c = rw (c.entry-size.ensures, c.before.entry_IsPlace.ensures.0, c.before.before.format-in.ensures) (listed_part _ _ _ _ (sym c.before.before.before.before.before.before.before.lookup_error_law.ensures ∙ c.before.before.before.before.before.before.if1.false) _ _ c.before.before.before.before.before.find-entry.ensures c.before.before.before.before.count-in.ensures c.before.before.before.if2.true)
+returns-2 c = rw (c.entry-size.ensures, c.before.entry_IsPlace.ensures.0, c.before.before.format-in.ensures) (listed_part _ _ _ _ (sym c.before.before.before.before.before.before.before.lookup-error.ensures ∙ c.before.before.before.before.before.before.if1.false) _ _ c.before.before.before.before.before.find-entry.ensures c.before.before.before.before.count-in.ensures c.before.before.before.if2.true)
 
 returns-3 : tie.Need-returns-3
-returns-3 c = unlisted_part _ _ _ _ (sym c.before.before.before.before.lookup_error_law.ensures ∙ c.before.before.before.if1.false) _ _ c.before.before.find-entry.ensures c.before.count-in.ensures c.if2.false
+returns-3 c = unlisted_part _ _ _ _ (sym c.before.before.before.before.lookup-error.ensures ∙ c.before.before.before.if1.false) _ _ c.before.before.find-entry.ensures c.before.count-in.ensures c.if2.false
 
 pub entry_part_spec : {M : Type 1} → statement M
 entry_part_spec =

@@ -8,7 +8,7 @@ lookup-error-requires : tie.Need-lookup-error-requires
 lookup-error-requires c κs = search rules
 
 returns : tie.Need-returns
-returns c = refused _ _ _ _ _ c.before.lookup_error_law.ensures c.if1.true
+returns c = refused _ _ _ _ _ c.before.lookup-error.ensures c.if1.true
 
 weights-in-requires : tie.Need-weights-in-requires
 weights-in-requires c κs = search rules
@@ -32,7 +32,7 @@ distance-requires : tie.Need-distance-requires
 distance-requires c κs = search rules
 
 returns-2 : tie.Need-returns-2
-returns-2 c = rw (c.distance.ensures.0, c.before.before.before.before.before.before.weights-in.ensures, c.before.before.before.before.before.shape-in.ensures, c.before.before.before.before.source_in.ensures) (said_direct _ _ _ _ (sym c.before.before.before.before.before.before.before.before.lookup_error_law.ensures ∙ c.before.before.before.before.before.before.before.if1.false) (sym c.before.enum_told.given.1 ∙ c.before.before.before.found_in.ensures))
+returns-2 c = rw (c.distance.ensures.0, c.before.before.before.before.before.before.weights-in.ensures, c.before.before.before.before.before.shape-in.ensures, c.before.before.before.before.source_in.ensures) (said_direct _ _ _ _ (sym c.before.before.before.before.before.before.before.before.lookup-error.ensures ∙ c.before.before.before.before.before.before.before.if1.false) (sym c.before.enum_told.given.1 ∙ c.before.before.before.found_in.ensures))
 
 length-by-requires : tie.Need-length-by-requires
 length-by-requires c κs = search rules
@@ -41,7 +41,7 @@ outcome-by-requires : tie.Need-outcome-by-requires
 outcome-by-requires c κs = search rules
 
 returns-3 : tie.Need-returns-3
-returns-3 c = rw (c.outcome-by.ensures, c.before.length-by.ensures, c.before.before.before.before.before.before.before.before.weights-in.ensures, c.before.before.before.before.before.before.before.shape-in.ensures, c.before.before.before.before.before.before.source_in.ensures) (said_found _ _ _ _ (sym c.before.before.before.before.before.before.before.before.before.before.lookup_error_law.ensures ∙ c.before.before.before.before.before.before.before.before.before.if1.false) _ (sym c.before.before.before.found.given.1 ∙ c.before.before.before.before.before.found_in.ensures))
+returns-3 c = rw (c.outcome-by.ensures, c.before.length-by.ensures, c.before.before.before.before.before.before.before.before.weights-in.ensures, c.before.before.before.before.before.before.before.shape-in.ensures, c.before.before.before.before.before.before.source_in.ensures) (said_found _ _ _ _ (sym c.before.before.before.before.before.before.before.before.before.before.lookup-error.ensures ∙ c.before.before.before.before.before.before.before.before.before.if1.false) _ (sym c.before.before.before.found.given.1 ∙ c.before.before.before.before.before.found_in.ensures))
 
 pub route_spec : {M : Type 1} → statement M
 route_spec =

@@ -1,5 +1,4 @@
 use mathlib.Core.Path.{sym, ◌∙◌}
-use native.Mathlib.Omega.{arith}
 use borrow.Author.Tests.{not_true, not_false}
 use Rattle.search.proofs.Clip.{rows_fit}
 use Rattle.second_via.proofs.Keys.{wrong_shape, short_run, none_least, least_is}
@@ -11,37 +10,28 @@ shape-error-requires : tie.Need-shape-error-requires
 shape-error-requires c κs = search rules
 
 returns : tie.Need-returns
-returns c = (λ _. wrong_shape _ _ _ _ _ _ _ _ _ (λ e. c.if1.true (c.before.shape-error.ensures ∙ e)), λ l. absurd (omega arith))
+returns c = wrong_shape _ _ _ _ _ _ _ _ _ (λ e. c.if1.true (c.before.shape-error.ensures ∙ e))
 
 has-rows-requires : tie.Need-has-rows-requires
 has-rows-requires c κs = search rules
 
 returns-2 : tie.Need-returns-2
-returns-2 c = (λ _. short_run _ _ _ _ _ _ _ _ _ (sym c.before.before.before.shape-error.ensures ∙ c.before.before.if1.false) (sym c.before.has-rows.ensures ∙ not_true _ c.if2.true), λ l. absurd (omega arith))
-
-node-count-requires : tie.Need-node-count-requires
-node-count-requires c κs = search rules
-
-cast-if3 : tie.Need-overflow-cast-if3
-cast-if3 c = search rules
-
-returns-3 : tie.Need-returns-3
-returns-3 c = (λ room. absurd (omega (arith, room, c.before.node-count.ensures, c.if3.true)), λ l. absurd (omega arith))
+returns-2 c = short_run _ _ _ _ _ _ _ _ _ (sym c.before.before.before.shape-error.ensures ∙ c.before.before.if1.false) (sym c.before.has-rows.ensures ∙ not_true _ c.if2.true)
 
 mul-known : tie.Need-overflow-mul-known
 mul-known c = search rules
 
 space-requires : tie.Need-space-requires
-space-requires c κs = (sym c.before.before.before.before.before.shape-error.ensures ∙ c.before.before.before.before.if1.false, rows_fit _ _ _ (sym c.before.before.before.has-rows.ensures ∙ not_false _ c.before.before.if2.false), omega (arith, c.before.node-count.ensures, c.if3.false))
+space-requires c κs = (sym c.before.before.before.shape-error.ensures ∙ c.before.before.if1.false, rows_fit _ _ _ (sym c.before.has-rows.ensures ∙ not_false _ c.if2.false))
 
-returns-4 : tie.Need-returns-4
-returns-4 c = (λ _. none_least _ _ _ _ _ _ _ _ (sym c.before.before.before.before.before.before.before.shape-error.ensures ∙ c.before.before.before.before.before.before.if1.false) (sym c.before.before.before.before.before.has-rows.ensures ∙ not_false _ c.before.before.before.before.if2.false) _ _ c.before.space.ensures c.if4.true, λ l. absurd (omega arith))
+returns-3 : tie.Need-returns-3
+returns-3 c = none_least _ _ _ _ _ _ _ _ (sym c.before.before.before.before.before.shape-error.ensures ∙ c.before.before.before.before.if1.false) (sym c.before.before.before.has-rows.ensures ∙ not_false _ c.before.before.if2.false) _ _ c.before.space.ensures c.if3.true
 
 cast-result : tie.Need-overflow-cast-result
 cast-result c = search rules
 
-returns-5 : tie.Need-returns-5
-returns-5 c = let w = least_is _ _ _ _ _ _ _ _ (sym c.before.before.before.before.before.before.before.shape-error.ensures ∙ c.before.before.before.before.before.before.if1.false) (sym c.before.before.before.before.before.has-rows.ensures ∙ not_false _ c.before.before.before.before.if2.false) _ _ c.before.space.ensures c.if4.false in (λ _. w, λ l. (omega (arith, (w.found l).0, c.before.before.before.node-count.ensures, c.before.before.if3.false), (w.found l).2))
+returns-4 : tie.Need-returns-4
+returns-4 c = least_is _ _ _ _ _ _ _ _ (sym c.before.before.before.before.before.shape-error.ensures ∙ c.before.before.before.before.if1.false) (sym c.before.before.before.has-rows.ensures ∙ not_false _ c.before.before.if2.false) _ _ c.before.space.ensures c.if3.false
 
 pub least_spec : {M : Type 1} → statement M
 least_spec =
@@ -51,11 +41,8 @@ least_spec =
     returns
     has-rows-requires
     returns-2
-    node-count-requires
-    cast-if3
-    returns-3
     mul-known
     space-requires
-    returns-4
+    returns-3
     cast-result
-    returns-5)
+    returns-4)

@@ -33,7 +33,7 @@ add_r : tie.Need-overflow-add-r invariant-loop decreases-loop
 add_r c = omega arith
 
 add-t : tie.Need-overflow-add-t invariant-loop decreases-loop
-add-t c = omega (arith, c.if1.true, c.before.before.before.before.before.before.requires.1, c.before.before.before.before.before.before.requires.2, (sound _ c.before.before.before.before.before.before.requires.0 Y).high, (sound _ c.before.before.before.before.before.before.requires.0 Z).high)
+add-t c = omega (arith, c.if1.true, c.before.before.before.before.before.requires.1, c.before.before.before.before.before.requires.2, (sound _ c.before.before.before.before.before.requires.0 Y).high, (sound _ c.before.before.before.before.before.requires.0 Z).high)
 
 number-at-requires : tie.Need-number-at-requires invariant-loop decreases-loop
 number-at-requires c κs = search rules
@@ -42,28 +42,28 @@ mul-row : tie.Need-overflow-mul-row invariant-loop decreases-loop
 mul-row c = omega arith
 
 element-copy-out-row : tie.Need-element-copy-out-row invariant-loop decreases-loop
-element-copy-out-row c = omega (arith, c.before.if1.true, c.before.before.before.before.before.before.before.requires.2, (sound _ c.before.before.before.before.before.before.before.requires.0 Y).high, (sound _ c.before.before.before.before.before.before.before.requires.0 Z).high)
+element-copy-out-row c = omega (arith, c.before.if1.true, c.before.before.before.before.before.before.requires.2, (sound _ c.before.before.before.before.before.before.requires.0 Y).high, (sound _ c.before.before.before.before.before.before.requires.0 Z).high)
 
 mul-row-2 : tie.Need-overflow-mul-row-2 invariant-loop decreases-loop
-mul-row-2 c = omega (arith, c.before.before.if1.true, c.before.before.before.before.before.before.before.before.requires.1, c.before.before.before.before.before.before.before.before.requires.2, (sound _ c.before.before.before.before.before.before.before.before.requires.0 Y).high, (sound _ c.before.before.before.before.before.before.before.before.requires.0 Z).high)
+mul-row-2 c = omega (arith, c.before.before.if1.true, c.before.before.before.before.before.before.before.requires.1, c.before.before.before.before.before.before.before.requires.2, (sound _ c.before.before.before.before.before.before.before.requires.0 Y).high, (sound _ c.before.before.before.before.before.before.before.requires.0 Z).high)
 
 shared-slice-read-row : tie.Need-shared-slice-read-row invariant-loop decreases-loop
-shared-slice-read-row c = omega (arith, c.before.before.before.if1.true, c.before.before.before.before.before.before.before.before.before.requires.1, c.before.before.before.before.before.before.before.before.before.requires.2, (sound _ c.before.before.before.before.before.before.before.before.before.requires.0 Y).high, (sound _ c.before.before.before.before.before.before.before.before.before.requires.0 Z).high)
+shared-slice-read-row c = omega (arith, c.before.before.before.if1.true, c.before.before.before.before.before.before.before.before.requires.1, c.before.before.before.before.before.before.before.before.requires.2, (sound _ c.before.before.before.before.before.before.before.before.requires.0 Y).high, (sound _ c.before.before.before.before.before.before.before.before.requires.0 Z).high)
 
 row-requires : tie.Need-row-requires invariant-loop decreases-loop
-row-requires c κs = let p = c.before.before.before.before.before.before.before.before.before.requires in let f = first_is _ p.0 _ _ _ c.before.before.before.if1.true p.2 c.before.before.number_at.ensures in ((sound _ p.0 X).high, f.fits, omega (arith, f.within, p.3))
+row-requires c κs = ((sound _ c.before.before.before.before.before.before.before.before.requires.0 X).high, (first_is _ c.before.before.before.before.before.before.before.before.requires.0 _ _ _ c.before.before.before.if1.true c.before.before.before.before.before.before.before.before.requires.2 c.before.before.number_at.ensures).fits)
 
 add-next-set : tie.Need-overflow-add-next-set invariant-loop decreases-loop
-add-next-set c = omega (arith, c.before.before.before.before.if1.true, (sound _ c.before.before.before.before.before.before.before.before.before.before.requires.0 Y).high)
+add-next-set c = omega (arith, c.before.before.before.before.if1.true, (sound _ c.before.before.before.before.before.before.before.before.before.requires.0 Y).high)
 
 next-set-requires-2 : tie.Need-next-set-requires-2 invariant-loop decreases-loop
 next-set-requires-2 c κs = search rules
 
 loop-less : tie.Need-loop-smaller invariant-loop decreases-loop
-loop-less c = further _ _ _ c.next-set2.ensures (omega (arith, c.before.before.before.before.before.if1.true, (sound _ c.before.before.before.before.before.before.before.before.before.before.before.requires.0 Y).high))
+loop-less c = further _ _ _ c.next-set2.ensures (omega (arith, c.before.before.before.before.before.if1.true, (sound _ c.before.before.before.before.before.before.before.before.before.before.requires.0 Y).high))
 
 loop-again : tie.Need-loop-preserved invariant-loop decreases-loop
-loop-again c = seek_on _ _ _ _ _ _ _ _ (sound _ c.before.before.before.before.before.before.before.before.before.before.before.requires.0 Y).high c.before.before.before.before.before.if1.true c.before.before.before.before.before.before.before.loop.invariant (row_at _ _ _ _ _ _ _ (first_is _ c.before.before.before.before.before.before.before.before.before.before.before.requires.0 _ _ _ c.before.before.before.before.before.if1.true c.before.before.before.before.before.before.before.before.before.before.before.requires.2 c.before.before.before.before.number_at.ensures).is c.before.row.ensures) c.next-set2.ensures
+loop-again c = seek_on _ _ _ _ _ _ _ _ (sound _ c.before.before.before.before.before.before.before.before.before.before.requires.0 Y).high c.before.before.before.before.before.if1.true c.before.before.before.before.before.before.before.loop.invariant (row_at _ _ _ _ _ _ _ (first_is _ c.before.before.before.before.before.before.before.before.before.before.requires.0 _ _ _ c.before.before.before.before.before.if1.true c.before.before.before.before.before.before.before.before.before.before.requires.2 c.before.before.before.before.number_at.ensures).is c.before.row.ensures) c.next-set2.ensures
 
 returns : tie.Need-returns invariant-loop decreases-loop
 returns c = seek_end _ _ _ _ _ _ c.if1.false c.before.before.loop.invariant

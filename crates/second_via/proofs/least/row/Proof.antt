@@ -43,7 +43,7 @@ loop-less : tie.Need-loop-smaller invariant-loop decreases-loop
 loop-less c = further _ _ _ c.next-set2.ensures (omega arith)
 
 loop-again : tie.Need-loop-preserved invariant-loop decreases-loop
-loop-again c = seek_on _ _ _ _ _ _ _ _ c.before.before.before.before.before.before.before.requires.0 c.before.before.before.loop-test.true c.before.before.before.before.loop.invariant (same_key _ _ _ _ c.before.before.key.ensures c.before.lesser.ensures) c.next-set2.ensures
+loop-again c = seek_on _ _ _ _ _ _ _ _ c.before.before.before.before.before.before.requires.0 c.before.before.before.loop-test.true c.before.before.before.before.loop.invariant (same_key _ _ _ _ c.before.before.key.ensures c.before.lesser.ensures) c.next-set2.ensures
 
 returns : tie.Need-returns invariant-loop decreases-loop
 returns c = seek_end _ _ _ _ _ _ c.loop-test.false c.before.loop.invariant

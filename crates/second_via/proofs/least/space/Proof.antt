@@ -22,19 +22,19 @@ loop-holds : tie.Need-loop-init invariant-loop decreases-loop
 loop-holds c = seek_begin _ _ _ _ _ c.next-set.ensures
 
 plane-requires : tie.Need-plane-requires invariant-loop decreases-loop
-plane-requires c κs = (c.before.before.before.before.before.before.requires.0, c.before.before.before.before.before.before.requires.1, c.if1.true, c.before.before.before.before.before.before.requires.2)
+plane-requires c κs = (c.before.before.before.before.before.requires.0, c.before.before.before.before.before.requires.1, c.if1.true)
 
 add-next-set : tie.Need-overflow-add-next-set invariant-loop decreases-loop
-add-next-set c = omega (arith, c.before.if1.true, (sound _ c.before.before.before.before.before.before.before.requires.0 Z).high)
+add-next-set c = omega (arith, c.before.if1.true, (sound _ c.before.before.before.before.before.before.requires.0 Z).high)
 
 next-set-requires-2 : tie.Need-next-set-requires-2 invariant-loop decreases-loop
 next-set-requires-2 c κs = search rules
 
 loop-less : tie.Need-loop-smaller invariant-loop decreases-loop
-loop-less c = further _ _ _ c.next-set2.ensures (omega (arith, c.before.before.if1.true, (sound _ c.before.before.before.before.before.before.before.before.requires.0 Z).high))
+loop-less c = further _ _ _ c.next-set2.ensures (omega (arith, c.before.before.if1.true, (sound _ c.before.before.before.before.before.before.before.requires.0 Z).high))
 
 loop-again : tie.Need-loop-preserved invariant-loop decreases-loop
-loop-again c = seek_on _ _ _ _ _ _ _ _ (sound _ c.before.before.before.before.before.before.before.before.requires.0 Z).high c.before.before.if1.true c.before.before.before.before.loop.invariant c.before.plane.ensures c.next-set2.ensures
+loop-again c = seek_on _ _ _ _ _ _ _ _ (sound _ c.before.before.before.before.before.before.before.requires.0 Z).high c.before.before.if1.true c.before.before.before.before.loop.invariant c.before.plane.ensures c.next-set2.ensures
 
 returns : tie.Need-returns invariant-loop decreases-loop
 returns c = seek_end _ _ _ _ _ _ c.if1.false c.before.before.loop.invariant

@@ -23,13 +23,10 @@ parts-along-requires-3 : tie.Need-parts-along-requires-3
 parts-along-requires-3 c κs = search rules
 
 planes-requires : tie.Need-planes-requires
-planes-requires c κs = let p = c.before.before.before.before.before.before.before.before.before.before.before.before.before.requires in let a = asks _ _ _ _ _ _ p.0 in (a.sound, a.run, p.1, p.2)
-
-same_length : tie.Need-same-length
-same_length c = c.before.before.planes.ensures.long
+planes-requires c κs = let a = asks _ _ _ _ _ _ c.before.before.before.before.before.before.before.before.before.before.before.requires in (a.sound, a.run)
 
 returns : tie.Need-returns
-returns c = (reached _ _ _ _ _ _ _ _ _ _ c.before.before.before.before.before.before.before.before.before.before.before.before.before.before.before.before.requires.0 _ _ _ _ _ _ c.before.before.before.before.before.before.before.before.before.before.before.before.wrapped.ensures c.before.before.before.before.before.before.before.before.before.before.wrapped2.ensures c.before.before.before.before.before.before.before.before.wrapped3.ensures c.before.before.before.before.before.before.before.before.before.before.before.parts-along.ensures c.before.before.before.before.before.before.before.before.before.parts-along2.ensures c.before.before.before.before.before.before.before.parts-along3.ensures _ _ c.before.before.planes.ensures c.before.before.before.before.before.before.before.before.before.before.before.before.before.before.before.before.requires.2, c.before.before.planes.ensures.long)
+returns c = reached _ _ _ _ _ _ _ _ _ _ c.before.before.before.before.before.before.before.before.before.before.before.before.requires _ _ _ _ _ _ c.before.before.before.before.before.before.before.before.before.before.wrapped.ensures c.before.before.before.before.before.before.before.before.wrapped2.ensures c.before.before.before.before.before.before.wrapped3.ensures c.before.before.before.before.before.before.before.before.before.parts-along.ensures c.before.before.before.before.before.before.before.parts-along2.ensures c.before.before.before.before.before.parts-along3.ensures _ _ c.planes.ensures
 
 pub asked_spec : {M : Type 1} → statement M
 asked_spec =
@@ -42,5 +39,4 @@ asked_spec =
     wrapped-requires-3
     parts-along-requires-3
     planes-requires
-    same_length
     returns)

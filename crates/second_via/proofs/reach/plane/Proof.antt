@@ -26,25 +26,22 @@ cast-i : tie.Need-overflow-cast-i invariant-loop decreases-loop
 cast-i c = omega arith
 
 element-copy-out-row-at : tie.Need-element-copy-out-row-at invariant-loop decreases-loop
-element-copy-out-row-at c = omega (arith, c.before.if1.true, (sound _ c.before.before.before.before.before.before.before.before.requires.0 Y).high)
+element-copy-out-row-at c = omega (arith, c.before.if1.true, (sound _ c.before.before.before.before.before.before.requires.0 Y).high)
 
 row-at-requires : tie.Need-row-at-requires invariant-loop decreases-loop
-row-at-requires c κs = let p = c.before.before.before.before.before.before.before.before.before.requires in (p.0, p.1, c.before.before.if1.true, p.2, p.3, omega (arith, p.4, c.before.before.before.before.loop.invariant.stored.long))
+row-at-requires c κs = let p = c.before.before.before.before.before.before.before.requires in (p.0, p.1, c.before.before.if1.true, p.2)
 
 add-next-set : tie.Need-overflow-add-next-set invariant-loop decreases-loop
-add-next-set c = omega (arith, c.before.before.before.before.before.if1.true, (sound _ c.before.before.before.before.before.before.before.before.before.before.before.before.requires.0 Y).high)
+add-next-set c = omega (arith, c.before.before.before.if1.true, (sound _ c.before.before.before.before.before.before.before.before.requires.0 Y).high)
 
 next-set-requires-2 : tie.Need-next-set-requires-2 invariant-loop decreases-loop
 next-set-requires-2 c κs = search rules
 
 loop-less : tie.Need-loop-smaller invariant-loop decreases-loop
-loop-less c = further _ _ _ c.next-set2.ensures (omega (arith, c.before.before.before.before.before.before.if1.true, (sound _ c.before.before.before.before.before.before.before.before.before.before.before.before.before.requires.0 Y).high))
+loop-less c = further _ _ _ c.next-set2.ensures (omega (arith, c.before.before.before.before.if1.true, (sound _ c.before.before.before.before.before.before.before.before.before.requires.0 Y).high))
 
 loop-again : tie.Need-loop-preserved invariant-loop decreases-loop
-loop-again c = store_on _ _ _ _ _ _ _ _ (sound _ c.before.before.before.before.before.before.before.before.before.before.before.before.before.requires.0 Y).high c.before.before.before.before.before.before.if1.true c.before.before.before.before.before.before.before.before.loop.invariant c.before.before.before.row_at.ensures c.next-set2.ensures
-
-same_length : tie.Need-same-length invariant-loop decreases-loop
-same_length c = c.before.before.loop.invariant.stored.long
+loop-again c = store_on _ _ _ _ _ _ _ _ (sound _ c.before.before.before.before.before.before.before.before.before.requires.0 Y).high c.before.before.before.before.if1.true c.before.before.before.before.before.before.loop.invariant c.before.row_at.ensures c.next-set2.ensures
 
 returns : tie.Need-returns invariant-loop decreases-loop
 returns c = store_end _ _ _ _ _ _ c.if1.false c.before.before.loop.invariant
@@ -64,5 +61,4 @@ plane_spec =
     next-set-requires-2
     loop-less
     loop-again
-    same_length
     returns)

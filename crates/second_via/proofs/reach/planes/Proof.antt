@@ -26,25 +26,22 @@ cast-i : tie.Need-overflow-cast-i invariant-loop decreases-loop
 cast-i c = omega arith
 
 element-copy-out-plane : tie.Need-element-copy-out-plane invariant-loop decreases-loop
-element-copy-out-plane c = omega (arith, c.before.if1.true, (sound _ c.before.before.before.before.before.before.before.before.requires.0 Z).high)
+element-copy-out-plane c = omega (arith, c.before.if1.true, (sound _ c.before.before.before.before.before.before.requires.0 Z).high)
 
 plane-requires : tie.Need-plane-requires invariant-loop decreases-loop
-plane-requires c κs = let p = c.before.before.before.before.before.before.before.before.before.requires in (p.0, p.1, c.before.before.if1.true, p.2, omega (arith, p.3, c.before.before.before.before.loop.invariant.stored.long))
+plane-requires c κs = let p = c.before.before.before.before.before.before.before.requires in (p.0, p.1, c.before.before.if1.true)
 
 add-next-set : tie.Need-overflow-add-next-set invariant-loop decreases-loop
-add-next-set c = omega (arith, c.before.before.before.before.before.if1.true, (sound _ c.before.before.before.before.before.before.before.before.before.before.before.before.requires.0 Z).high)
+add-next-set c = omega (arith, c.before.before.before.if1.true, (sound _ c.before.before.before.before.before.before.before.before.requires.0 Z).high)
 
 next-set-requires-2 : tie.Need-next-set-requires-2 invariant-loop decreases-loop
 next-set-requires-2 c κs = search rules
 
 loop-less : tie.Need-loop-smaller invariant-loop decreases-loop
-loop-less c = further _ _ _ c.next-set2.ensures (omega (arith, c.before.before.before.before.before.before.if1.true, (sound _ c.before.before.before.before.before.before.before.before.before.before.before.before.before.requires.0 Z).high))
+loop-less c = further _ _ _ c.next-set2.ensures (omega (arith, c.before.before.before.before.if1.true, (sound _ c.before.before.before.before.before.before.before.before.before.requires.0 Z).high))
 
 loop-again : tie.Need-loop-preserved invariant-loop decreases-loop
-loop-again c = store_on _ _ _ _ _ _ _ _ (sound _ c.before.before.before.before.before.before.before.before.before.before.before.before.before.requires.0 Z).high c.before.before.before.before.before.before.if1.true c.before.before.before.before.before.before.before.before.loop.invariant c.before.before.before.plane.ensures c.next-set2.ensures
-
-same_length : tie.Need-same-length invariant-loop decreases-loop
-same_length c = c.before.before.loop.invariant.stored.long
+loop-again c = store_on _ _ _ _ _ _ _ _ (sound _ c.before.before.before.before.before.before.before.before.before.requires.0 Z).high c.before.before.before.before.if1.true c.before.before.before.before.before.before.loop.invariant c.before.plane.ensures c.next-set2.ensures
 
 returns : tie.Need-returns invariant-loop decreases-loop
 returns c = store_end _ _ _ _ _ _ c.if1.false c.before.before.loop.invariant
@@ -64,5 +61,4 @@ planes_spec =
     next-set-requires-2
     loop-less
     loop-again
-    same_length
     returns)

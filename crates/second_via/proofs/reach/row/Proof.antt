@@ -30,20 +30,20 @@ add-v c = omega arith
 mul-sum : tie.Need-overflow-mul-sum invariant-loop decreases-loop
 mul-sum c = omega arith
 
-shared-slice-read-sum : tie.Need-shared-slice-read-sum invariant-loop decreases-loop
-shared-slice-read-sum c = search rules
-
 element-copy-out-sum : tie.Need-element-copy-out-sum invariant-loop decreases-loop
 element-copy-out-sum c = omega arith
 
+element-copy-out-sum-2 : tie.Need-element-copy-out-sum-2 invariant-loop decreases-loop
+element-copy-out-sum-2 c = omega arith
+
 sum-requires : tie.Need-sum-requires invariant-loop decreases-loop
-sum-requires c κs = (c.before.before.before.before.before.before.before.requires.1, omega arith)
+sum-requires c κs = (c.before.before.before.before.before.requires.2, omega arith)
 
 mul-sums : tie.Need-overflow-mul-sums invariant-loop decreases-loop
 mul-sums c = omega arith
 
-slice-write-sums : tie.Need-slice-write-sums invariant-loop decreases-loop
-slice-write-sums c = omega (arith, c.before.before.before.before.before.before.before.before.requires.3, c.before.before.before.before.loop.invariant.stored.long)
+element-write-sums : tie.Need-element-write-sums invariant-loop decreases-loop
+element-write-sums c = omega arith
 
 add-next-set : tie.Need-overflow-add-next-set invariant-loop decreases-loop
 add-next-set c = omega arith
@@ -55,10 +55,7 @@ loop-less : tie.Need-loop-smaller invariant-loop decreases-loop
 loop-less c = further _ _ _ c.next-set2.ensures (omega arith)
 
 loop-again : tie.Need-loop-preserved invariant-loop decreases-loop
-loop-again c = store_on _ _ _ _ _ _ _ _ c.before.before.before.before.before.before.before.before.before.requires.0 c.before.before.before.before.loop-test.true c.before.before.before.before.before.loop.invariant (stored_one _ _ _ _ _ _ c.before.sum.ensures) c.next-set2.ensures
-
-same_length : tie.Need-same-length invariant-loop decreases-loop
-same_length c = c.before.loop.invariant.stored.long
+loop-again c = store_on _ _ _ _ _ _ _ _ c.before.before.before.before.before.before.before.requires.0 c.before.before.before.before.loop-test.true c.before.before.before.before.before.loop.invariant (stored_one _ _ _ _ _ _ c.before.sum.ensures) c.next-set2.ensures
 
 returns : tie.Need-returns invariant-loop decreases-loop
 returns c = store_end _ _ _ _ _ _ c.loop-test.false c.before.loop.invariant
@@ -74,14 +71,13 @@ row_spec =
     cast-i
     add-v
     mul-sum
-    shared-slice-read-sum
     element-copy-out-sum
+    element-copy-out-sum-2
     sum-requires
     mul-sums
-    slice-write-sums
+    element-write-sums
     add-next-set
     next-set-requires-2
     loop-less
     loop-again
-    same_length
     returns)

@@ -29,22 +29,19 @@ mul-row : tie.Need-overflow-mul-row
 mul-row c = search rules
 
 shared-slice-read-row : tie.Need-shared-slice-read-row
-shared-slice-read-row c = let p = c.before.before.before.before.before.before.requires in omega (arith, p.1, p.2, p.3, (sound _ p.0 Y).high, (sound _ p.0 Z).high)
+shared-slice-read-row c = let p = c.before.before.before.before.requires in omega (arith, p.1, p.2, p.3, (sound _ p.0 Y).high, (sound _ p.0 Z).high)
 
 mul-row-2 : tie.Need-overflow-mul-row-2
 mul-row-2 c = search rules
 
 shared-slice-read-row-2 : tie.Need-shared-slice-read-row-2
-shared-slice-read-row-2 c = let p = c.before.before.before.before.before.before.before.requires in omega (arith, p.1, p.2, p.3, (sound _ p.0 Y).high, (sound _ p.0 Z).high)
+shared-slice-read-row-2 c = let p = c.before.before.before.before.before.requires in omega (arith, p.1, p.2, p.3, (sound _ p.0 Y).high, (sound _ p.0 Z).high)
 
 row-requires : tie.Need-row-requires
-row-requires c κs = let p = c.before.before.before.before.before.before.before.requires in let f = first_is _ p.0 _ _ _ p.2 p.3 c.before.before.before.number_at.ensures in ((sound _ p.0 X).high, omega arith, omega (arith, f.within, p.4), omega (arith, f.within, p.5))
-
-same_length : tie.Need-same-length
-same_length c = c.before.before.row.ensures.long
+row-requires c κs = let p = c.before.before.before.before.before.requires in ((sound _ p.0 X).high, (first_is _ p.0 _ _ _ p.2 p.3 c.before.before.before.number_at.ensures).fits, omega arith)
 
 returns : tie.Need-returns
-returns c = let p = c.before.before.before.before.before.before.before.before.before.before.requires in sums_at _ _ _ _ _ _ c.before.before.before.before.before.before.before.before.before.before.args.xs.now _ _ _ (first_is _ p.0 _ _ _ p.2 p.3 c.before.before.before.before.before.before.number_at.ensures).is c.before.before.row.ensures
+returns c = let p = c.before.before.before.before.before.before.requires in sums_at _ _ _ _ _ _ c.before.before.before.before.before.before.args.xs.now _ _ _ (first_is _ p.0 _ _ _ p.2 p.3 c.before.before.before.before.number_at.ensures).is c.row.ensures
 
 pub row_at_spec : {M : Type 1} → statement M
 row_at_spec =
@@ -61,5 +58,4 @@ row_at_spec =
     mul-row-2
     shared-slice-read-row-2
     row-requires
-    same_length
     returns)

@@ -16,50 +16,57 @@ invariant-loop by bz ends losses count kept₀ n found₀ i₀ kept found i = Si
 abbrev decreases-loop : tie.decreases-loop
 decreases-loop by bz ends losses count kept₀ n found₀ i₀ kept found i = n - i
 
+-- src/sift.rt:60:9
 clipped-requires : tie.Need-clipped-requires invariant-loop decreases-loop
 clipped-requires c κs = tt
 
-clipped-requires-2 : tie.Need-clipped-requires-2 invariant-loop decreases-loop
-clipped-requires-2 c κs = tt
-
+-- src/sift.rt:63:5
 loop-holds : tie.Need-loop-init invariant-loop decreases-loop
-loop-holds c = sift_begin _ _ _ _ _ _ _ _ c.before.clipped.ensures c.clipped2.ensures
+loop-holds c = sift_begin _ _ _ _ _ _ _ c.clipped.ensures
 
+-- src/sift.rt:64:17
 mul-w : tie.Need-overflow-mul-w invariant-loop decreases-loop
 mul-w c = omega arith
 
-shared-slice-read-w : tie.Need-shared-slice-read-w invariant-loop decreases-loop
-shared-slice-read-w c = omega arith
+-- src/sift.rt:64:17
+element-copy-out-w : tie.Need-element-copy-out-w invariant-loop decreases-loop
+element-copy-out-w c = omega arith
 
+-- src/sift.rt:65:9
 mul-kept : tie.Need-overflow-mul-kept invariant-loop decreases-loop
 mul-kept c = omega arith
 
-slice-write-kept : tie.Need-slice-write-kept invariant-loop decreases-loop
-slice-write-kept c = omega arith
+-- src/sift.rt:65:9
+element-write-kept : tie.Need-element-write-kept invariant-loop decreases-loop
+element-write-kept c = omega arith
 
+-- src/sift.rt:66:33
 reaches-requires : tie.Need-reaches-requires invariant-loop decreases-loop
 reaches-requires c κs = tt
 
+-- src/sift.rt:66:25
 counted-requires : tie.Need-counted-requires invariant-loop decreases-loop
 counted-requires c κs = tt
 
+-- src/sift.rt:66:17
 add-found : tie.Need-overflow-add-found invariant-loop decreases-loop
 add-found c = omega arith
 
+-- src/sift.rt:67:13
 add-i : tie.Need-overflow-add-i invariant-loop decreases-loop
 add-i c = omega arith
 
+-- src/sift.rt:63:5
 loop-less : tie.Need-loop-smaller invariant-loop decreases-loop
 loop-less c = omega arith
 
+-- src/sift.rt:63:5
 loop-again : tie.Need-loop-preserved invariant-loop decreases-loop
 loop-again c = sift_turn _ _ _ _ _ _ _ _ _ _ _ _ c.before.before.before.before.loop.invariant c.before.before.before.loop-test.true refl c.before.reaches.ensures c.counted.ensures.0
 
-same_length : tie.Need-same-length invariant-loop decreases-loop
-same_length c = c.before.loop.invariant.sifted.long
-
+-- src/sift.rt:50:1
 returns : tie.Need-returns invariant-loop decreases-loop
-returns c = sift_end _ _ _ _ _ _ _ _ _ _ _ c.before.before.before.clipped.ensures c.before.before.clipped2.ensures c.before.loop.invariant c.loop-test.false
+returns c = sift_end _ _ _ _ _ _ _ _ _ _ c.before.before.clipped.ensures c.before.loop.invariant c.loop-test.false
 
 pub sift_spec : {M : Type 1} → statement M
 sift_spec =
@@ -68,17 +75,15 @@ sift_spec =
     invariant-loop
     decreases-loop
     clipped-requires
-    clipped-requires-2
     loop-holds
     mul-w
-    shared-slice-read-w
+    element-copy-out-w
     mul-kept
-    slice-write-kept
+    element-write-kept
     reaches-requires
     counted-requires
     add-found
     add-i
     loop-less
     loop-again
-    same_length
     returns)

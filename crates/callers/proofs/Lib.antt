@@ -1,5 +1,0 @@
-pub mod Refusals
-pub mod Alike
-pub mod Readings
-pub mod Callers
-pub mod Worked
