@@ -1,4 +1,6 @@
 // The route sheets of all sound boards of a plan, sources rising: a run of them a call, with a lent workspace.
+#![tactic(auto)]
+
 mod input;
 
 pub use input::{ROOM, WORDS, run_of_input, sets_of_input};

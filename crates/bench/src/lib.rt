@@ -1,4 +1,6 @@
 // The step, the walk and a hop taken back as the bench calls them from Rust: numbers, and no struct made of them.
+#![tactic(auto)]
+
 use machine::leg::{Leg, Mode};
 use packet::Packet;
 use shape::Shape;

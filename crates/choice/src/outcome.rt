@@ -5,7 +5,7 @@ ghost use Rattle.choice.specs.Outcome.{outcome_number};
 use packet::Route;
 
 // A route with its length, or the number of the refusal.
-#[derive(Drop)]
+#[derive(Clone, Copy)]
 pub enum Outcome {
     Given(Route, u16),
     Refused(u8),

@@ -6,14 +6,14 @@ use libc::{STDIN_FILENO, STDOUT_FILENO};
 use text::part::{front, part};
 
 // What is kept between two reads: the first `length` bytes of the buffer, which begin a line. Where `skip`, none are kept, and the rest of a line that did not fit is still to come.
-#[derive(Drop)]
+#[derive(Clone, Copy)]
 struct Held {
     length: usize,
     skip: bool,
 }
 
 // Where the line begins whose newline is not held yet, and whether it is the rest of one that did not fit.
-#[derive(Drop)]
+#[derive(Clone, Copy)]
 struct Rest {
     start: usize,
     skip: bool,

@@ -1,4 +1,6 @@
 // Answers each line of the standard input, a test case, by a line of the standard output: the case and what the planner answers.
+#![tactic(auto)]
+
 mod answer_lines;
 mod lines;
 mod operations;

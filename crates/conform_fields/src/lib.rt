@@ -1,4 +1,6 @@
 // Fields of a line, which is a test case: those that a line gives, and those that an answer has.
+#![tactic(auto)]
+
 pub mod answers;
 pub mod directions;
 pub mod legs;

@@ -4,7 +4,7 @@ use shape::Shape;
 use text::decimal::Byte;
 use text::{decimal, field};
 
-#[derive(Drop)]
+#[derive(Clone, Copy)]
 pub enum ShapeField {
     Shape(Shape),
     Bad,

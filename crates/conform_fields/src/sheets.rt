@@ -21,7 +21,7 @@ pub fn read_routes(line: &[u8], bytes: &mut [u8]) -> Count {
 }
 
 // A plan sheet of so many bytes, and the two ends of a pair.
-#[derive(Drop)]
+#[derive(Clone, Copy)]
 pub enum PairField {
     Pair(usize, u16, u16),
     Bad,

@@ -3,7 +3,7 @@ use text::decimal::Byte;
 use text::part::{after, before};
 use text::{decimal, field};
 
-#[derive(Drop)]
+#[derive(Clone, Copy)]
 pub enum Three {
     Bytes(u8, u8, u8),
     Bad,

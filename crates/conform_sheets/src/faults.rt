@@ -10,13 +10,13 @@ use text::{decimal, field, put, scan};
 use weights::Weights;
 
 // A struct, since no enum can hold an array, which a plan has.
-#[derive(Drop)]
+#[derive(Clone, Copy)]
 pub struct PlanField {
     pub readable: bool,
     pub plan: Plan,
 }
 
-#[derive(Drop)]
+#[derive(Clone, Copy)]
 enum FaultField {
     Fault(Fault),
     Bad,

@@ -11,7 +11,7 @@ use text::hex::Count;
 use text::part::{front, front_mut};
 
 // The call that writes.
-#[derive(Drop)]
+#[derive(Clone, Copy)]
 enum Call {
     Back,
     Convert,

@@ -12,7 +12,7 @@ use text::{decimal, hex, put, scan};
 const RUN_BYTES: usize = 256;
 
 // How far a run has come: its packet, and where its answers end, if all its calls can be read.
-#[derive(Drop)]
+#[derive(Clone, Copy)]
 pub struct Run {
     pub readable: bool,
     pub packet: Packet,

@@ -14,7 +14,7 @@ use text::part::{after, before, part};
 use text::{decimal, field, put, scan};
 
 // The shape and the packet of a line, if both can be read.
-#[derive(Drop)]
+#[derive(Clone, Copy)]
 pub(crate) struct Case {
     pub readable: bool,
     pub shape: Shape,
@@ -22,19 +22,19 @@ pub(crate) struct Case {
 }
 
 // A struct, since no enum can hold an array, which a packet has.
-#[derive(Drop)]
+#[derive(Clone, Copy)]
 struct PacketField {
     readable: bool,
     packet: Packet,
 }
 
-#[derive(Drop)]
+#[derive(Clone, Copy)]
 enum ModeField {
     Mode(Mode),
     Bad,
 }
 
-#[derive(Drop)]
+#[derive(Clone, Copy)]
 enum LegField {
     Leg(Leg),
     Bad,

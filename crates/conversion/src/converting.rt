@@ -10,7 +10,7 @@ use sheet::output::{Written, put_sheet};
 use sheet::put_byte;
 
 // The bytes written, or the number of the refusal; and with 17 the number, from 0, of the first entry that cannot be kept, else 0.
-#[derive(Drop)]
+#[derive(Clone, Copy)]
 pub struct Converted {
     pub written: Written,
     pub entry: u16,

@@ -16,14 +16,14 @@ use routes::layout::{FIRST_VERSION, count_in, entry_by, one_via, source_in};
 use shape::Shape;
 
 // The number, 0 where none declines; and with 17 the number of the first entry that cannot be kept, else 0.
-#[derive(Drop)]
+#[derive(Clone, Copy)]
 pub struct Judged {
     pub number: u8,
     pub entry: u16,
 }
 
 // Of all entries: whether check 13 accepts them; and then the number of the first that cannot be kept, how many there are where all can.
-#[derive(Drop)]
+#[derive(Clone, Copy)]
 struct Entries {
     good: bool,
     lost: u16,

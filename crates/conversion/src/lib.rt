@@ -1,4 +1,6 @@
 // Route sheets of version 1 brought over to version 2.
+#![tactic(auto)]
+
 mod converting;
 mod half;
 mod judge;

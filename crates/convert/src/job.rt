@@ -17,7 +17,7 @@ use sheet::Written;
 use text::part::front;
 
 // What was found, whether a sheet may follow, and whether the file took all bytes.
-#[derive(Drop)]
+#[derive(Clone, Copy)]
 struct Progress {
     tally: Tally,
     more: bool,

@@ -1,4 +1,6 @@
 // Brings a file of version 1 route sheets over to version 2: `convert PLAN OLD OUT`. It says what it did, or what is wrong, in one line of standard output.
+#![tactic(auto)]
+
 mod job;
 mod reading;
 mod say;

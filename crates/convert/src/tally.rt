@@ -8,7 +8,7 @@ use routes::layout::{FIRST_VERSION, entry_by, kind_byte, one_via, source_in};
 
 // A sheet that cannot be converted: its place in the file, from 1; with 17 also its source, and the kind and the destination of the first entry that cannot be
 // kept. The number is 0 where there is none.
-#[derive(Drop)]
+#[derive(Clone, Copy)]
 pub struct Lost {
     pub number: u8,
     pub place: u32,
@@ -18,7 +18,7 @@ pub struct Lost {
 }
 
 // The sheets read, how many of them can be converted, and the one that a refusal names.
-#[derive(Drop)]
+#[derive(Clone, Copy)]
 pub struct Tally {
     pub sheets: u32,
     pub kept: u32,

@@ -1,4 +1,6 @@
 // Dead nodes and links of a plan: single questions, and tables for all nodes.
+#![tactic(auto)]
+
 mod marks;
 mod masks;
 mod names;

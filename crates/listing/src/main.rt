@@ -1,4 +1,6 @@
 // The listing program: reads a two-byte source, then a plan sheet, on standard input, and prints the listing.
+#![tactic(auto)]
+
 use libc::{STDIN_FILENO, STDOUT_FILENO};
 use listing_text::{INPUT_BYTES, TEXT_BYTES, listing};
 use text::part::front;

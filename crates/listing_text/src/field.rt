@@ -5,7 +5,7 @@ ghost use Rattle.listing_text.specs.Steps.{Put, field_text};
 use crate::decimal::put_decimal;
 use sheet::put_byte;
 
-#[derive(Drop)]
+#[derive(Clone, Copy)]
 pub enum Field {
     Number(u16),
     Dash,

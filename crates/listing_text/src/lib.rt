@@ -1,4 +1,6 @@
 // The text of the listing program, on lent bytes.
+#![tactic(auto)]
+
 mod checks;
 mod decimal;
 mod field;

@@ -16,7 +16,7 @@ use planner::outcomes::outcomes;
 use sheet::output::Written;
 
 // What the first line says.
-#[derive(Drop)]
+#[derive(Clone, Copy)]
 struct Head {
     source: u16,
     nodes: u16,

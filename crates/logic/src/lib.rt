@@ -1,4 +1,6 @@
 // Choices and connectives as functions: a function that only calls others is proved by congruence.
+#![tactic(auto)]
+
 ghost use Rattle.std.specs.Prelude.{◌≡◌, cond, ◌&&◌, ◌||◌};
 
 pub fn pick(b: bool, x: u8, y: u8) -> u8

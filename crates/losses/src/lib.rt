@@ -1,4 +1,6 @@
 // The losses of a plan: one for each fault.
+#![tactic(auto)]
+
 mod list;
 mod reading;
 mod words;

@@ -1,5 +1,5 @@
 // A list of losses, each a number: the coordinates of a node, four bits each, and a kind.
-#[derive(Drop)]
+#[derive(Clone, Copy)]
 pub struct Losses {
     pub words: [u16; 256],
     pub count: u16,

@@ -1,13 +1,13 @@
 // A leg of a route: a target and a mode.
 
 // An adaptive leg may take any useful hop at each node, a deterministic leg takes the first dimension where the coordinates differ.
-#[derive(Drop)]
+#[derive(Clone, Copy)]
 pub enum Mode {
     Adaptive,
     Deterministic,
 }
 
-#[derive(Drop)]
+#[derive(Clone, Copy)]
 pub struct Leg {
     pub target: u16,
     pub mode: Mode,

@@ -5,7 +5,7 @@ ghost use Rattle.machine.specs.Division.{times, rest, coords_by};
 
 use shape::{Coords, Shape};
 
-#[derive(Drop)]
+#[derive(Clone, Copy)]
 struct Quotient {
     times: u8,
     rest: u32,

@@ -12,7 +12,7 @@ use shape::{Coords, Dim, Shape, axis};
 // For each direction the hops left in its dimension, if the leg may go that way there; else 0.
 pub type Ways = [u8; 6];
 
-#[derive(Drop)]
+#[derive(Clone, Copy)]
 struct Sides {
     plus: u8,
     minus: u8,

@@ -10,7 +10,7 @@ use shape::shape::wrapped;
 use shape::{Coords, Dim, Shape};
 
 // In each dimension the places between two nodes.
-#[derive(Drop)]
+#[derive(Clone, Copy)]
 pub struct Box {
     pub x: u16,
     pub y: u16,

@@ -14,7 +14,7 @@ use sheet::output::Written;
 use weights::Weights;
 
 #[repr(C)]
-#[derive(Drop)]
+#[derive(Clone, Copy)]
 pub struct ShapeForm {
     pub x: u8,
     pub y: u8,
@@ -23,7 +23,7 @@ pub struct ShapeForm {
 }
 
 #[repr(C)]
-#[derive(Drop)]
+#[derive(Clone, Copy)]
 pub struct WeightsForm {
     pub x: u8,
     pub y: u8,
@@ -31,14 +31,14 @@ pub struct WeightsForm {
 }
 
 #[repr(C)]
-#[derive(Drop)]
+#[derive(Clone, Copy)]
 pub struct LegForm {
     pub target: u16,
     pub mode: u8,
 }
 
 #[repr(C)]
-#[derive(Drop)]
+#[derive(Clone, Copy)]
 pub struct PacketForm {
     pub source: u16,
     pub node: u16,
@@ -48,14 +48,14 @@ pub struct PacketForm {
 }
 
 #[repr(C)]
-#[derive(Drop)]
+#[derive(Clone, Copy)]
 pub struct SteppedForm {
     pub packet: PacketForm,
     pub number: u8,
 }
 
 #[repr(C)]
-#[derive(Drop)]
+#[derive(Clone, Copy)]
 pub struct WalkedForm {
     pub packet: PacketForm,
     pub number: u8,
@@ -64,14 +64,14 @@ pub struct WalkedForm {
 }
 
 #[repr(C)]
-#[derive(Drop)]
+#[derive(Clone, Copy)]
 pub struct WrittenForm {
     pub number: u8,
     pub size: usize,
 }
 
 #[repr(C)]
-#[derive(Drop)]
+#[derive(Clone, Copy)]
 pub struct ConvertedForm {
     pub number: u8,
     pub entry: u16,
@@ -79,7 +79,7 @@ pub struct ConvertedForm {
 }
 
 #[repr(C)]
-#[derive(Drop)]
+#[derive(Clone, Copy)]
 pub struct RunForm {
     pub number: u8,
     pub next: u16,
@@ -87,14 +87,14 @@ pub struct RunForm {
 }
 
 #[repr(C)]
-#[derive(Drop)]
+#[derive(Clone, Copy)]
 pub struct PartForm {
     pub start: usize,
     pub size: usize,
 }
 
 #[repr(C)]
-#[derive(Drop)]
+#[derive(Clone, Copy)]
 pub struct RouteForm {
     pub number: u8,
     pub kind: u8,
@@ -102,7 +102,7 @@ pub struct RouteForm {
 }
 
 #[repr(C)]
-#[derive(Drop)]
+#[derive(Clone, Copy)]
 pub struct PlannedForm {
     pub route: RouteForm,
     pub length: u16,

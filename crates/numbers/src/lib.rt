@@ -1,4 +1,5 @@
 // The number of each cause for which a call declines, in document 01's words and order; specs/Numbers.antt has the same names.
+#![tactic(auto)]
 
 // Plan sheet under 9 bytes, of version 2 under 12.
 pub const PLAN_SHORT: u8 = 1;

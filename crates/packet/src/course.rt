@@ -12,7 +12,7 @@ use machine::number::coords_of;
 use machine::ways::{Ways, standing, ways};
 use shape::{Coords, Shape};
 
-#[derive(Drop)]
+#[derive(Clone, Copy)]
 pub struct Course {
     pub mark: u8,
     pub mode: Mode,
@@ -22,7 +22,7 @@ pub struct Course {
 
 // A course and its ways, as they are worked out where a leg begins. Flat, so that a walk reads each field as it was stored: one read of several that were
 // just stored apart waits for them.
-#[derive(Drop)]
+#[derive(Clone, Copy)]
 pub struct Start {
     pub mark: u8,
     pub mode: Mode,

@@ -1,4 +1,6 @@
 // The packet and its stepper: with `machine`, what a board links.
+#![tactic(auto)]
+
 mod course;
 mod packet;
 mod route;

@@ -16,7 +16,7 @@ pub const MOST_LEGS: usize = 3;
 pub type Legs = [Leg; MOST_LEGS];
 
 // The route is the first `count` of `legs`. The legs left are those from number `mark` on, counted from 0; where `mark` is `count` none is.
-#[derive(Drop)]
+#[derive(Clone, Copy)]
 pub struct Packet {
     pub source: u16,
     pub node: u16,

@@ -7,7 +7,7 @@ use crate::packet::{MOST_LEGS, Packet};
 use machine::leg::{Leg, Mode};
 
 // A route to a destination: one leg, two legs by a via, or three by two vias.
-#[derive(Drop)]
+#[derive(Clone, Copy)]
 pub enum Route {
     Direct(Mode),
     Via(u16, Mode, Mode),

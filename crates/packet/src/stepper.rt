@@ -16,7 +16,7 @@ use numbers::NOT_ALLOWED;
 use shape::Shape;
 
 // What a step, or taking a hop back, answers: done, or the number of the refusal.
-#[derive(Drop)]
+#[derive(Clone, Copy)]
 pub enum Answer {
     Done,
     Refused(u8),
@@ -33,14 +33,14 @@ impl Answer {
     }
 }
 
-#[derive(Drop)]
+#[derive(Clone, Copy)]
 pub struct Stepped {
     pub packet: Packet,
     pub answer: Answer,
 }
 
 // How a walk ends: arrived; a direction not allowed; bytes used up; or refused by its checks.
-#[derive(Drop)]
+#[derive(Clone, Copy)]
 pub enum Ending {
     Arrived,
     NotAllowed,
@@ -61,7 +61,7 @@ impl Ending {
     }
 }
 
-#[derive(Drop)]
+#[derive(Clone, Copy)]
 pub struct Walked {
     pub packet: Packet,
     pub hops: usize,

@@ -8,7 +8,7 @@ use sheet::head::version_in;
 use sheet::{byte_at, word_at};
 use weights::Weights;
 
-#[derive(Drop)]
+#[derive(Clone, Copy)]
 pub struct Fault {
     pub node: u16,
     pub kind: u8,

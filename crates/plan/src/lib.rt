@@ -1,4 +1,6 @@
 // The plan sheet: its layout, its checks, its shape and weights, and writing it back.
+#![tactic(auto)]
+
 mod checks;
 pub mod kinds;
 pub mod layout;

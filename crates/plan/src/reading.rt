@@ -8,7 +8,7 @@ use crate::layout::{shape_in, weights_in};
 use shape::Shape;
 use weights::Weights;
 
-#[derive(Drop)]
+#[derive(Clone, Copy)]
 pub enum Answer {
     Accepted,
     Refused(u8),

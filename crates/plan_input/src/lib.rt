@@ -1,4 +1,6 @@
 // A plan sheet that a program reads: the first `size` bytes of a buffer, read from an input that may be longer.
+#![tactic(auto)]
+
 ghost use Rattle.std.specs.Prelude.{◌≡◌, List, ℕ, take};
 ghost use Rattle.sheet.specs.Input.{ReadInto};
 ghost use Rattle.plan.specs.Checks.{large, plan_error};

@@ -1,4 +1,6 @@
 // A plan as a value: read from a sheet, and written to one.
+#![tactic(auto)]
+
 mod encode;
 mod reading;
 mod writing;

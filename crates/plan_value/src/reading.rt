@@ -10,7 +10,7 @@ use sheet::head::version_in;
 use weights::Weights;
 
 // The faults are the first `count` of the array. The weights of a version that has none are not written, and are read as 1.
-#[derive(Drop)]
+#[derive(Clone, Copy)]
 pub struct Plan {
     pub version: u8,
     pub shape: Shape,
@@ -19,7 +19,7 @@ pub struct Plan {
     pub faults: [Fault; 256],
 }
 
-#[derive(Drop)]
+#[derive(Clone, Copy)]
 pub struct Reading {
     pub answer: Answer,
     pub plan: Plan,

@@ -26,7 +26,7 @@ use shape::Shape;
 use sheet::output::Written;
 
 // The bytes of a board's sheet, none where it is dead; and whether the sheet does not fit.
-#[derive(Drop)]
+#[derive(Clone, Copy)]
 pub struct Step {
     pub size: usize,
     pub full: bool,

@@ -1,4 +1,6 @@
 // Planning: a pair, the sheet of a source, all outcomes of a source, and a run of the sheets of all sources.
+#![tactic(auto)]
+
 mod boards;
 mod dest;
 mod errors;

@@ -7,7 +7,7 @@ use rows::next::next_set;
 use shape::Shape;
 
 // A node with its coordinates, or the place behind the last node of a row; behind the last node of all the node count, at (0, 0, extent of Z).
-#[derive(Drop)]
+#[derive(Clone, Copy)]
 pub struct At {
     pub node: u16,
     pub x: u8,

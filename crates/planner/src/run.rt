@@ -16,13 +16,13 @@ use plan::layout::shape_in;
 pub const WORDS_A_BOARD: usize = 512;
 
 // The bytes that were written, and the board to go on with: the plan's board count where no sheet is left.
-#[derive(Drop)]
+#[derive(Clone, Copy)]
 pub struct Run {
     pub size: usize,
     pub next: u16,
 }
 
-#[derive(Drop)]
+#[derive(Clone, Copy)]
 pub enum Answer {
     Written(Run),
     Refused(u8),

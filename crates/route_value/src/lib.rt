@@ -1,4 +1,6 @@
 // The route sheet as a value: read from a sheet, and written to one; a sheet written back; and a sheet made in place.
+#![tactic(auto)]
+
 mod encode;
 mod making;
 mod reading;

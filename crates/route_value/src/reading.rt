@@ -10,14 +10,14 @@ use routes::layout::{MOST_ENTRIES, count_in, entry_in, source_in};
 use routes::{Entry, check};
 
 // The entries are the first `count` of the array.
-#[derive(Drop)]
+#[derive(Clone, Copy)]
 pub struct Routes {
     pub source: u16,
     pub count: u16,
     pub entries: [Entry; MOST_ENTRIES],
 }
 
-#[derive(Drop)]
+#[derive(Clone, Copy)]
 pub struct Reading {
     pub answer: Answer,
     pub routes: Routes,

@@ -8,7 +8,7 @@ use sheet::head::version_in;
 use sheet::{byte_at, word_at};
 
 // What a version lays down: its byte, and how many vias an entry holds. With one via, of versions 1 and 2, an entry has five bytes; with two seven.
-#[derive(Drop)]
+#[derive(Clone, Copy)]
 pub struct Format {
     pub version: u8,
     pub vias: u8,
@@ -34,7 +34,7 @@ pub const MOST_ENTRIES: usize = 4095;
 pub const SHEET_BYTES: usize = 28672;
 
 // An entry has the kind of version 3, whatever sheet it was read from. A via that it has not is 0.
-#[derive(Drop)]
+#[derive(Clone, Copy)]
 pub struct Entry {
     pub dest: u16,
     pub kind: u8,

@@ -1,4 +1,6 @@
 // The route sheet in its bytes: its layout, check 13, and looking up a destination.
+#![tactic(auto)]
+
 pub mod checks;
 pub mod kinds;
 pub mod layout;

@@ -37,7 +37,7 @@ pub fn find_entry(sheet: &[u8], dest: u16) -> u16
 }
 
 // Where the bytes of an entry stand in the lent sheet.
-#[derive(Drop)]
+#[derive(Clone, Copy)]
 pub struct Part {
     pub start: usize,
     pub size: usize,

@@ -18,7 +18,7 @@ use shape::Shape;
 use weights::Weights;
 use weights::distance::distance;
 
-#[derive(Drop)]
+#[derive(Clone, Copy)]
 enum Found {
     At(Entry),
     Missing,

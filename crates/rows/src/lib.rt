@@ -1,4 +1,6 @@
 // Sets of nodes as rows of bits.
+#![tactic(auto)]
+
 pub mod member;
 pub mod next;
 pub mod product;

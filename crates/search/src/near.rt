@@ -12,7 +12,7 @@ use shape::{Coords, Dim, Shape};
 use weights::Weights;
 
 // In each dimension, as the bits of a mask.
-#[derive(Drop)]
+#[derive(Clone, Copy)]
 pub struct Places {
     pub x: u16,
     pub y: u16,

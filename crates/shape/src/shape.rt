@@ -5,7 +5,7 @@ ghost use Rattle.shape.specs.Shape.{bad_extent, bad_wrap, bad_extents, bad_wraps
 use logic::{either, pick};
 use numbers::{EXTENT_OUTSIDE, WRONG_WRAP};
 
-#[derive(Drop)]
+#[derive(Clone, Copy)]
 pub struct Shape {
     pub x: u8,
     pub y: u8,
@@ -13,14 +13,14 @@ pub struct Shape {
     pub wrap: u8,
 }
 
-#[derive(Drop)]
+#[derive(Clone, Copy)]
 pub struct Coords {
     pub x: u8,
     pub y: u8,
     pub z: u8,
 }
 
-#[derive(Drop)]
+#[derive(Clone, Copy)]
 pub enum Dim {
     X,
     Y,

@@ -1,5 +1,7 @@
 // The bytes of sheets: single bytes and two-byte numbers, the upper byte first. Every call is total: a byte past the end reads as 0, and writing there
 // changes nothing.
+#![tactic(auto)]
+
 pub mod head;
 pub mod output;
 

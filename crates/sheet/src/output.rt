@@ -5,7 +5,7 @@ ghost use Rattle.sheet.specs.Output.{room_error, written, out_after, written_num
 use numbers::OUTPUT_SHORT;
 
 // What writing gives: the bytes written, or the number of the refusal.
-#[derive(Drop)]
+#[derive(Clone, Copy)]
 pub enum Written {
     Bytes(usize),
     Refused(u8),

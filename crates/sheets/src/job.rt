@@ -14,7 +14,7 @@ use program::say::{cannot_write, refused};
 use text::part::front;
 
 // How far the job is: what was written, the board to go on with, whether one is left, and whether the file took all bytes.
-#[derive(Drop)]
+#[derive(Clone, Copy)]
 struct Progress {
     tally: Tally,
     next: u16,

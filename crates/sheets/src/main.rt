@@ -1,5 +1,7 @@
 // Writes the route sheets of all sound boards of a plan to one file, in rising order of their sources: `sheets PLAN OUT`. It says what it did, or what is
 // wrong, in one line of standard output.
+#![tactic(auto)]
+
 mod bar;
 mod job;
 mod say;

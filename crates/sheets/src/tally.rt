@@ -11,7 +11,7 @@ use routes::layout::{count_in, entry_in};
 use sheet::word_at;
 use text::part::part;
 
-#[derive(Drop)]
+#[derive(Clone, Copy)]
 pub struct Tally {
     pub boards: u32,
     pub entries: u32,

@@ -5,7 +5,7 @@ use libc::STDERR_FILENO;
 use logic::{both, either};
 
 // Whether someone waits there, the time when the clock was last looked at, in milliseconds, and whether a bar stands in the line.
-#[derive(Drop)]
+#[derive(Clone, Copy)]
 pub struct Waiting {
     terminal: bool,
     last: u64,

@@ -5,21 +5,21 @@ ghost use Rattle.text.specs.Decimal.{AtMost, longer_by, number_of, word_of, byte
 use crate::put::byte;
 
 // A number that was read; Bad where the text is no number, or a number that is too large.
-#[derive(Drop)]
+#[derive(Clone, Copy)]
 pub enum Number {
     Value(u64),
     Bad,
 }
 
 // The same at 16 bits.
-#[derive(Drop)]
+#[derive(Clone, Copy)]
 pub enum Word {
     Value(u16),
     Bad,
 }
 
 // The same at 8 bits.
-#[derive(Drop)]
+#[derive(Clone, Copy)]
 pub enum Byte {
     Value(u8),
     Bad,

@@ -15,7 +15,7 @@ pub fn first_word(line: &[u8]) -> &[u8]
 }
 
 // Where a value starts and ends.
-#[derive(Drop)]
+#[derive(Clone, Copy)]
 pub struct Span {
     pub start: usize,
     pub end: usize,

@@ -6,14 +6,14 @@ use crate::least::least;
 use crate::put::byte;
 
 // How many bytes were read; Bad where the text is not of this form, or the bytes do not fit.
-#[derive(Drop)]
+#[derive(Clone, Copy)]
 pub enum Count {
     Bytes(usize),
     Bad,
 }
 
 // What two digits make.
-#[derive(Drop)]
+#[derive(Clone, Copy)]
 enum Joined {
     Byte(u8),
     Bad,

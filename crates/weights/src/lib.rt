@@ -1,4 +1,6 @@
 // Long cables: a weight for each dimension with check 16, and the distance of two nodes, in which a hop counts its dimension's weight.
+#![tactic(auto)]
+
 pub mod distance;
 pub mod weights;
 

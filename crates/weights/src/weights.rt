@@ -5,7 +5,7 @@ ghost use Rattle.weights.specs.Weights.{bad_weight, bad_weights, weight_error};
 use logic::{either, pick};
 use numbers::WEIGHT_OUTSIDE;
 
-#[derive(Drop)]
+#[derive(Clone, Copy)]
 pub struct Weights {
     pub x: u8,
     pub y: u8,
