@@ -4,7 +4,7 @@ use mathlib.Core.Path.{◌≡◌, refl, ◌∙◌}
 use mathlib.Core.Bool.{true, not}
 use mathlib.Core.List.{List}
 use lib.ListN.{length}
-use borrow.Author.Tests.{not_false}
+use borrow.Author.Tests.{not-false}
 use Rattle.theory.specs.Run.{Call}
 use Rattle.theory.specs.Marks.{New}
 use Rattle.theory.specs.Alike.{SameLegs, RunsAlike}
@@ -61,7 +61,7 @@ module _ (L : Limits) (p s : List ℕ) (h : keep_error L p s ≡ 0) where
 
   every : all_kept m (source s) (entries_in first s) ≡ true
   unfolding keep_error
-  every = not_false _ (declined_zero (not (all_kept m (source s) (entries_in first s))) 16 (then_zero (error_in first L p s) _ h).1)
+  every = not-false _ (declined_zero (not (all_kept m (source s) (entries_in first s))) 16 (then_zero (error_in first L p s) _ h).1)
 
   some : 0 < length s
   some = long L p s h

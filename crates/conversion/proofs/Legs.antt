@@ -4,7 +4,7 @@ use mathlib.Core.Path.{◌≡◌, refl, sym, ◌∙◌}
 use mathlib.Core.Logic.{◌↔◌}
 use mathlib.Core.Bool.{Bool, true, false, not, ◌&&◌}
 use mathlib.Core.List.{List, [], ◌∷◌}
-use borrow.Author.Tests.{eqb-false, ne_eqb, not_true}
+use borrow.Author.Tests.{eqb-false, ne_eqb, not-true}
 use Rattle.numbers.specs.Numbers.{no_clear_choice}
 use Rattle.theory.specs.Machine.{Inside}
 use Rattle.theory.specs.Alike.{SameWalks, SameLegs}
@@ -52,7 +52,7 @@ module _ (s : Shape) (h : shape_error s ≡ 0) where
   mode_kept Adaptive t a ht ha = (λ _. adaptive_kept t a, λ _. refl)
   mode_kept Deterministic t a ht ha =
       let k = leg_kept_law s h a t ha ht in
-      (λ e. k.0 (not_true _ e), λ w. rw (k.1 w))
+      (λ e. k.0 (not-true _ e), λ w. rw (k.1 w))
 
   pub legs_kept_law : (a : ℕ) (c : List Leg) → a < node_count s → Inside (torus s) c → (legs_kept s a c ≡ true) ↔ SameLegs (old_torus s) (torus s) a c
   unfolding legs_kept
@@ -67,7 +67,7 @@ module _ (s : Shape) (h : shape_error s ≡ 0) where
   pub answer_kept_law : (S : ℕ) (a : Answer) → S < node_count s → InsideOf s a → (answer_kept s S a ≡ true) ↔ Stands s S a
   unfolding answer_kept
   answer_kept_law S (Given c) h_s i = legs_kept_law S c h_s i
-  answer_kept_law S (Refused e) h_s i = (λ k. eqb-false e no_clear_choice (not_true _ k), λ k. rw (ne_eqb e no_clear_choice k))
+  answer_kept_law S (Refused e) h_s i = (λ k. eqb-false e no_clear_choice (not-true _ k), λ k. rw (ne_eqb e no_clear_choice k))
 
 -- A leg as the code judges it, from the coordinates c.
 module _ (s : Shape) (m : Mode) (c : Coords) (t : ℕ) where

@@ -4,7 +4,7 @@ use mathlib.Core.Path.{◌≡◌, sym, ◌∙◌}
 use mathlib.Core.Bool.{Bool, true, false, not, true≢false}
 use mathlib.Core.List.{List}
 use lib.ListN.{get_or}
-use borrow.Author.Tests.{not_true}
+use borrow.Author.Tests.{not-true}
 use Rattle.theory.specs.Clear.{Clear, clear}
 use Rattle.theory.proofs.Cases.{test}
 use Rattle.theory.proofs.Clear.{clear_iff}
@@ -31,7 +31,7 @@ module _ (ties : ℕ → Bool) (m : Mode) (s : Shape) (h : shape_error s ≡ 0) 
       let w = (loss_lies ties m s h a t ha ht (get_or losses k.0 0) (nodes k.0 k.1)).met k.2 in
       let sound = (clear_legs_law s h a t ha ht ties m (sound_but s losses count)).0 c w.node w.dir w.below w.crossed in
       let lost = some_true count (λ i. names s (get_or losses i 0) w.node w.dir) k.0 k.1 w.named in
-      true≢false (sym lost ∙ not_true _ sound)
+      true≢false (sym lost ∙ not-true _ sound)
 
   all_sound : some_below count met ≡ false → Clear (torus_by ties s) (sound_but s losses count) (leg t m) a
   unfolding sound_but

@@ -8,7 +8,7 @@ use native.Mathlib.Nat.{mod-eq_of_lt}
 use native.Mathlib.Omega.{arith}
 use lib.ListN.{get_or}
 use lib.Dec.{leb, eqb}
-use borrow.Author.Tests.{eqb-true, eqb-false, eq-eqb, ne_eqb, le-leb, lt-leb, leb-true, not_true}
+use borrow.Author.Tests.{eqb-true, eqb-false, eq-eqb, ne_eqb, le-leb, lt-leb, leb-true, not-true}
 use Rattle.theory.proofs.Bools.{and_true, same_test}
 use Rattle.theory.proofs.Cases.{test, by_le}
 use Rattle.shape.specs.declared.shape.Shape.{Shape}
@@ -70,7 +70,7 @@ some_cond false n h = absurd (h refl)
 
 chosen : (plus g : Bool) → cond plus g (not g) ≡ true → g ≡ plus
 chosen true g e = e
-chosen false g e = not_true g e
+chosen false g e = not-true g e
 
 module _ (ties : ℕ → Bool) (m : Mode) (len : ℕ) (ring : Bool) (q : ℕ) (hq : q < len) where
   abbrev may : ℕ → Bool → Bool
@@ -287,7 +287,7 @@ module _ (ties : ℕ → Bool) (s : Shape) (c t : Coords) (i : Inside s c) (j : 
       there : allowed_in Deterministic ways (dir_of d plus) ≡ true → allowed_at ties Deterministic s c t (dir_of d plus) ≡ true
       there e =
           let more = and_true (not (eqb (get_or ways (dir_of d plus) 0) 0)) (none_before ways (dir_of d plus)) (and_true (leb (dir_of d plus) 5) _ e).1 in
-          let some : way_to d plus ≡ 0 → ⊥ = rw left at (eqb-false (get_or ways (dir_of d plus) 0) 0 (not_true _ more.0)) in
+          let some : way_to d plus ≡ 0 → ⊥ = rw left at (eqb-false (get_or ways (dir_of d plus) 0) 0 (not-true _ more.0)) in
           let ne = way_apart ties Deterministic (extent_of s d) (wrapped_in s d) (coord_of t d) (inside_at s t j d) (coord_of c d) plus some in
           let goes = goes_in d plus (some_cond _ _ some) in
           leads_allowed ties s c t (dir_of d plus) (rw goes at (leads_along ties s c t d (first_of d plus ne more.1)))
@@ -329,6 +329,6 @@ module _ (ties : ℕ → Bool) (m : Mode) (s : Shape) (c t : Coords) (i : Inside
       along : (d : Dim) (plus : Bool) → allowed_in m (ways_at ties m s c t) (dir_of d plus) ≡ true → hop_taken (ways_at ties m s c t) (dir_of d plus) ≡ ways_at ties m s (moved_at s c (dir_of d plus)) t
       along d plus e =
           let left = (and_true (not (eqb (get_or (ways_at ties m s c t) (dir_of d plus) 0) 0)) _ (and_true (leb (dir_of d plus) 5) _ e).1).0 in
-          let some : way_along ties m s c t d plus ≡ 0 → ⊥ = rw (at_direction ties m s c t d plus) at (eqb-false (get_or (ways_at ties m s c t) (dir_of d plus) 0) 0 (not_true _ left)) in
+          let some : way_along ties m s c t d plus ≡ 0 → ⊥ = rw (at_direction ties m s c t d plus) at (eqb-false (get_or (ways_at ties m s c t) (dir_of d plus) 0) 0 (not-true _ left)) in
           moved_along_law ties m s c t i j d plus (way_apart ties m (extent_of s d) (wrapped_in s d) (coord_of t d) (inside_at s t j d) (coord_of c d) plus some) (some_cond _ _ some)
           ∙ ap (λ at. ways_at ties m s at t) (sym (moved_is s c d plus))

@@ -5,7 +5,7 @@ use mathlib.Core.Path.{◌≡◌}
 use mathlib.Core.Bool.{true, not}
 use mathlib.Core.List.{List}
 use lib.Dec.{ltb, leb}
-use borrow.Author.Tests.{ltb-false, not_false}
+use borrow.Author.Tests.{ltb-false, not-false}
 use Rattle.numbers.specs.Numbers.{no_such_fault, fault_not_above}
 use Rattle.theory.specs.Checks.{declined}
 use Rattle.theory.proofs.Bools.{and_true}
@@ -35,7 +35,7 @@ module _ (R : Rules) (last : ℕ) (m : Shape) (s : List ℕ) where
       let p = then_zero (declined (not good) no_such_fault) _ h in
       let q = then_zero (declined (ltb (key i) least) fault_not_above) _ p.1 in
       record {
-        here = not_false _ (declined_zero (not good) 6 p.0);
+        here = not-false _ (declined_zero (not good) 6 p.0);
         above = ltb-false (key i) least (declined_zero (ltb (key i) least) 7 q.0);
         later = q.1;
       }

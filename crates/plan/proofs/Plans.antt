@@ -6,7 +6,7 @@ use mathlib.Core.Bool.{Bool, true, false, cond, not}
 use mathlib.Core.List.{List}
 use lib.ListN.{length}
 use lib.Dec.{ltb}
-use borrow.Author.Tests.{ltb-false, not_false}
+use borrow.Author.Tests.{ltb-false, not-false}
 use Rattle.numbers.specs.Numbers.{plan_short, plan_version_unknown, many_faults, wrong_length}
 use Rattle.theory.specs.Checks.{declined, ◌then◌}
 use Rattle.theory.proofs.Checks.{then_zero, declined_zero, declines, passes}
@@ -97,11 +97,11 @@ head_of s h =
     let r = then_zero (declined (ltb most_faults n) many_faults) _ q.1 in
     let f = then_zero (declined (not (length_is s (size_after (layout_in s) n))) wrong_length) 0 r.1 in
     let long = ltb-false (length s) at (declined_zero (ltb (length s) at) 0 p.0) in
-    let lent = not_false _ (declined_zero (not (length_is s (size_after (layout_in s) n))) 3 f.0) in
+    let lent = not-false _ (declined_zero (not (length_is s (size_after (layout_in s) n))) 3 f.0) in
     let least = head_least (version s) in
     record {
       long = long;
-      known = not_false _ (declined_zero (not (layout_in s).known) 1 q.0);
+      known = not-false _ (declined_zero (not (layout_in s).known) 1 q.0);
       few = ltb-false most_faults n (declined_zero (ltb most_faults n) 2 r.0);
       field = length_field_law s (size_after (layout_in s) n) lent;
       sized = omega (arith, length_sheet s (size_after (layout_in s) n) lent (omega arith));

@@ -5,7 +5,7 @@ use mathlib.Core.Path.{◌≡◌, refl, sym, ap, ◌∙◌}
 use mathlib.Core.Bool.{true, false, not, true≢false}
 use mathlib.Core.List.{List}
 use lib.ListN.{length}
-use borrow.Author.Tests.{eq-eqb, ne_eqb, lt-ltb, le-ltb, not_false}
+use borrow.Author.Tests.{eq-eqb, ne_eqb, lt-ltb, le-ltb, not-false}
 use Rattle.numbers.specs.Numbers.{node_outside}
 use Rattle.theory.specs.Checks.{declined}
 use Rattle.theory.proofs.Checks.{then_zero, declined_zero}
@@ -35,7 +35,7 @@ unfolding run_error
 board_of p from h =
     let known = is_node (shape_of p) from in
     let k = (then_zero (declined (not known) node_outside) 0 (then_zero (plan_error large p) _ h).1).0 in
-    (node_of (shape_of p) from (not_false known (declined_zero (not known) 8 k))).below
+    (node_of (shape_of p) from (not-false known (declined_zero (not known) 8 k))).below
 
 pub board_error : (p : List ℕ) (from : ℕ) → plan_error large p ≡ 0 → from < boards p → run_error p from ≡ 0
 unfolding run_error

@@ -7,7 +7,7 @@ use mathlib.Core.List.{List, [], ◌∷◌}
 use lib.ListN.{length}
 use lib.Dec.{ltb, eqb}
 use denote.Ref.{Bor}
-use borrow.Author.Tests.{eq-eqb, ne_eqb, lt-ltb, le-ltb, ltb-true, not_false}
+use borrow.Author.Tests.{eq-eqb, ne_eqb, lt-ltb, le-ltb, ltb-true, not-false}
 use Rattle.theory.specs.Machine.{sum_by}
 use Rattle.theory.proofs.Bools.{and_true}
 use Rattle.theory.proofs.Checks.{then_zero, declined_zero}
@@ -177,7 +177,7 @@ module _ (L : Limits) (p s : List ℕ) (d : ℕ) where
 
     dest_node : is_node m d ≡ true
     unfolding lookup_error
-    dest_node = not_false _ (declined_zero (not (is_node m d)) _ (then_zero (sheet_error L p s) _ h).1)
+    dest_node = not-false _ (declined_zero (not (is_node m d)) _ (then_zero (sheet_error L p s) _ h).1)
 
     found_good : (f : Found) → f ≡ found_in s d → FoundGood m S f
     unfolding found_in routes_good entries_of

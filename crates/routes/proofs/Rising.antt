@@ -6,7 +6,7 @@ use mathlib.Core.Bool.{true, not, ◌&&◌}
 use mathlib.Core.List.{List, [], ◌∷◌}
 use lib.ListN.{length, get_or}
 use lib.Dec.{eqb}
-use borrow.Author.Tests.{eqb-true, eqb-false, not_true}
+use borrow.Author.Tests.{eqb-true, eqb-false, not-true}
 use Rattle.theory.proofs.Bools.{and_true}
 use Rattle.theory.proofs.Cases.{test, by_order}
 use Rattle.sheet.specs.Bytes.{list_from}
@@ -68,7 +68,7 @@ module _ (m : Shape) (S : ℕ) where
       let q = and_true (is_node m e.dest) _ p.0 in
       let d = (node_of m e.dest q.0).below in
       let v = vias_below e (omega arith) p.1 in
-      record { dest = d; other = eqb-false e.dest S (not_true _ q.1); via = v.0; second = v.1 }
+      record { dest = d; other = eqb-false e.dest S (not-true _ q.1); via = v.0; second = v.1 }
 
   -- Each of the entries is good.
   pub each_good : (f : ℕ → Entry) (n i least : ℕ) → entries_good m S least (list_from f i n) ≡ true → (j : ℕ) → i ≤ j → j < i + n → entry_good m S (f j) ≡ true

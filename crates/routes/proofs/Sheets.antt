@@ -7,7 +7,7 @@ use mathlib.Core.Bool.{Bool, true, false, not, cond, ◌&&◌}
 use mathlib.Core.List.{List}
 use lib.ListN.{length}
 use lib.Dec.{leb, eqb}
-use borrow.Author.Tests.{leb-true, eqb-true, ne_eqb, not_false}
+use borrow.Author.Tests.{leb-true, eqb-true, ne_eqb, not-false}
 use Rattle.theory.specs.Checks.{declined, ◌then◌}
 use Rattle.theory.proofs.Checks.{then_zero, declined_zero}
 use Rattle.theory.proofs.Bools.{and_true}
@@ -79,7 +79,7 @@ pub accepted_in : (F : Format) (L : Limits) (p s : List ℕ) → error_in F L p 
 unfolding error_in good_in
 accepted_in F L p s h =
     let q = then_zero (plan_error L p) _ h in
-    let good = not_false _ (declined_zero (not (good_in F (shape_of p) s)) 12 q.1) in
+    let good = not-false _ (declined_zero (not (good_in F (shape_of p) s)) 12 q.1) in
     let r = and_true (head_good F s) _ good in
     record { plan = q.0; head_good_law = r.0; head = head_of F s r.0; routes = r.1 }
 

@@ -44,5 +44,7 @@ pub fn put_sheet(s: &[u8], error: u8, out: &mut [u8]) -> Written
     if out.len() < s.len() {
         return Written::Refused(OUTPUT_SHORT);
     }
-    Written::Bytes(bytes::copy(s, out))
+    let size = s.len();
+    out[..size].copy_from_slice(s);
+    Written::Bytes(size)
 }

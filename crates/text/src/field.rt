@@ -1,6 +1,6 @@
 // The fields of a line. A line is words with one blank between them: the first names an operation, and each other is a key, '=' and a value.
 ghost use Rattle.std.specs.Prelude.{◌≡◌, ◌≤◌, length, take};
-ghost use Rattle.bytes.specs.Bytes.{index_of};
+ghost use Rattle.text.specs.Scan.{index_of};
 
 use crate::compare::starts_with;
 use crate::part::{before, part};

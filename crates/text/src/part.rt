@@ -1,6 +1,6 @@
 // Parts of a text.
 ghost use Rattle.std.specs.Prelude.{◌≡◌, ◌+◌, ◌-◌, min, length, take, drop};
-ghost use Rattle.bytes.specs.Bytes.{index_of};
+ghost use Rattle.text.specs.Scan.{index_of};
 
 use crate::least::least;
 use crate::scan::find;

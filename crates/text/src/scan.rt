@@ -1,6 +1,6 @@
 // Where something stands in a text.
 ghost use Rattle.std.specs.Prelude.{◌≡◌, ◌+◌, ◌≤◌, min, length, drop};
-ghost use Rattle.bytes.specs.Bytes.{index_of};
+ghost use Rattle.text.specs.Scan.{index_of};
 
 use crate::compare::starts_with;
 use crate::least::least;
@@ -10,7 +10,11 @@ pub fn find(s: &[u8], from: usize, byte: u8) -> usize
     ensures value { result ≡ min from (length s.now) + index_of byte (drop from s.now) }
     ensures upper_bound { result ≤ length s.now }
 {
-    bytes::scan::find(s, least(from, s.len()), s.len(), byte)
+    let start = least(from, s.len());
+    match s[start..].iter().position(|b| *b == byte) {
+        Some(i) => start + i,
+        None => s.len(),
+    }
 }
 
 // The place where `text` first begins in `s`; the length where it does not occur.

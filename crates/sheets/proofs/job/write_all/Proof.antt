@@ -1,5 +1,5 @@
 use borrow.Author.Rules.{rules}
-use borrow.Author.Tests.{not_false}
+use borrow.Author.Tests.{not-false}
 use Rattle.sheets.proofs.job.write_all.Statement.{statement}
 use Rattle.sheets.proofs.job.write_all.Tie as tie
 
@@ -16,7 +16,7 @@ returns : tie.Need-returns
 returns c = tt
 
 write-runs-requires : tie.Need-write-runs-requires
-write-runs-requires c κs = c.before.before.before.sets-of-input.ensures.0.made (not_false _ c.before.before.if1.false)
+write-runs-requires c κs = c.before.before.before.sets-of-input.ensures.0.made (not-false _ c.before.before.if1.false)
 
 returns-2 : tie.Need-returns-2
 returns-2 c = tt

@@ -1,0 +1,13 @@
+use Rattle.search.specs.Number.{unclear}
+use Rattle.choice_number.specs.Note.{bound_of}
+use borrow.Author.Tests.{le-leb, lt-leb}
+use mathlib.Core.Path.{refl}
+use Rattle.choice_number.proofs.read.bound.Goals as goal
+
+pub returns-then-note-ge-UNCLEAR : goal.returns-then-note-ge-UNCLEAR
+unfolding bound_of
+returns-then-note-ge-UNCLEAR c = rw (le-leb unclear c.args.note c.if-note-ge-UNCLEAR.true) refl
+
+pub returns : goal.returns
+unfolding bound_of
+returns c = rw (lt-leb unclear c.args.note c.if-note-ge-UNCLEAR.false) refl

@@ -1,0 +1,10 @@
+use Prim.Native.Nat.{◌-◌}
+use Rattle.dead.specs.Dead.{names_node}
+use Rattle.dead.proofs.Looking.{Looking}
+use Rattle.dead.proofs.questions.node_in.Given as goal
+
+abbrev pub invariant-loop-i : goal.invariant-loop-i
+invariant-loop-i l = Looking (λ f. names_node f l.node) l.sheet l.count l.i
+
+abbrev pub decreases-loop-i : goal.decreases-loop-i
+decreases-loop-i l = l.count - l.i

@@ -1,0 +1,24 @@
+use native.Mathlib.Omega.{arith}
+use Rattle.shape.specs.declared.shape.Dim.TheVariants.{Z}
+use Rattle.shape.proofs.Shapes.{sound}
+use Rattle.search.proofs.Seeking.{further}
+use Rattle.second_via.proofs.Going.{seek_begin, seek_on, seek_end}
+use Rattle.second_via.proofs.least.space.Goals as goal
+
+pub loop-z-init : goal.loop-z-init
+loop-z-init c = seek_begin _ _ _ _ _ c.next_set-z.ensures
+
+pub plane-best-requires : goal.plane-best-requires
+plane-best-requires c = (c.requires.0, c.requires.1, c.loop-z-test.true)
+
+pub overflow_add-z : goal.overflow_add-z
+overflow_add-z c = omega (arith, c.loop-z-test.true, (sound _ c.requires.0 Z).high)
+
+pub loop-z-smaller : goal.loop-z-smaller
+loop-z-smaller c = further _ _ _ c.next_set-z-in-loop-z.ensures (omega (arith, c.loop-z-test.true, (sound _ c.requires.0 Z).high))
+
+pub loop-z-preserved : goal.loop-z-preserved
+loop-z-preserved c = seek_on _ _ _ _ _ _ _ _ (sound _ c.requires.0 Z).high c.loop-z-test.true c.loop-z.invariant c.plane-best.ensures c.next_set-z-in-loop-z.ensures
+
+pub returns : goal.returns
+returns c = seek_end _ _ _ _ _ _ c.loop-z-test.false c.loop-z.invariant
