@@ -182,7 +182,7 @@ module _ (ties : ℕ → Bool) (s : Shape) (h : shape_error s ≡ 0) (t : ℕ) (
 
     pub walk_by_start : a < node_count s → SameWalks (torus_by ties s) (torus_from ties a s) (leg t Deterministic) a
     walk_by_start ha =
-        same_walks (torus_by ties s) _ (leg t Deterministic) (λ n. (n < node_count s) × Tied n)
+        same_walks (torus_by ties s) (λ l p d. allowed_from ties a l.mode s p l.target d) (leg t Deterministic) (λ n. (n < node_count s) × Tied n)
         (λ n dir k. sym (allowed_from_law n dir k.1))
         (λ n dir k w. (neighbour_below s h n k.0 dir, tied_on n dir k.0 w k.1))
         a (ha, λ d e. refl)

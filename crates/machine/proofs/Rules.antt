@@ -57,7 +57,7 @@ module _ (s : Shape) (h : shape_error s ≡ 0) (t : ℕ) (ht : t < node_count s)
 
     pub agree_walks : (a : ℕ) → a < node_count s → Agree a → Same a
     agree_walks a ha k =
-        same_walks (torus_by u s) _ (leg t Deterministic) (λ n. (n < node_count s) × Agree n)
+        same_walks (torus_by u s) (λ l p d. allowed_by v l.mode s p l.target d) (leg t Deterministic) (λ n. (n < node_count s) × Agree n)
         (λ n dir q. allowed_agree n dir q.1)
         (λ n dir q w. (neighbour_below s h n q.0 dir, agree_on n dir q.0 w q.1))
         a (ha, k)
@@ -82,7 +82,7 @@ module _ (s : Shape) (h : shape_error s ≡ 0) (t : ℕ) (ht : t < node_count s)
         (λ q.
         let stays = hop_else u s h t ht n dir hn go.2 d q in
         let fewer = L.nearer (leg t Deterministic) n dir hn ht go.2 in
-        rw (← stays) (same_agree left next hm (omega (arith, fewer, z)) (walks_on (torus_by u s) _ (leg t Deterministic) n dir go.2 w) d (half_along n next hn hm d stays ∙ e)))
+        rw (← stays) (same_agree left next hm (omega (arith, fewer, z)) (walks_on (torus_by u s) (λ l p d. allowed_by v l.mode s p l.target d) (leg t Deterministic) n dir go.2 w) d (half_along n next hn hm d stays ∙ e)))
 
     pub walks_agree : (a : ℕ) → a < node_count s → Same a → Agree a
     walks_agree a ha w = same_agree (hops s a t) a ha refl w
