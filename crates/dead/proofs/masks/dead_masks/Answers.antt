@@ -16,7 +16,7 @@ pub mark_fault-requires : goal.mark_fault-requires
 mark_fault-requires c = both (let g = c.loop-i.invariant in (g.table.marks, exists _ _ _ _ _ g _ c.fault_in.ensures c.loop-i-test.true))
 
 pub loop-i-preserved : goal.loop-i-preserved
-loop-i-preserved c = onward _ _ _ _ _ c.loop-i.invariant _ _ c.fault_in.ensures c.type_inv.masks c.loop-i-test.true
+loop-i-preserved c = onward _ _ _ _ _ c.loop-i.invariant _ _ c.fault_in.ensures c.mark_fault.ensures c.loop-i-test.true
 
 pub returns : goal.returns
 returns c = ended _ _ _ _ _ c.loop-i.invariant (omega arith) n

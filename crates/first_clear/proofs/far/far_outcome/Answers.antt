@@ -7,7 +7,7 @@ use Rattle.first_clear.proofs.Dests.{member, first_leg}
 use Rattle.first_clear.proofs.far.far_outcome.Goals as goal
 
 pub returns-then-not-has_rows : goal.returns-then-not-has_rows
-returns-then-not-has_rows c = λ p S D g. absurd (rows_missing _ _ _ _ c.has_rows.ensures (c.if-not-has_rows.true) g.both.room)
+returns-then-not-has_rows c = λ p S D g. absurd (rows_missing _ _ _ _ c.has_rows.ensures c.if-not-has_rows.true g.both.room)
 
 pub overflow_add-at : goal.overflow_add-at
 overflow_add-at c = let room = rows_fit _ _ _ (sym c.has_rows.ensures ∙ c.if-not-has_rows.false) in omega (arith, room)

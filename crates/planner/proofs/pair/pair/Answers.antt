@@ -8,8 +8,8 @@ use Rattle.planner.proofs.pair.pair_error.Reads as pair-error-reads
 use Rattle.planner.proofs.pair.route.Reads as route-reads
 use Rattle.planner.proofs.pair.pair.Goals as goal
 
-all_5 : {A B C D E : Type 0} → A × B × C × D × E → record { of_plan : A; at : B; at_2 : C; source_value : D; weights_value : E }
-all_5 p = record { of_plan = p.0; at = p.1; at_2 = p.2; source_value = p.3; weights_value = p.4 }
+all_5 : {A B C D E : Type 0} → A × (B × (C × (D × E))) → record { of_plan : A; at : B; at_2 : C; source_value : D; weights_value : E }
+all_5 p = record { of_plan = p.0; at = p.1.0; at_2 = p.1.1.0; source_value = p.1.1.1.0; weights_value = p.1.1.1.1 }
 
 -- src/pair.rt:107:9
 pub returns-then-error-ne0 : goal.returns-then-error-ne0

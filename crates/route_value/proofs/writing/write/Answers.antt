@@ -12,7 +12,7 @@ both p = record { value = p.0; out_after = p.1 }
 
 -- `long` is what is known of the parameter's array: it has 4,095 elements.
 pub returns-then-count-gt-MOST_ENTRIES : goal.returns-then-count-gt-MOST_ENTRIES
-returns-then-count-gt-MOST_ENTRIES c = both (let long : length c.args.routes.entries ≡ most_entries = simp length-map at c.well-formed.1.0.1.1.1.1.0.1.0.1 in
+returns-then-count-gt-MOST_ENTRIES c = both (let long : length c.args.routes.entries ≡ most_entries = simp length-map at c.well_formed.1.0.1.1.1.1.0.1.0.1 in
     let t = too_many c.args.routes long c.if-count-gt-MOST_ENTRIES.true (omega arith) _ _ _ _ _ c.check-error.ensures c.pick.ensures in
     refused _ _ _ _ t.0 t.1)
 
