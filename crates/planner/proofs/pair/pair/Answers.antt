@@ -16,7 +16,7 @@ pub returns-then-error-ne0 : goal.returns-then-error-ne0
 returns-then-error-ne0 c = refused_pair _ _ _ _ c.pair_error-error.ensures c.if-error-ne0.true
 
 pub route-requires : goal.route-requires
-route-requires c = all_5 (let is = c.shape_in-shape.ensures in let error = c.pair_error-error.ensures in let zero = c.if-error-ne0.false in (known _ _ _ _ _ is error zero _ _ c.losses-lost.ensures, (from_at _ _ _ _ _ is error zero _ c.coords.ensures, (to_at _ _ _ _ _ is error zero _ c.coords-2.ensures, (source_alive _ _ _ _ _ is error zero, c.weights_in.ensures)))))
+route-requires c = all_5 (let zero = c.if-error-ne0.false in (known _ _ _ _ _ c.shape_in-shape.ensures c.pair_error-error.ensures zero _ _ c.losses-lost.ensures, (from_at _ _ _ _ _ c.shape_in-shape.ensures c.pair_error-error.ensures zero _ c.coords.ensures, (to_at _ _ _ _ _ c.shape_in-shape.ensures c.pair_error-error.ensures zero _ c.coords-2.ensures, (source_alive _ _ _ _ _ c.shape_in-shape.ensures c.pair_error-error.ensures zero, c.weights_in.ensures)))))
 
 -- src/pair.rt:102:1
 pub returns : goal.returns
