@@ -8,4 +8,4 @@ pub put_converted-requires : goal.put_converted-requires
 put_converted-requires c = judged_long _ _ _ _ c.judge-judged.ensures
 
 pub returns : goal.returns
-returns c = all_3 (convert_answer _ _ _ _ c.judge-judged.ensures _ _ _ c.put_converted.ensures)
+returns c = all_3 (convert_answer _ _ _ _ c.judge-judged.ensures _ _ _ (c.put_converted.ensures.value, c.put_converted.ensures.out_after))

@@ -12,4 +12,4 @@ pub notes_from-notes-requires : goal.notes_from-notes-requires
 notes_from-notes-requires c = all_3 ((refl, (record { prepared = c.requires.prepared; source = c.requires.at.0; alive = c.requires.at.1.0; adaptive = c.from_set-fa.ensures _ _ c.requires.prepared.of_plan c.requires.at.0; deterministic = c.from_set-fd.ensures _ _ c.requires.prepared.of_plan c.requires.at.0 }, c.weights_in.ensures)))
 
 pub all_outcomes-requires : goal.all_outcomes-requires
-all_outcomes-requires c = all_3_2 (let g = c.requires in (record { prepared = c.requires.prepared; source = c.requires.at.0; alive = c.requires.at.1.0; adaptive = c.from_set-fa.ensures _ _ c.requires.prepared.of_plan c.requires.at.0; deterministic = c.from_set-fd.ensures _ _ c.requires.prepared.of_plan c.requires.at.0 }, (g.1.1.1, (all_noted _ _ _ _ (c.from_set-fa.ensures _ _ g.0.of_plan g.1.0) (c.type_inv.twos g.1.1.1).0, all_twos _ _ _ _ _ (c.from_set-fa.ensures _ _ g.0.of_plan g.1.0) (c.type_inv.twos g.1.1.1).1))))
+all_outcomes-requires c = all_3_2 (let g = (c.requires.prepared, c.requires.at, c.requires.source_value, c.requires.work) in (record { prepared = c.requires.prepared; source = c.requires.at.0; alive = c.requires.at.1.0; adaptive = c.from_set-fa.ensures _ _ c.requires.prepared.of_plan c.requires.at.0; deterministic = c.from_set-fd.ensures _ _ c.requires.prepared.of_plan c.requires.at.0 }, (g.1.1.1, (all_noted _ _ _ _ (c.from_set-fa.ensures _ _ g.0.of_plan g.1.0) (c.type_inv.twos g.1.1.1).0, all_twos _ _ _ _ _ (c.from_set-fa.ensures _ _ g.0.of_plan g.1.0) (c.type_inv.twos g.1.1.1).1))))

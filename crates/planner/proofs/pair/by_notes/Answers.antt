@@ -8,4 +8,4 @@ pub returns-then-is_given : goal.returns-then-is_given
 returns-then-is_given c = first_given _ _ _ _ _ c.near_by_notes-first.ensures c.is_given.ensures c.if-is_given.true
 
 pub far_by_notes-requires : goal.far_by_notes-requires
-far_by_notes-requires c = all_6 (let g = c.requires in (g.0, (g.1.0, (g.1.1.0, (g.1.1.1.0, (g.1.1.1.1, none_given _ _ _ _ _ c.near_by_notes-first.ensures c.is_given.ensures c.if-is_given.false))))))
+far_by_notes-requires c = all_6 (let g = (c.requires.ready, c.requires.at, c.requires.work_len, c.requires.weights_value, c.requires.dest_value) in (g.0, (g.1.0, (g.1.1.0, (g.1.1.1.0, (g.1.1.1.1, none_given _ _ _ _ _ c.near_by_notes-first.ensures c.is_given.ensures c.if-is_given.false))))))

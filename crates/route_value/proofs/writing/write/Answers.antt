@@ -17,4 +17,4 @@ returns-then-count-gt-MOST_ENTRIES c = both (let long : length c.args.routes.ent
     refused _ _ _ _ t.0 t.1)
 
 pub returns : goal.returns
-returns c = both (rw (← front_whole _ _ _ c.encode.ensures) c.write_front.ensures)
+returns c = both (rw (← front_whole _ _ _ c.encode.ensures) (c.write_front.ensures.value, c.write_front.ensures.out_after))

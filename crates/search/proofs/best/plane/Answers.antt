@@ -14,7 +14,7 @@ pub bounds-ys-i : goal.bounds-ys-i
 bounds-ys-i c = omega (arith, c.loop-y-test.true, (sound _ c.requires.ready.sound Y).high)
 
 pub row_of-best-requires : goal.row_of-best-requires
-row_of-best-requires c = both (let p = c.requires in (p.0, (c.loop-y-test.true, p.1.0, omega (arith, p.1.1, c.loop-y.invariant.1.low))))
+row_of-best-requires c = both (let p = (c.requires.ready, c.requires.z_lt_z) in (p.0, (c.loop-y-test.true, p.1.0, omega (arith, p.1.1, c.loop-y.invariant.1.low))))
 
 pub loop-y-preserved : goal.loop-y-preserved
 loop-y-preserved c = (omega (arith, c.loop-y-test.true), rows_on _ _ _ _ _ _ _ _ _ _ _ _ _ _ c.loop-y.invariant.1 c.row_of-best.ensures)

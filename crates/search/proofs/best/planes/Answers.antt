@@ -14,7 +14,7 @@ pub bounds-zs-i : goal.bounds-zs-i
 bounds-zs-i c = omega (arith, c.loop-z-test.true, (sound _ c.requires.ready.sound Z).high)
 
 pub plane_at-best-requires : goal.plane_at-best-requires
-plane_at-best-requires c = all_3 (let p = c.requires in (p.0, (p.1.0, (c.loop-z-test.true, omega (arith, p.1.1, c.loop-z.invariant.1.low)))))
+plane_at-best-requires c = all_3 (let p = (c.requires.ready, c.requires.by_index, c.requires.known_le_unclear) in (p.0, (p.1.0, (c.loop-z-test.true, omega (arith, p.1.1, c.loop-z.invariant.1.low)))))
 
 pub loop-z-preserved : goal.loop-z-preserved
 loop-z-preserved c = (omega (arith, c.loop-z-test.true), planes_on _ _ _ _ _ _ _ _ _ _ _ _ _ c.loop-z.invariant.1 c.plane_at-best.ensures)

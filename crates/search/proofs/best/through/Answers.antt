@@ -20,7 +20,7 @@ pub bounds-ys-sy : goal.bounds-ys-sy
 bounds-ys-sy c = omega (arith, c.requires.inside.0.0.y, (sound _ c.requires.shape_value.0 Y).high)
 
 pub row_of-one-requires : goal.row_of-one-requires
-row_of-one-requires c = both (let p = c.requires in (ready _ _ _ _ _ _ p.0.0 p.0.1 c.level-least.ensures p.1.1 p.0.2, (p.1.0.0.y, p.1.0.0.z, omega arith)))
+row_of-one-requires c = both (let p = (c.requires.shape_value, c.requires.inside, c.requires.by_index) in (ready _ _ _ _ _ _ p.0.0 p.0.1 c.level-least.ensures p.1.1 p.0.2, (p.1.0.0.y, p.1.0.0.z, omega arith)))
 
 pub bounds-zs-dz : goal.bounds-zs-dz
 bounds-zs-dz c = omega (arith, c.requires.inside.0.1.z, (sound _ c.requires.shape_value.0 Z).high)
@@ -29,10 +29,10 @@ pub bounds-ys-dy : goal.bounds-ys-dy
 bounds-ys-dy c = omega (arith, c.requires.inside.0.1.y, (sound _ c.requires.shape_value.0 Y).high)
 
 pub row_of-two-requires : goal.row_of-two-requires
-row_of-two-requires c = both (let p = c.requires in (ready _ _ _ _ _ _ p.0.0 p.0.1 c.level-least.ensures p.1.1 p.0.2, (p.1.0.1.y, p.1.0.1.z, c.row_of-one.ensures.low)))
+row_of-two-requires c = both (let p = (c.requires.shape_value, c.requires.inside, c.requires.by_index) in (ready _ _ _ _ _ _ p.0.0 p.0.1 c.level-least.ensures p.1.1 p.0.2, (p.1.0.1.y, p.1.0.1.z, c.row_of-one.ensures.low)))
 
 pub planes-requires : goal.planes-requires
-planes-requires c = all_3_2 (let p = c.requires in (ready _ _ _ _ _ _ p.0.0 p.0.1 c.level-least.ensures p.1.1 p.0.2, (c.least_part-low.ensures, omega (arith, c.row_of-two.ensures.low, c.row_of-one.ensures.low))))
+planes-requires c = all_3_2 (let p = (c.requires.shape_value, c.requires.inside, c.requires.by_index) in (ready _ _ _ _ _ _ p.0.0 p.0.1 c.level-least.ensures p.1.1 p.0.2, (c.least_part-low.ensures, omega (arith, c.row_of-two.ensures.low, c.row_of-one.ensures.low))))
 
 pub returns : goal.returns
-returns c = let p = c.requires in row_first _ _ _ _ _ _ _ _ _ _ _ _ c.row_of-one.result _ p.1.0.0.y p.1.0.0.z c.row_of-one.ensures (row_first _ _ _ _ _ _ _ _ _ c.row_of-one.result _ _ c.row_of-two.result _ p.1.0.1.y p.1.0.1.z c.row_of-two.ensures c.planes.ensures)
+returns c = let p = (c.requires.shape_value, c.requires.inside, c.requires.by_index) in row_first _ _ _ _ _ _ _ _ _ _ _ _ c.row_of-one.result _ p.1.0.0.y p.1.0.0.z c.row_of-one.ensures (row_first _ _ _ _ _ _ _ _ _ c.row_of-one.result _ _ c.row_of-two.result _ p.1.0.1.y p.1.0.1.z c.row_of-two.ensures c.planes.ensures)
