@@ -10,6 +10,7 @@ use text::put;
 const LINE_BYTES: usize = 128;
 
 // How many of 20 marks stand for `done` of `all` boards.
+#[tactic(auto, unfolding(crate::specs::Bar::marks_of))]
 fn marks(done: u16, all: u16) -> usize
     ensures value { result ≡ marks_of done all }
     ensures upper_bound { result ≤ 20 }
@@ -49,6 +50,7 @@ fn clipped(spent: u64) -> u64
 }
 
 // The seconds that the boards that are left will take, if the others took so many milliseconds.
+#[tactic(auto, unfolding(crate::specs::Bar::seconds_left))]
 fn seconds_left(done: u16, all: u16, spent: u64) -> u64
     ensures { result ≡ seconds_left done all spent }
 {
