@@ -1,5 +1,3 @@
--- `Tallies` and `Walking` have the laws of a tally, `Going` why the job ends, `Times` that the time left is a number.
+-- The laws of a tally.
 pub mod Tallies
 pub mod Walking
-pub mod Going
-pub mod Times

@@ -1,4 +1,4 @@
-use Rattle.std.proofs.Common.{arith, ap, ◌∙◌}
+use Rattle.std.proofs.Common.{ap, ◌∙◌}
 use Rattle.sheets.specs.Tally.{is_without}
 use Rattle.sheets.proofs.Tallies.{begin, next, ended}
 use Rattle.sheets.proofs.tally.without_in.Goals as goal
