@@ -18,6 +18,7 @@ use Rattle.machine.specs.declared.leg.Mode.TheVariants.{Adaptive, Deterministic}
 use Rattle.machine.specs.declared.leg.Leg.{Leg}
 use Rattle.machine.specs.Number.{node_count, coords_of}
 use Rattle.machine.specs.Node.{is_node, coords_answer}
+use Rattle.machine.specs.Hop.{rule}
 use Rattle.machine.specs.Torus.{allowed_by, torus, leg}
 use Rattle.machine.proofs.Nodes.{node_of, below_node}
 use Rattle.packet.specs.declared.route.Route.{Route}
@@ -45,7 +46,7 @@ module _ (s : Shape) (h : shape_error s ≡ 0) where
   -- The rule is not asked for an adaptive leg.
   pub adaptive_kept : (t a : ℕ) → SameWalks (old_torus s) (torus s) (leg t Adaptive) a
   unfolding allowed_by
-  adaptive_kept t a = same_walks (old_torus s) _ (leg t Adaptive) (λ p. Unit {0}) (λ p d q. refl) (λ p d q w. tt) a tt
+  adaptive_kept t a = same_walks (old_torus s) (λ l p d. allowed_by rule l.mode s p l.target d) (leg t Adaptive) (λ p. Unit {0}) (λ p d q. refl) (λ p d q w. tt) a tt
 
   mode_kept : (m : Mode) (t a : ℕ) → t < node_count s → a < node_count s → (leg_kept m s a t ≡ true) ↔ SameWalks (old_torus s) (torus s) (leg t m) a
   unfolding leg_kept

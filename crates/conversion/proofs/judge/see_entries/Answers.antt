@@ -4,8 +4,8 @@ use mathlib.Core.Path.{sym, ◌∙◌}
 use Rattle.conversion.proofs.Losing.{next_nodes, begin, refused, onward, ended}
 use Rattle.conversion.proofs.judge.see_entries.Goals as goal
 
-all_3 : {A B C : Type 0} → A × B × C → record { dest_value : A; via_value : B; second_value : C }
-all_3 p = record { dest_value = p.0; via_value = p.1; second_value = p.2 }
+all_3 : {A B C : Type 0} → A × (B × C) → record { dest_value : A; via_value : B; second_value : C }
+all_3 p = record { dest_value = p.0; via_value = p.1.0; second_value = p.1.1 }
 
 pub loop-i-init : goal.loop-i-init
 loop-i-init c = begin _ _ _ _ c.count_in-count.ensures

@@ -7,7 +7,7 @@ both : {A B : Type 0} → A × B → record { marks : A; f_value : B }
 both p = record { marks = p.0; f_value = p.1 }
 
 pub returns-then-check-ne0 : goal.returns-then-check-ne0
-returns-then-check-ne0 c = declined_masks _ _ _ c.check.ensures c.if-check-ne0.true n
+returns-then-check-ne0 c n = declined_masks _ _ _ c.check.ensures c.if-check-ne0.true n
 
 pub loop-i-init : goal.loop-i-init
 loop-i-init c = begin _ _ _ (sym c.check.ensures ∙ c.if-check-ne0.false) c.shape_in-shape.ensures _ c.count_in-i.ensures
@@ -16,7 +16,7 @@ pub mark_fault-requires : goal.mark_fault-requires
 mark_fault-requires c = both (let g = c.loop-i.invariant in (g.table.marks, exists _ _ _ _ _ g _ c.fault_in.ensures c.loop-i-test.true))
 
 pub loop-i-preserved : goal.loop-i-preserved
-loop-i-preserved c = onward _ _ _ _ _ c.loop-i.invariant _ _ c.fault_in.ensures c.type_inv.masks c.loop-i-test.true
+loop-i-preserved c = onward _ _ _ _ _ c.loop-i.invariant _ _ c.fault_in.ensures c.mark_fault.ensures c.loop-i-test.true
 
 pub returns : goal.returns
-returns c = ended _ _ _ _ _ c.loop-i.invariant (omega arith) n
+returns c n = ended _ _ _ _ _ c.loop-i.invariant (omega arith) n

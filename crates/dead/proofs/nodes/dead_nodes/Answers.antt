@@ -13,7 +13,7 @@ pub mark_node-requires : goal.mark_node-requires
 mark_node-requires c = below _ _ _ _ c.loop-i.invariant _ c.fault_in.ensures c.loop-i-test.true
 
 pub loop-i-preserved : goal.loop-i-preserved
-loop-i-preserved c = onward _ _ _ _ c.loop-i.invariant _ _ c.fault_in.ensures c.type_inv.nodes c.loop-i-test.true
+loop-i-preserved c = onward _ _ _ _ c.loop-i.invariant _ _ c.fault_in.ensures c.mark_node.ensures c.loop-i-test.true
 
 pub returns : goal.returns
 returns c = λ n. ended _ _ _ _ c.loop-i.invariant (omega arith) n

@@ -5,7 +5,7 @@ pub returns-then-check-ne0 : goal.returns-then-check-ne0
 returns-then-check-ne0 c = declined_link _ _ _ _ _ c.check.ensures c.if-check-ne0.true
 
 pub returns-then-not-has_link : goal.returns-then-not-has_link
-returns-then-not-has_link c = no_link _ _ _ _ _ c.shape_in-shape.ensures _ c.has_link.ensures (c.if-not-has_link.true)
+returns-then-not-has_link c = no_link _ _ _ _ _ c.shape_in-shape.ensures _ c.has_link.ensures c.if-not-has_link.true
 
 pub returns : goal.returns
-returns c = link_answer_law _ _ _ _ _ c.shape_in-shape.ensures _ c.has_link.ensures _ c.check.ensures c.if-check-ne0.false (c.if-not-has_link.false) _ c.neighbour.ensures _ c.link_in.ensures
+returns c = link_answer_law _ _ _ _ _ c.shape_in-shape.ensures _ c.has_link.ensures _ c.check.ensures c.if-check-ne0.false c.if-not-has_link.false _ c.neighbour.ensures _ c.link_in.ensures

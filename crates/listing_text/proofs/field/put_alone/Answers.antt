@@ -9,7 +9,7 @@ both p = record { put = p.0; upper_bound = p.1 }
 
 pub returns-in-Number : goal.returns-in-Number
 unfolding field_text
-returns-in-Number c = both (rw c.in-Number.is c.put_decimal.ensures)
+returns-in-Number c = both (rw c.in-Number.is (c.put_decimal.ensures.put, c.put_decimal.ensures.upper_bound))
 
 pub returns-in-Dash : goal.returns-in-Dash
 unfolding field_text

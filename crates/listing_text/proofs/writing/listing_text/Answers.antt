@@ -7,7 +7,7 @@ both : {A B : Type 0} → A × B → record { value : A; out_after : B }
 both p = record { value = p.0; out_after = p.1 }
 
 pub returns-then-error-ne0 : goal.returns-then-error-ne0
-returns-then-error-ne0 c = both (rw (refused_text _ _ c.listing_error-error.ensures c.if-error-ne0.true) at c.write_refusal.ensures)
+returns-then-error-ne0 c = both (rw (refused_text _ _ c.listing_error-error.ensures c.if-error-ne0.true) at (c.write_refusal.ensures.value, c.write_refusal.ensures.out_after))
 
 pub slice_bounds-plan-count : goal.slice_bounds-plan-count
 slice_bounds-plan-count c = long_input _ (sym c.listing_error-error.ensures ∙ c.if-error-ne0.false)
@@ -17,4 +17,4 @@ write_text-requires c = head_small _ _ _ c.head_of.ensures
 
 pub returns : goal.returns
 returns c = both (let i = c.args.input.now in
-    rw (planned_text i (sym c.listing_error-error.ensures ∙ c.if-error-ne0.false) _ _ _ _ (rest i) c.source_in-source.ensures c.head_of.ensures c.outcomes.ensures) at c.write_text.ensures)
+    rw (planned_text i (sym c.listing_error-error.ensures ∙ c.if-error-ne0.false) _ _ _ _ (rest i) c.source_in-source.ensures c.head_of.ensures c.outcomes.ensures) at (c.write_text.ensures.value, c.write_text.ensures.out_after))

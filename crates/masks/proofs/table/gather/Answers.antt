@@ -6,4 +6,4 @@ use Rattle.masks.proofs.table.gather.Goals as goal
 
 -- src/table.rt:117:1
 pub returns : goal.returns
-returns c = lay_all _ _ _ _ _ _ c.type_inv.masks c.type_inv.masks c.lay-3.ensures
+returns c = lay_all _ _ _ _ _ _ c.lay.ensures c.lay-2.ensures c.lay-3.ensures

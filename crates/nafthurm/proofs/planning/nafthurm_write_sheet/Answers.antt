@@ -2,8 +2,5 @@ use Rattle.nafthurm.specs.Forms.{written_for}
 use mathlib.Core.Path.{ap, ◌∙◌}
 use Rattle.nafthurm.proofs.planning.nafthurm_write_sheet.Goals as goal
 
-both : {A B : Type 0} → A × B → record { value : A; out_after : B }
-both p = record { value = p.0; out_after = p.1 }
-
 pub returns : goal.returns
-returns c = both (let e = c.write_sheet.ensures in (c.written_for.ensures ∙ ap written_for e.0, e.1))
+returns c = record { value = c.written_for.ensures ∙ ap written_for c.write_sheet.ensures.value; out_after = c.write_sheet.ensures.out_after }

@@ -8,7 +8,7 @@ both : {A B : Type 0} → A × B → record { by_index : A; elsewhere : B }
 both p = record { by_index = p.0; elsewhere = p.1 }
 
 pub returns-then-not-has_rows : goal.returns-then-not-has_rows
-returns-then-not-has_rows c = record { by_index = λ p s n at k room. absurd (rows_missing _ _ _ _ c.has_rows.ensures (c.if-not-has_rows.true) room); elsewhere = λ room. absurd (rows_missing _ _ _ _ c.has_rows.ensures (c.if-not-has_rows.true) room) }
+returns-then-not-has_rows c = record { by_index = λ p s n at k room. absurd (rows_missing _ _ _ _ c.has_rows.ensures c.if-not-has_rows.true room); elsewhere = λ room. absurd (rows_missing _ _ _ _ c.has_rows.ensures c.if-not-has_rows.true room) }
 
 pub overflow_add-at : goal.overflow_add-at
 overflow_add-at c = let room = rows_fit _ _ _ (sym c.has_rows.ensures ∙ c.if-not-has_rows.false) in omega (arith, room)

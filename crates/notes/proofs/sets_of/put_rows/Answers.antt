@@ -7,7 +7,7 @@ use Rattle.notes.proofs.sets_of.put_rows.Lts as lts
 use Rattle.notes.proofs.sets_of.put_rows.Goals as goal
 
 pub returns-then-not-has_rows : goal.returns-then-not-has_rows
-returns-then-not-has_rows c = λ room. absurd (rows_missing _ _ _ _ c.has_rows.ensures (c.if-not-has_rows.true) room)
+returns-then-not-has_rows c = λ room. absurd (rows_missing _ _ _ _ c.has_rows.ensures c.if-not-has_rows.true room)
 
 pub loop-i-init : goal.loop-i-init
 loop-i-init c = (omega arith, rows_fit _ _ _ (sym c.has_rows.ensures ∙ c.if-not-has_rows.false), put_none _ _ _)

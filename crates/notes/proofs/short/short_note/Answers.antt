@@ -6,7 +6,7 @@ use Rattle.notes.proofs.Destination.{one_of, two_of}
 use Rattle.notes.proofs.short.short_note.Goals as goal
 
 pub returns-then-not-has_rows : goal.returns-then-not-has_rows
-returns-then-not-has_rows c = λ p S D g _. absurd (rows_missing _ _ _ _ c.has_rows.ensures (c.if-not-has_rows.true) g.both.room)
+returns-then-not-has_rows c = λ p S D g _. absurd (rows_missing _ _ _ _ c.has_rows.ensures c.if-not-has_rows.true g.both.room)
 
 pub overflow_add-behind : goal.overflow_add-behind
 overflow_add-behind c = let room = rows_fit _ _ _ (sym c.has_rows.ensures ∙ c.if-not-has_rows.false) in omega (arith, room)

@@ -15,7 +15,7 @@ pub put_fault-requires : goal.put_fault-requires
 put_fault-requires c = (c.loop-i.invariant.0.0, omega arith)
 
 pub loop-i-preserved : goal.loop-i-preserved
-loop-i-preserved c = let inv = c.loop-i.invariant in ((inv.0.0, omega arith, ap length c.type_inv.bytes ∙ simp length-set inv.0.2), fault_put _ _ _ _ _ _ inv.1 _ _ refl c.type_inv.bytes c.loop-i-test.true)
+loop-i-preserved c = let inv = c.loop-i.invariant in ((inv.0.0, omega arith, ap length c.put_fault.ensures ∙ simp length-set inv.0.2), fault_put _ _ _ _ _ _ inv.1 _ _ refl c.put_fault.ensures c.loop-i-test.true)
 
 pub returns : goal.returns
 returns c = rw (← c.head_size-size.ensures.0) (whole _ c.head-bytes.result _ c.head-bytes.ensures (rw (← c.head_size-size.ensures.0) (ended fault_form lawful.long _ _ _ _ _ _ c.loop-i.invariant.1 c.loop-i-test.false)))

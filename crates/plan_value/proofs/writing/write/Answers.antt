@@ -19,4 +19,4 @@ pub slice_bounds-write_back-end : goal.slice_bounds-write_back-end
 slice_bounds-write_back-end c = sym (length-take-le _ _ (search rules))
 
 pub returns : goal.returns
-returns c = both (rw (← c.encoded-bytes.ensures) (rw (← c.head_size.ensures.0) c.write_back.ensures))
+returns c = both (rw (← c.encoded-bytes.ensures) (rw (← c.head_size.ensures.0) (c.write_back.ensures.value, c.write_back.ensures.out_after)))

@@ -11,10 +11,10 @@ pub loop-node-init : goal.loop-node-init
 loop-node-init c = (omega arith, none_filled _ _)
 
 pub loop-node-preserved : goal.loop-node-preserved
-loop-node-preserved c = let pre = c.requires in let inv = c.loop-node.invariant.1 in let room : 512 * c.loop-node.node + 512 ≤ length c.loop-node.work = omega (arith, pre.1.1.1.1, inv.long) in let ends = to_fill _ _ _ _ _ _ _ _ c.gather-adaptive.result c.gather-deterministic.result pre.0 pre.1.0 pre.1.1.0 (omega (arith, pre.1.1.1.0)) c.coords-c.ensures c.gather-adaptive.ensures c.gather-deterministic.ensures in let e = c.put_both.ensures in (omega arith, one_filled _ pre.0.plan _ _ _ _ _ refl inv (e.0 _ _ _ _ ends room) (e.1 room))
+loop-node-preserved c = let inv = c.loop-node.invariant.1 in let room : 512 * c.loop-node.node + 512 ≤ length c.loop-node.work = omega (arith, c.requires.all_value.1, inv.long) in let ends = to_fill _ _ _ _ _ _ _ _ c.gather-adaptive.result c.gather-deterministic.result c.requires.of_plan c.requires.masked c.requires.masked_2 (omega (arith, c.requires.all_value.0)) c.coords-c.ensures c.gather-adaptive.ensures c.gather-deterministic.ensures in (omega arith, one_filled _ c.requires.of_plan.plan _ _ _ _ _ refl inv (c.put_both.ensures.by_index _ _ _ _ ends room) (c.put_both.ensures.elsewhere room))
 
 pub shape_of-work : goal.shape_of-work
 shape_of-work c = c.loop-node.invariant.1.long
 
 pub returns : goal.returns
-returns c = all_filled _ _ _ _ (let e = c.requires.masked.1.1.0 in omega arith) c.loop-node.invariant.1
+returns c = all_filled _ _ _ _ (let e = c.requires.all_value.0 in omega arith) c.loop-node.invariant.1

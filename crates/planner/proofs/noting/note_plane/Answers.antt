@@ -3,20 +3,17 @@ use mathlib.Core.Bool.{true}
 use Rattle.planner.proofs.EachNote.{goes_on, same_noting, due, to_row}
 use Rattle.planner.proofs.noting.note_plane.Goals as goal
 
-all_6 : {A B C D E F : Type 0} → A × B × C × D × E × F → record { near_len : A; ready : B; weights_value : C; y_lt_y : D; by_index : E; noting : F }
-all_6 p = record { near_len = p.0; ready = p.1; weights_value = p.2; y_lt_y = p.3; by_index = p.4; noting = p.5 }
-
 pub loop-y-init : goal.loop-y-init
-loop-y-init c = let n = c.next_set-y.ensures in (n.most, λ l. (n.set l).1, c.requires.near_len, to_row _ _ _ _ _ _ _ _ _ _ _ _ c.requires.ready.0 _ _ _ _ c.requires.ready.1.1.1.0.0 c.requires.ready.1.1.1.0.1 0 _ (omega arith) n.most (λ i a b. n.skip i a b) _ _ (same_noting _ _ _ _ _ _ _ _ (omega arith) c.requires.ready.1.1.1.1))
+loop-y-init c = (c.next_set-y.ensures.most, λ l. (c.next_set-y.ensures.set l).1, c.requires.near_len, to_row _ _ _ _ _ _ _ _ _ _ _ _ c.requires.ready _ _ _ _ c.requires.z_lt_z.0 c.requires.z_lt_z.1 0 _ (omega arith) c.next_set-y.ensures.most (λ i a b. c.next_set-y.ensures.skip i a b) _ _ (same_noting _ _ _ _ _ _ _ _ (omega arith) c.requires.noting))
 
 pub note_row-requires : goal.note_row-requires
-note_row-requires c = all_6 ((c.loop-y.invariant.2, (c.requires.ready.0, (c.requires.ready.1.0, (due _ _ _ _ _ _ _ _ _ _ _ _ c.requires.ready.0 c.args.skip.now _ _ _ c.requires.ready.1.1.1.0.0 c.requires.ready.1.1.1.0.1 _ c.loop-y-test.true (c.loop-y.invariant.1 c.loop-y-test.true), (c.requires.ready.1.1.0, same_noting _ _ _ _ _ _ _ _ (omega arith) c.loop-y.invariant.3))))))
+note_row-requires c = record { near_len = c.loop-y.invariant.2; ready = c.requires.ready; weights_value = c.requires.weights_value; y_lt_y = due _ _ _ _ _ _ _ _ _ _ _ _ c.requires.ready c.args.skip.now _ _ _ c.requires.z_lt_z.0 c.requires.z_lt_z.1 _ c.loop-y-test.true (c.loop-y.invariant.1 c.loop-y-test.true); by_index = c.requires.by_index; noting = same_noting _ _ _ _ _ _ _ _ (omega arith) c.loop-y.invariant.3 }
 
 pub loop-y-smaller : goal.loop-y-smaller
 loop-y-smaller c = omega (arith, goes_on _ _ _ c.next_set-y-in-loop-y.ensures c.loop-y-test.true)
 
 pub loop-y-preserved : goal.loop-y-preserved
-loop-y-preserved c = let n = c.next_set-y-in-loop-y.ensures in (n.most, λ l. (n.set l).1, c.note_row.ensures.near_len_2, to_row _ _ _ _ _ _ _ _ _ _ _ _ c.requires.ready.0 _ _ _ _ c.requires.ready.1.1.1.0.0 c.requires.ready.1.1.1.0.1 _ _ (omega (arith, goes_on _ _ _ n c.loop-y-test.true)) n.most (λ i a b. n.skip i a b) _ _ (same_noting _ _ _ _ _ _ _ _ (omega arith) c.note_row.ensures.noting_2))
+loop-y-preserved c = (c.next_set-y-in-loop-y.ensures.most, λ l. (c.next_set-y-in-loop-y.ensures.set l).1, c.note_row.ensures.near_len_2, to_row _ _ _ _ _ _ _ _ _ _ _ _ c.requires.ready _ _ _ _ c.requires.z_lt_z.0 c.requires.z_lt_z.1 _ _ (omega (arith, goes_on _ _ _ c.next_set-y-in-loop-y.ensures c.loop-y-test.true)) c.next_set-y-in-loop-y.ensures.most (λ i a b. c.next_set-y-in-loop-y.ensures.skip i a b) _ _ (same_noting _ _ _ _ _ _ _ _ (omega arith) c.note_row.ensures.noting_2))
 
 pub returns : goal.returns
 returns c = record { noting_2 = same_noting _ _ _ _ _ _ _ _ (omega (arith, c.loop-y.invariant.0)) c.loop-y.invariant.3; near_len_2 = c.loop-y.invariant.2 }

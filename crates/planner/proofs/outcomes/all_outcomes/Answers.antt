@@ -3,11 +3,11 @@ use native.Mathlib.Omega.{arith}
 use Rattle.planner.proofs.EachOutcome.{sound_shape, begun, is_at, place, turn, done}
 use Rattle.planner.proofs.outcomes.all_outcomes.Goals as goal
 
-all_3 : {A B C : Type 0} → A × B × C → record { ready : A; at : B; weights_value : C }
-all_3 p = record { ready = p.0; at = p.1; weights_value = p.2 }
+all_3 : {A B C : Type 0} → A × (B × C) → record { ready : A; at : B; weights_value : C }
+all_3 p = record { ready = p.0; at = p.1.0; weights_value = p.1.1 }
 
-all_3_2 : {A B C : Type 0} → A × B × C → record { shape_value : A; stands : B; x_lt_x : C }
-all_3_2 p = record { shape_value = p.0; stands = p.1; x_lt_x = p.2 }
+all_3_2 : {A B C : Type 0} → A × (B × C) → record { shape_value : A; stands : B; x_lt_x : C }
+all_3_2 p = record { shape_value = p.0; stands = p.1.0; x_lt_x = p.1.1 }
 
 pub loop-at-init : goal.loop-at-init
 loop-at-init c = let ready = c.requires.ready in (begun _ _ _ _ _ _ _ _ _ _ _ _ ready, c.weights_in-weights.ensures)
@@ -37,7 +37,7 @@ pub loop-at-preserved : goal.loop-at-preserved
 loop-at-preserved c = let both = c.loop-at.invariant in
     let inv = both.0 in
     let taken = c.loop-at-test.true in
-    (turn _ _ _ _ _ _ _ _ _ _ _ _ inv.ready _ _ inv taken _ _ (c.outcome_to.ensures c.requires.work.0 c.requires.work.1.0 c.requires.work.1.1) c.following-at.ensures, both.1)
+    (turn _ _ _ _ _ _ _ _ _ _ _ _ inv.ready _ _ inv taken _ _ (c.outcome_to.ensures c.requires.work c.requires.noted.0 c.requires.noted.1) c.following-at.ensures, both.1)
 
 pub returns : goal.returns
 returns c = let inv = c.loop-at.invariant.0 in done _ _ _ _ _ _ _ _ _ _ _ _ inv.ready _ _ inv c.loop-at-test.false

@@ -10,5 +10,4 @@ pub returns-then-error-ne0 : goal.returns-then-error-ne0
 returns-then-error-ne0 c = both (refused_source _ _ _ _ c.source_error-error.ensures c.if-error-ne0.true)
 
 pub returns : goal.returns
-returns c = both (let listed = c.planned-count.ensures in
-    put_is _ _ _ _ _ _ _ _ c.source_error-error.ensures c.if-error-ne0.false (listed.held (inl refl)) listed.many c.put_made.ensures)
+returns c = both (put_is _ _ _ _ _ _ _ _ c.source_error-error.ensures c.if-error-ne0.false (c.planned-count.ensures.held (inl refl)) c.planned-count.ensures.many c.put_made.ensures)

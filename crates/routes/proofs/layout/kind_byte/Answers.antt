@@ -3,4 +3,4 @@ use Rattle.routes.proofs.layout.kind_byte.Goals as goal
 
 pub returns : goal.returns
 unfolding kind_byte
-returns c = rw (c.byte_at.ensures, c.entry_IsPlace.ensures.0)
+returns c = rw (c.byte_at.ensures, c.entry_place.ensures.value)

@@ -8,4 +8,4 @@ returns-then-format-eq1 c = rw (eq-eqb _ 1 c.if-format-eq1.true)
 
 pub returns : goal.returns
 unfolding second_via
-returns c = rw (ne_eqb _ 1 c.if-format-eq1.false, c.word_at.ensures.value, c.entry_IsPlace.ensures.0)
+returns c = rw (ne_eqb _ 1 c.if-format-eq1.false, c.word_at.ensures.value, c.entry_place.ensures.value)

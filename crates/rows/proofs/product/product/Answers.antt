@@ -7,4 +7,4 @@ use Rattle.rows.proofs.product.product.Goals as goal
 
 -- src/product.rt:88:1
 pub returns : goal.returns
-returns c = product_is _ _ _ _ _ (omega arith) (omega arith) c.type_inv.rows c.less-2.ensures
+returns c = product_is _ _ _ _ _ (omega arith) (omega arith) c.less.ensures c.less-2.ensures

@@ -4,8 +4,8 @@ use Rattle.search.proofs.AllVias.{asks, levels_small, all_found}
 use Rattle.weights.proofs.Good.{good}
 use Rattle.search.proofs.best.asked.Goals as goal
 
-all_3 : {A B C : Type 0} → A × B × C → record { shape_value : A; inside : B; by_index : C }
-all_3 p = record { shape_value = p.0; inside = p.1; by_index = p.2 }
+all_3 : {A B C : Type 0} → A × (B × C) → record { shape_value : A; inside : B; by_index : C }
+all_3 p = record { shape_value = p.0; inside = p.1.0; by_index = p.1.1 }
 
 pub levels-xs-requires : goal.levels-xs-requires
 levels-xs-requires c = let a = asks _ _ _ _ _ _ c.requires in ((sound _ a.sound X).high, a.source.x, a.target.x)

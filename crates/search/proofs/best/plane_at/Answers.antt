@@ -12,4 +12,4 @@ pub overflow_mul-part : goal.overflow_mul-part
 overflow_mul-part c = omega (arith, c.weighed.ensures.1)
 
 pub returns-then-best-part : goal.returns-then-best-part
-returns-then-best-part c = plane_far _ _ _ _ _ _ _ _ _ _ _ _ _ c.requires.ready c.requires.by_index.1.1 c.requires.by_index.0 (rw (← c.weighed.ensures.0) c.if-best-part.true)
+returns-then-best-part c = plane_far _ _ _ _ _ _ _ _ _ _ _ _ _ c.requires.ready c.requires.z_lt_z.1 c.requires.by_index (rw (← c.weighed.ensures.0) c.if-best-part.true)

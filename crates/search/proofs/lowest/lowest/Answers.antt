@@ -5,9 +5,6 @@ use Rattle.search.proofs.Seeking.{wrong_shape, short_run, cut}
 use Rattle.search.proofs.Clip.{rows_fit}
 use Rattle.search.proofs.lowest.lowest.Goals as goal
 
-all_3 : {A B C : Type 0} → A × B × C → record { shape_value : A; at_in_bounds : B; bx_bound : C }
-all_3 p = record { shape_value = p.0; at_in_bounds = p.1; bx_bound = p.2 }
-
 pub returns-then-shape_error-ne0 : goal.returns-then-shape_error-ne0
 returns-then-shape_error-ne0 c = wrong_shape _ _ _ _ _ _ _ (λ e. c.if-shape_error-ne0.true (c.shape_error.ensures ∙ e))
 
@@ -24,7 +21,7 @@ pub clip-z-requires : goal.clip-z-requires
 clip-z-requires c = (sound _ (sym c.shape_error.ensures ∙ c.if-shape_error-ne0.false) Z).high
 
 pub first_via-requires : goal.first_via-requires
-first_via-requires c = all_3 ((sym c.shape_error.ensures ∙ c.if-shape_error-ne0.false, (rows_fit _ _ _ (sym c.has_rows.ensures ∙ c.if-not-has_rows.false), (c.clip-x.ensures.below, c.clip-y.ensures.below, c.clip-z.ensures.below))))
+first_via-requires c = record { shape_value = sym c.shape_error.ensures ∙ c.if-shape_error-ne0.false; at_in_bounds = rows_fit _ _ _ (sym c.has_rows.ensures ∙ c.if-not-has_rows.false); bx_bound = (c.clip-x.ensures.below, c.clip-y.ensures.below, c.clip-z.ensures.below) }
 
 pub returns : goal.returns
 returns c = cut _ _ _ _ _ _ _ _ _ _ _ (sym c.shape_error.ensures ∙ c.if-shape_error-ne0.false) (sym c.has_rows.ensures ∙ c.if-not-has_rows.false) c.clip-x.ensures c.clip-y.ensures c.clip-z.ensures c.first_via.ensures

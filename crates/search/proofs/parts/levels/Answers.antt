@@ -6,7 +6,7 @@ pub loop-x-init : goal.loop-x-init
 loop-x-init c = (c.requires.0, omega arith, scatter_begin _)
 
 pub part-k-requires : goal.part-k-requires
-part-k-requires c = let p = c.requires in (p.0, p.1, p.2, c.loop-x-test.true)
+part-k-requires c = (c.requires.0, c.requires.1, c.requires.2, c.loop-x-test.true)
 
 pub overflow_cast-k : goal.overflow_cast-k
 overflow_cast-k c = omega (arith, c.part-k.ensures.1)

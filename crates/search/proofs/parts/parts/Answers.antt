@@ -6,7 +6,7 @@ pub loop-c-init : goal.loop-c-init
 loop-c-init c = (omega arith, c.requires.0, filled_begin _)
 
 pub part-requires : goal.part-requires
-part-requires c = let p = c.requires in (p.1, p.2, p.3, c.loop-c-test.true)
+part-requires c = (c.requires.1, c.requires.2, c.requires.3, c.loop-c-test.true)
 
 pub overflow_mul-ys : goal.overflow_mul-ys
 overflow_mul-ys c = omega (arith, weighed_most _ _ c.requires.0 c.part.ensures.1)

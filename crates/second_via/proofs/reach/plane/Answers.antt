@@ -12,7 +12,7 @@ pub bounds-ys-i : goal.bounds-ys-i
 bounds-ys-i c = omega (arith, c.loop-y-test.true, (sound _ c.requires.0 Y).high)
 
 pub row_at-requires : goal.row_at-requires
-row_at-requires c = let p = c.requires in (p.0, p.1, c.loop-y-test.true, p.2)
+row_at-requires c = (c.requires.0, c.requires.1, c.loop-y-test.true, c.requires.2)
 
 pub overflow_add-y : goal.overflow_add-y
 overflow_add-y c = omega (arith, c.loop-y-test.true, (sound _ c.requires.0 Y).high)

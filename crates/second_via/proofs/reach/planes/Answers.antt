@@ -12,7 +12,7 @@ pub bounds-zs-i : goal.bounds-zs-i
 bounds-zs-i c = omega (arith, c.loop-z-test.true, (sound _ c.requires.0 Z).high)
 
 pub plane-requires : goal.plane-requires
-plane-requires c = let p = c.requires in (p.0, p.1, c.loop-z-test.true)
+plane-requires c = (c.requires.0, c.requires.1, c.loop-z-test.true)
 
 pub overflow_add-z : goal.overflow_add-z
 overflow_add-z c = omega (arith, c.loop-z-test.true, (sound _ c.requires.0 Z).high)

@@ -26,7 +26,7 @@ overflow_add-i c = let i = c.loop-i.invariant in omega arith
 
 -- src/clear.rt:63:5
 pub loop-i-preserved : goal.loop-i-preserved
-loop-i-preserved c = clear_turn _ _ _ _ _ _ _ _ _ _ c.loop-i.invariant c.loop-i-test.true refl c.type_inv.rows
+loop-i-preserved c = clear_turn _ _ _ _ _ _ _ _ _ _ c.loop-i.invariant c.loop-i-test.true refl c.less_loss.ensures
 
 -- src/clear.rt:57:1
 pub returns : goal.returns

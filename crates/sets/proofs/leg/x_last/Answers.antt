@@ -7,12 +7,12 @@ use Rattle.sets.proofs.leg.x_last.Goals as goal
 
 -- src/leg.rt:30:9
 pub returns-then-not-along : goal.returns-then-not-along
-returns-then-not-along c = misses_y_first _ _ _ _ _ _ _ (along_y _ _ _ _ _ _ _ _ c.wrapped.ensures c.along.ensures) (c.if-not-along.true)
+returns-then-not-along c = misses_y_first _ _ _ _ _ _ _ (along_y _ _ _ _ _ _ _ _ c.wrapped.ensures c.along.ensures) c.if-not-along.true
 
 -- src/leg.rt:33:9
 pub returns-then-not-along-2 : goal.returns-then-not-along-2
-returns-then-not-along-2 c = misses_z _ _ _ _ _ _ _ _ (along_y _ _ _ _ _ _ _ _ c.wrapped.ensures c.along.ensures) (c.if-not-along.false) (along_z _ _ _ _ _ _ _ _ c.wrapped-2.ensures c.along-2.ensures) (c.if-not-along-2.true)
+returns-then-not-along-2 c = misses_z _ _ _ _ _ _ _ _ (along_y _ _ _ _ _ _ _ _ c.wrapped.ensures c.along.ensures) c.if-not-along.false (along_z _ _ _ _ _ _ _ _ c.wrapped-2.ensures c.along-2.ensures) c.if-not-along-2.true
 
 -- src/leg.rt:26:1
 pub returns : goal.returns
-returns c = meets_x _ _ _ _ _ _ _ _ _ (along_y _ _ _ _ _ _ _ _ c.wrapped.ensures c.along.ensures) (c.if-not-along.false) (along_z _ _ _ _ _ _ _ _ c.wrapped-2.ensures c.along-2.ensures) (c.if-not-along-2.false) (along_x _ _ _ _ _ _ _ _ c.wrapped-3.ensures c.along-3.ensures)
+returns c = meets_x _ _ _ _ _ _ _ _ _ (along_y _ _ _ _ _ _ _ _ c.wrapped.ensures c.along.ensures) c.if-not-along.false (along_z _ _ _ _ _ _ _ _ c.wrapped-2.ensures c.along-2.ensures) c.if-not-along-2.false (along_x _ _ _ _ _ _ _ _ c.wrapped-3.ensures c.along-3.ensures)

@@ -22,10 +22,10 @@ pub front-front-requires : goal.front-front-requires
 front-front-requires c = let f = ready_fine _ _ (fine_of _ _ (sym c.check-error.ensures ∙ c.if-error-ne0.false)) _ c.drop_all-ready.ensures in omega (arith, f.few)
 
 pub returns-then-not-allowed_at : goal.returns-then-not-allowed_at
-returns-then-not-allowed_at c = both (step_told _ _ (step_declined _ _ (fine_of _ _ (sym c.check-error.ensures ∙ c.if-error-ne0.false)) _ c.drop_all-ready.ensures _ c.if-ready.false _ c.front-front.ensures _ _ c.coords_of-at.ensures c.coords_of-to.ensures _ c.allowed_at.ensures (c.if-not-allowed_at.true)))
+returns-then-not-allowed_at c = both (step_told _ _ (step_declined _ _ (fine_of _ _ (sym c.check-error.ensures ∙ c.if-error-ne0.false)) _ c.drop_all-ready.ensures _ c.if-ready.false _ c.front-front.ensures _ _ c.coords_of-at.ensures c.coords_of-to.ensures _ c.allowed_at.ensures c.if-not-allowed_at.true))
 
 pub drop_all-requires : goal.drop_all-requires
 drop_all-requires c = rw c.put-moved.ensures (ready_fine _ _ (fine_of _ _ (sym c.check-error.ensures ∙ c.if-error-ne0.false)) _ c.drop_all-ready.ensures).few
 
 pub returns : goal.returns
-returns c = both (step_told _ _ (step_hopped _ _ (fine_of _ _ (sym c.check-error.ensures ∙ c.if-error-ne0.false)) _ c.drop_all-ready.ensures _ c.if-ready.false _ c.front-front.ensures _ _ c.coords_of-at.ensures c.coords_of-to.ensures _ c.allowed_at.ensures (c.if-not-allowed_at.false) _ _ _ c.moved_at.ensures c.number_at.ensures (c.drop_all.ensures ∙ ap settled c.put-moved.ensures)))
+returns c = both (step_told _ _ (step_hopped _ _ (fine_of _ _ (sym c.check-error.ensures ∙ c.if-error-ne0.false)) _ c.drop_all-ready.ensures _ c.if-ready.false _ c.front-front.ensures _ _ c.coords_of-at.ensures c.coords_of-to.ensures _ c.allowed_at.ensures c.if-not-allowed_at.false _ _ _ c.moved_at.ensures c.number_at.ensures (c.drop_all.ensures ∙ ap settled c.put-moved.ensures)))

@@ -4,8 +4,8 @@ use Rattle.packet.proofs.Answers.{walk_told}
 use Rattle.packet.proofs.Stored.{fine_of}
 use Rattle.packet.proofs.packet.Packet.walk.Goals as goal
 
-all_3 : {A B C : Type 0} → A × B × C → record { value : A; ending_value : B; hops_in_bounds : C }
-all_3 p = record { value = p.0; ending_value = p.1; hops_in_bounds = p.2 }
+all_3 : {A B C : Type 0} → A × (B × C) → record { value : A; ending_value : B; hops_in_bounds : C }
+all_3 p = record { value = p.0; ending_value = p.1.0; hops_in_bounds = p.1.1 }
 
 pub returns-then-error-ne0 : goal.returns-then-error-ne0
 returns-then-error-ne0 c = all_3 (walk_told _ _ _ _ (walk_refused _ _ _ _ c.check-error.ensures c.if-error-ne0.true))
