@@ -1,8 +1,9 @@
-// The lines of the standard input, each answered by a line of the standard output.
-ghost use Rattle.std.specs.Prelude.{◌+◌, ◌≤◌, length};
+// The lines of an input, each answered by a line of the output.
+ghost use Rattle.std.specs.Prelude.{◌+◌, ◌≤◌, length, IfOk};
 
 use crate::{lines, operations};
-use libc::{STDIN_FILENO, STDOUT_FILENO};
+use std::io;
+use std::io::{Read, Write};
 use text::part::{front, part};
 
 // What is kept between two reads: the first `length` bytes of the buffer, which begin a line. Where `skip`, none are kept, and the rest of a line that did not fit is still to come.
@@ -19,102 +20,120 @@ struct Rest {
     skip: bool,
 }
 
-fn write_line(line: &[u8], out: &mut [u8], skip: bool) {
+fn write_line<W: Write>(output: &mut W, line: &[u8], out: &mut [u8], skip: bool) -> io::Result<()> {
     if skip {
-        return;
+        return Ok(());
     }
     let count = operations::answer(line, out);
-    io::write_all(STDOUT_FILENO, front(out, count));
+    output.write_all(front(out, count))
 }
 
-fn write_too_long(start: &[u8], out: &mut [u8]) {
+fn write_too_long<W: Write>(output: &mut W, start: &[u8], out: &mut [u8]) -> io::Result<()> {
     let count = operations::too_long(start, out);
-    io::write_all(STDOUT_FILENO, front(out, count));
+    output.write_all(front(out, count))
 }
 
 // Answers a last line that has no newline. Where no bytes are left there is none.
-fn write_last(line: &[u8], out: &mut [u8]) {
-    write_line(line, out, line.len() == 0);
+fn write_last<W: Write>(output: &mut W, line: &[u8], out: &mut [u8]) -> io::Result<()> {
+    write_line(output, line, out, line.len() == 0)
 }
 
 // Answers each line whose newline is held. Where `skip`, the first is the rest of a line that did not fit, and gets no answer.
-fn answer_lines(held: &[u8], out: &mut [u8], skip: bool) -> Rest
-    ensures { result.start ≤ length held.now }
+fn answer_lines<W: Write>(
+    output: &mut W,
+    held: &[u8],
+    out: &mut [u8],
+    skip: bool,
+) -> io::Result<Rest>
+    ensures { IfOk result (λ rest. rest.start ≤ length held.now) }
 {
     let mut start = 0;
     let mut skipping = skip;
     let mut end = lines::line_end(held, 0);
     while end < held.len() {
-        write_line(part(held, start, end), out, skipping);
+        write_line(output, part(held, start, end), out, skipping)?;
         skipping = false;
         start = end + 1;
         end = lines::line_end(held, start);
     }
-    Rest {
+    Ok(Rest {
         start: start,
         skip: skipping,
-    }
+    })
 }
 
 // Keeps the bytes from `start` up to `filled` for the next read. A line that fills the buffer is answered at once, and none of it is kept.
-fn keep(buffer: &mut [u8], start: usize, filled: usize, out: &mut [u8]) -> Held
+fn keep<W: Write>(
+    output: &mut W,
+    buffer: &mut [u8],
+    start: usize,
+    filled: usize,
+    out: &mut [u8],
+) -> io::Result<Held>
     requires { (start ≤ filled) × (filled ≤ length buffer.old) }
-    ensures { result.length ≤ length buffer.new }
+    ensures { IfOk result (λ held. held.length ≤ length buffer.new) }
 {
     if filled - start == buffer.len() {
-        write_too_long(buffer, out);
-        return Held {
+        write_too_long(output, buffer, out)?;
+        return Ok(Held {
             length: 0,
             skip: true,
-        };
+        });
     }
-    Held {
+    Ok(Held {
         length: lines::to_front(buffer, start, filled),
         skip: false,
-    }
+    })
 }
 
 // Answers the lines in the first `filled` bytes.
-fn answer_filled(buffer: &mut [u8], filled: usize, skip: bool, out: &mut [u8]) -> Held
+fn answer_filled<W: Write>(
+    output: &mut W,
+    buffer: &mut [u8],
+    filled: usize,
+    skip: bool,
+    out: &mut [u8],
+) -> io::Result<Held>
     requires { filled ≤ length buffer.old }
-    ensures { result.length ≤ length buffer.new }
+    ensures { IfOk result (λ held. held.length ≤ length buffer.new) }
 {
-    let rest = answer_lines(front(buffer, filled), out, skip);
+    let rest = answer_lines(output, front(buffer, filled), out, skip)?;
     if rest.skip {
-        return Held {
+        return Ok(Held {
             length: 0,
             skip: true,
-        };
+        });
     }
-    keep(buffer, rest.start, filled, out)
+    keep(output, buffer, rest.start, filled, out)
 }
 
 // Reads once behind the first `held` bytes, and answers how many came.
-fn read_more(buffer: &mut [u8], held: usize) -> usize
+fn read_more<R: Read>(input: &mut R, buffer: &mut [u8], held: usize) -> io::Result<usize>
     requires { held ≤ length buffer.old }
-    ensures { held + result ≤ length buffer.new }
+    ensures { IfOk result (λ got. held + got ≤ length buffer.new) }
 {
-    let room = &mut buffer[held..];
-    let got = libc::read(STDIN_FILENO, room);
-    io::count(got, room)
+    input.read(&mut buffer[held..])
 }
 
-// Answers the lines of the standard input. A line that does not fit into `buffer`, with its newline, is unreadable; an answer is cut to what fits into `out`.
+// Answers the lines of the input. A line that does not fit into `buffer`, with its newline, is unreadable; an answer is cut to what fits into `out`.
 //
-// A proved loop has to end, and nothing says that the input does. So it counts its turns down, from a number that no run uses up.
-pub(crate) fn answer_all(buffer: &mut [u8], out: &mut [u8]) {
+// A proved loop has to end, and nothing says that the input does. So it counts its turns, up to a number that no run reaches.
+pub(crate) fn answer_all<R: Read, W: Write>(
+    input: &mut R,
+    output: &mut W,
+    buffer: &mut [u8],
+    out: &mut [u8],
+) -> io::Result<()> {
     let mut length = 0;
     let mut skip = false;
-    let mut turns = u64::MAX;
-    while turns > 0 {
-        let got = read_more(buffer, length);
+    for _ in 0..u64::MAX {
+        let got = read_more(input, buffer, length)?;
         if got == 0 {
-            write_last(front(buffer, length), out);
-            return;
+            return write_last(output, front(buffer, length), out);
         }
-        let held = answer_filled(buffer, length + got, skip, out);
+        let held = answer_filled(output, buffer, length + got, skip, out)?;
         length = held.length;
         skip = held.skip;
-        turns -= 1;
     }
+    Ok(())
 }

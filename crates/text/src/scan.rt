@@ -5,16 +5,26 @@ ghost use Rattle.text.specs.Scan.{index_of};
 use crate::compare::starts_with;
 use crate::least::least;
 
+// The place of the first `byte`; the length where there is none.
+fn index_in(s: &[u8], byte: u8) -> usize
+    ensures value { result ≡ index_of byte s.now }
+    ensures upper_bound { result ≤ length s.now }
+{
+    for (i, b) in s.iter().enumerate() {
+        if *b == byte {
+            return i;
+        }
+    }
+    s.len()
+}
+
 // The place of the first `byte` at or after `from`; the length where there is none.
 pub fn find(s: &[u8], from: usize, byte: u8) -> usize
     ensures value { result ≡ min from (length s.now) + index_of byte (drop from s.now) }
     ensures upper_bound { result ≤ length s.now }
 {
     let start = least(from, s.len());
-    match s[start..].iter().position(|b| *b == byte) {
-        Some(i) => start + i,
-        None => s.len(),
-    }
+    start + index_in(&s[start..], byte)
 }
 
 // The place where `text` first begins in `s`; the length where it does not occur.

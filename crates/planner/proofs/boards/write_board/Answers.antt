@@ -16,4 +16,4 @@ routes_from-entries-requires c = all_6 (let k = board_at _ _ _ _ _ _ _ _ c.requi
     (k.0, (k.1.0, (k.1.1.0, (k.1.1.1.0, (k.1.1.1.1, omega arith))))))
 
 pub returns : goal.returns
-returns c = record { size_in_bounds = step_fits _ _ _ _ _ _ c.put_made.ensures _ c.step_of_lem.ensures; boarded = λ sets. board_written _ _ _ _ _ _ _ _ c.requires.prepared _ c.requires.source_bound c.if-dead-at-ne0.false _ _ _ _ _ c.routes_from-entries.ensures sets c.put_made.ensures _ c.step_of_lem.ensures }
+returns c = record { size_in_bounds = step_fits _ _ _ _ _ _ c.put_made.ensures _ c.step_of.ensures; boarded = λ sets. board_written _ _ _ _ _ _ _ _ c.requires.prepared _ c.requires.source_bound c.if-dead-at-ne0.false _ _ _ _ _ c.routes_from-entries.ensures sets c.put_made.ensures _ c.step_of.ensures }

@@ -8,7 +8,7 @@ all_3 : {A B C : Type 0} → A × B × C → record { upper_bound : A; value : B
 all_3 p = record { upper_bound = p.0; value = p.1; out_after = p.2 }
 
 pub returns-then-at-out : goal.returns-then-at-out
-returns-then-at-out c = all_3 ((simp length-set (omega arith), (omega arith, refl)))
+returns-then-at-out c = all_3 (simp length-set (omega arith), omega arith, refl)
 
 pub returns : goal.returns
-returns c = all_3 ((omega arith, (omega arith, sym (set_out _ _ _ c.if-at-out.false))))
+returns c = all_3 (omega arith, omega arith, sym (set_out _ _ _ c.if-at-out.false))

@@ -7,4 +7,4 @@ all_3 p = record { upper_bound = p.0; value = p.1; out_after = p.2 }
 
 pub returns : goal.returns
 returns c = all_3 (let a = c.args in
-    (omega arith, (omega arith, rw (c.copy.ensures, c.least-count.ensures.value, c.least-start.ensures.value) (pasted a.out.now a.at a.s.now))))
+    (omega arith, omega arith, rw (c.copy.ensures, c.least-count.ensures.value, c.least-start.ensures.value) (pasted a.out.now a.at a.s.now)))
