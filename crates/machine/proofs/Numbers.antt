@@ -1,5 +1,5 @@
 -- Node numbers and coordinates: each is the other's inverse, and coordinates are found by two divisions from the top.
-use Prim.Native.Nat.{ℕ, ◌+◌, ◌-◌, ◌*◌, ◌/◌, ◌%◌, ◌≤◌, ◌<◌}
+use Prim.Native.Nat.{ℕ, ◌+◌, ◌*◌, ◌/◌, ◌%◌, ◌≤◌, ◌<◌}
 use mathlib.Core.Path.{◌≡◌, refl, ◌∙◌}
 use native.Mathlib.Nat.{mul_comm, mul_assoc, mul_left_comm, mul-pos, mul-le-mul, mul-le-mul_left, mod-lt, mod-eq_of_lt, div-eq_of_lt, mod-add-div, div-lt_iff_lt-mul, div-div-eq-div-mul, add-mul-mod_self_left, add-mul-div_left, zero-add}
 use native.Mathlib.Omega.{arith}

@@ -1,7 +1,7 @@
 -- Two rules for half a ring: a deterministic leg has the same walks by both exactly where they agree on each half ring that it travels.
 use Prim.Native.Nat.{ℕ, zero, suc, ◌<◌}
 use native.Mathlib.Omega.{arith}
-use mathlib.Core.Bool.{Bool, true, false, cond}
+use mathlib.Core.Bool.{Bool, true}
 use mathlib.Core.List.{[], ◌∷◌}
 use mathlib.Core.Path.{◌≡◌, refl, sym, ap, ◌∙◌}
 use Rattle.theory.specs.Alike.{SameWalks}
@@ -15,7 +15,7 @@ use Rattle.shape.specs.Shape.{shape_error, same_dim}
 use Rattle.shape.specs.Steps.{goes}
 use Rattle.machine.specs.declared.leg.Mode.TheVariants.{Deterministic}
 use Rattle.machine.specs.Number.{node_count, coords_of}
-use Rattle.machine.specs.Hop.{dir_dim, dir_plus, plus_dir, along, hops, half, useful, toward, first_direction, neighbour}
+use Rattle.machine.specs.Hop.{dir_dim, plus_dir, along, hops, half, useful, toward, first_direction, neighbour}
 use Rattle.machine.specs.ByCoords.{goes_along}
 use Rattle.machine.specs.Torus.{allowed_by, torus_by, leg}
 use Rattle.machine.proofs.ByCoords.{neighbour_below, plus_of_law, minus_of}

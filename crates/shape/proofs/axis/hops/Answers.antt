@@ -1,4 +1,3 @@
-use borrow.Author.Tests.{not-true, not-false}
 use native.Mathlib.Omega.{arith}
 use Rattle.shape.specs.Axis.{axis_hops}
 use Rattle.shape.proofs.axis.hops.Goals as goal
