@@ -11,9 +11,12 @@ use conversion::convert;
 use logic::both;
 use numbers::WRONG_ROUTE_SHEET;
 use plan_input::{PLAN_BYTES, plan_error};
-use program::part_file;
+use program::argument::PATH_BYTES;
 use program::say::{cannot_read, cannot_write, refused};
+use program::{file, part_file};
 use sheet::Written;
+use std::io::{Read, Write};
+use std::rt::Files;
 use text::part::front;
 
 // What was found, whether a sheet may follow, and whether the file took all bytes.
@@ -25,18 +28,24 @@ struct Progress {
 }
 
 // Nothing is written behind a refusal, since the file will not be kept.
-fn write_out(tally: Tally, written: Written, out: &[u8], file: i32) -> bool {
+fn write_out(tally: Tally, written: Written, out: &[u8], file: &mut impl Write) -> bool {
     if tally.lost.number != 0 {
         return true;
     }
     match written {
-        Written::Bytes(size) => io::write_all(file, front(out, size)),
+        Written::Bytes(size) => file.write_all(front(out, size)).is_ok(),
         Written::Refused(_) => true,
     }
 }
 
 // One sheet, with room for it.
-fn convert_one(plan: &[u8], sheet: &[u8], out: &mut [u8], file: i32, before: Tally) -> Progress
+fn convert_one(
+    plan: &[u8],
+    sheet: &[u8],
+    out: &mut [u8],
+    file: &mut impl Write,
+    before: Tally,
+) -> Progress
     requires { length sheet.now ≤ length out.old }
     ensures { result.tally ≡ tallied before sheet.now (keep_error large plan.now sheet.now) (lost_entry large plan.now sheet.now) }
 {
@@ -54,8 +63,8 @@ fn convert_one(plan: &[u8], sheet: &[u8], out: &mut [u8], file: i32, before: Tal
 // The next sheet; none behind the last.
 fn convert_next(
     plan: &[u8],
-    old: i32,
-    file: i32,
+    old: &mut impl Read,
+    file: &mut impl Write,
     before: Tally,
     sheet: &mut [u8; SHEET_BYTES],
     out: &mut [u8; SHEET_BYTES],
@@ -75,8 +84,8 @@ fn convert_next(
 // uses up.
 fn convert_each(
     plan: &[u8],
-    old: i32,
-    file: i32,
+    old: &mut impl Read,
+    file: &mut impl Write,
     sheet: &mut [u8; SHEET_BYTES],
     out: &mut [u8; SHEET_BYTES],
 ) -> Progress {
@@ -93,65 +102,83 @@ fn convert_each(
     progress
 }
 
-fn convert_all(plan: &[u8], old: i32, file: i32) -> Progress {
+fn convert_all(plan: &[u8], old: &mut impl Read, file: &mut impl Write) -> Progress {
     let mut sheet = [0u8; SHEET_BYTES];
     let mut out = [0u8; SHEET_BYTES];
     convert_each(plan, old, file, &mut sheet, &mut out)
 }
 
 // OUT is there only if every sheet was converted.
-fn finish(progress: Progress, file: i32, name: &[u8], out: &[u8]) {
+fn finish<R: Files + Print>(rt: &R, progress: Progress, file: R::File, name: &[u8], out: &[u8]) {
     let tally = progress.tally;
     if progress.writable && tally.lost.number != 0 {
-        part_file::give_up(file, name);
-        say::refused(tally);
+        part_file::give_up(rt, file, name);
+        say::refused(rt, tally);
         return;
     }
-    if part_file::finish(progress.writable, file, name, out) {
-        say::done(tally);
+    if part_file::finish(rt, progress.writable, file, name, out) {
+        say::done(rt, tally);
         return;
     }
-    cannot_write(out);
+    cannot_write(rt, out);
 }
 
 // A read that failed is no end of the file.
-fn convert_to(plan: &[u8], old_file: i32, old: &[u8], file: i32, name: &[u8], out: &[u8]) {
-    let progress = convert_all(plan, old_file, file);
+fn convert_to<R: Files + Print>(
+    rt: &R,
+    plan: &[u8],
+    old_file: &mut impl Read,
+    old: &[u8],
+    mut file: R::File,
+    name: &[u8],
+    out: &[u8],
+) {
+    let progress = convert_all(plan, old_file, &mut file);
     if progress.writable && progress.tally.lost.number == 0 && !is_ended(old_file) {
-        part_file::give_up(file, name);
-        cannot_read(old);
+        part_file::give_up(rt, file, name);
+        cannot_read(rt, old);
         return;
     }
-    finish(progress, file, name, out);
+    finish(rt, progress, file, name, out);
 }
 
-fn convert_part(plan: &[u8], old_file: i32, old: &[u8], name: &[u8], out: &[u8]) {
-    let file = os::open_overwrite(name);
-    if file < 0 {
-        cannot_write(out);
+fn convert_part(
+    rt: &(impl Files + Print),
+    plan: &[u8],
+    old_file: &mut impl Read,
+    old: &[u8],
+    name: &[u8],
+    out: &[u8],
+) {
+    let Some(file) = file::create(rt, name) else {
+        cannot_write(rt, out);
         return;
-    }
-    convert_to(plan, old_file, old, file, name, out);
+    };
+    convert_to(rt, plan, old_file, old, file, name, out);
 }
 
-fn convert_file(plan: &[u8], old: &[u8], out: &[u8]) {
-    let file = os::open_read(old);
-    if file < 0 {
-        cannot_read(old);
+fn convert_file(rt: &(impl Files + Print), plan: &[u8], old: &[u8], out: &[u8]) {
+    let Some(mut file) = file::open(rt, old) else {
+        cannot_read(rt, old);
         return;
-    }
-    let mut name = io::buffer();
+    };
+    let mut name = [0u8; PATH_BYTES];
     let length = part_file::put_name(out, &mut name);
-    convert_part(plan, file, old, front(&name, length), out);
-    libc::close(file);
+    convert_part(rt, plan, &mut file, old, front(&name, length), out);
 }
 
 // The plan sheet is the first `size` bytes of the buffer.
-pub fn convert_sheets(plan: &[u8; PLAN_BYTES], size: usize, old: &[u8], out: &[u8]) {
+pub fn convert_sheets(
+    rt: &(impl Files + Print),
+    plan: &[u8; PLAN_BYTES],
+    size: usize,
+    old: &[u8],
+    out: &[u8],
+) {
     let error = plan_error(plan, size);
     if error != 0 {
-        refused(error);
+        refused(rt, error);
         return;
     }
-    convert_file(front(plan, size), old, out);
+    convert_file(rt, front(plan, size), old, out);
 }

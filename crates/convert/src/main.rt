@@ -7,34 +7,38 @@ mod say;
 mod tally;
 
 use plan_input::PLAN_BYTES;
+use program::argument::PATH_BYTES;
+use program::input::read_full;
 use program::say::cannot_read;
+use program::{argument, file};
+use std::rt::Files;
 use text::part::front;
 
 // The plan sheet of a file, for the route sheets of another.
-fn from_files(plan: &[u8], old: &[u8], out: &[u8]) {
-    let file = os::open_read(plan);
-    if file < 0 {
-        cannot_read(plan);
+fn from_files(rt: &(impl Files + Print), plan: &[u8], old: &[u8], out: &[u8]) {
+    let Some(mut file) = file::open(rt, plan) else {
+        cannot_read(rt, plan);
         return;
-    }
+    };
     let mut sheet = [0u8; PLAN_BYTES];
-    let size = io::read_full(file, &mut sheet);
-    libc::close(file);
-    job::convert_sheets(&sheet, size, old, out);
+    let size = read_full(&mut file, &mut sheet);
+    drop(file);
+    job::convert_sheets(rt, &sheet, size, old, out);
 }
 
-fn main() {
-    let mut plan = io::buffer();
-    let plan_length = os::arg(1, &mut plan);
-    let mut old = io::buffer();
-    let old_length = os::arg(2, &mut old);
-    let mut out = io::buffer();
-    let out_length = os::arg(3, &mut out);
-    if plan_length == 0 || old_length == 0 || out_length == 0 || os::arg_count() != 4 {
-        say::usage();
+fn main(rt: HostRuntime) {
+    let mut plan = [0u8; PATH_BYTES];
+    let plan_length = argument::read(&rt, 1, &mut plan);
+    let mut old = [0u8; PATH_BYTES];
+    let old_length = argument::read(&rt, 2, &mut old);
+    let mut out = [0u8; PATH_BYTES];
+    let out_length = argument::read(&rt, 3, &mut out);
+    if plan_length == 0 || old_length == 0 || out_length == 0 || argument::is_there(&rt, 4) {
+        say::usage(&rt);
         return;
     }
     from_files(
+        &rt,
         front(&plan, plan_length),
         front(&old, old_length),
         front(&out, out_length),

@@ -50,6 +50,7 @@ fn not_kept(place: u32, source: u16, kind: u8, dest: u16) -> Lost
 }
 
 // The refusal of the sheet at a place.
+#[tactic(auto, unfolding(crate::specs::Tally::lost_at))]
 fn lost_at(place: u32, number: u8, entry: u16, sheet: &[u8]) -> Lost
     ensures { result ≡ lost_at place number entry sheet.now }
 {
@@ -74,6 +75,7 @@ pub fn none() -> Tally
 }
 
 // The first refusal stays, but for a damaged sheet, which ends the job.
+#[tactic(auto, unfolding(crate::specs::Tally::named))]
 fn named(before: Lost, place: u32, number: u8, entry: u16, sheet: &[u8]) -> Lost
     ensures { result ≡ named before place number entry sheet.now }
 {
@@ -87,6 +89,7 @@ fn named(before: Lost, place: u32, number: u8, entry: u16, sheet: &[u8]) -> Lost
 }
 
 // With one sheet more: the number with which it is declined, 0 where it is not, and with 17 the first entry that cannot be kept.
+#[tactic(auto, unfolding(crate::specs::Tally::tallied))]
 pub fn add(tally: Tally, sheet: &[u8], number: u8, entry: u16) -> Tally
     ensures { result ≡ tallied tally sheet.now number entry }
 {
@@ -107,6 +110,7 @@ pub fn add(tally: Tally, sheet: &[u8], number: u8, entry: u16) -> Tally
 }
 
 // At the end of the file. One without a sheet is no file of sheets.
+#[tactic(auto, unfolding(crate::specs::Tally::ended))]
 pub fn ended(tally: Tally) -> Tally
     ensures { result ≡ ended tally }
 {

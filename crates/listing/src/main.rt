@@ -1,37 +1,37 @@
 // The listing program: reads a two-byte source, then a plan sheet, on standard input, and prints the listing.
 #![tactic(auto)]
 
-use libc::{STDIN_FILENO, STDOUT_FILENO};
 use listing_text::{INPUT_BYTES, TEXT_BYTES, listing};
+use program::input::read_full;
+use program::say;
+use std::io::Read;
 use text::part::front;
 
 // Reads some of the input, and answers how many bytes came.
-fn skip_some() -> usize {
+fn skip_some(input: &mut impl Read) -> usize {
     let mut rest = [0u8; 4096];
-    io::read_full(STDIN_FILENO, &mut rest)
+    read_full(input, &mut rest)
 }
 
-// Reads the input to its end. A proved loop has to end, and nothing says that the input does. So it counts its turns down, from a number that no run
-// uses up.
-fn skip_rest() {
-    let mut turns = u64::MAX;
-    while turns > 0 {
-        if skip_some() == 0 {
+// Reads the input to its end. A proved loop has to end, and nothing says that the input does. So it counts its turns, up to a number that no run uses up.
+fn skip_rest(input: &mut impl Read) {
+    for _ in 0..u64::MAX {
+        if skip_some(input) == 0 {
             return;
         }
-        turns -= 1;
     }
 }
 
-fn print(text: &[u8; TEXT_BYTES], length: usize) {
-    io::write_all(STDOUT_FILENO, front(text, length));
+fn print(rt: &impl Print, text: &[u8; TEXT_BYTES], length: usize) {
+    say::text(rt, front(text, length));
 }
 
-fn main() {
+fn main(rt: HostRuntime) {
+    let mut stdin = rt.stdin();
     let mut input = [0u8; INPUT_BYTES];
-    let size = io::read_full(STDIN_FILENO, &mut input);
-    skip_rest();
+    let size = read_full(&mut stdin, &mut input);
+    skip_rest(&mut stdin);
     let mut text = [0u8; TEXT_BYTES];
     let length = listing(&input, size, &mut text);
-    print(&text, length);
+    print(&rt, &text, length);
 }

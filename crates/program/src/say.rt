@@ -1,31 +1,30 @@
-// What a program says, on standard output.
-use libc::STDOUT_FILENO;
+// What a program says, on standard output. Where that cannot be written, it goes on.
 
-pub fn text(text: &[u8]) {
-    io::write_all(STDOUT_FILENO, text);
+pub fn text(rt: &impl Print, text: &[u8]) {
+    let _ = rt.write_all(text);
 }
 
 // A text, then a number.
-pub fn number(before: &[u8], number: u64) {
-    text(before);
-    io::print_decimal(STDOUT_FILENO, number);
+pub fn number(rt: &impl Print, before: &[u8], number: u64) {
+    text(rt, before);
+    let _ = rt.print(number);
 }
 
-fn cannot(what: &[u8], path: &[u8]) {
-    text(what);
-    text(path);
-    text(b"\n");
+fn cannot(rt: &impl Print, what: &[u8], path: &[u8]) {
+    text(rt, what);
+    text(rt, path);
+    text(rt, b"\n");
 }
 
-pub fn cannot_read(path: &[u8]) {
-    cannot(b"cannot read ", path);
+pub fn cannot_read(rt: &impl Print, path: &[u8]) {
+    cannot(rt, b"cannot read ", path);
 }
 
-pub fn cannot_write(path: &[u8]) {
-    cannot(b"cannot write ", path);
+pub fn cannot_write(rt: &impl Print, path: &[u8]) {
+    cannot(rt, b"cannot write ", path);
 }
 
-pub fn refused(refusal: u8) {
-    number(b"refused ", refusal as u64);
-    text(b"\n");
+pub fn refused(rt: &impl Print, refusal: u8) {
+    number(rt, b"refused ", refusal as u64);
+    text(rt, b"\n");
 }

@@ -2,7 +2,6 @@
 ghost use Rattle.std.specs.Prelude.{◌≡◌, ◌-◌, ◌≤◌, min, max, length};
 ghost use Rattle.sheets.specs.Bar.{marks_of, seconds_left};
 
-use libc::STDERR_FILENO;
 use text::field::put_number;
 use text::part::{front, part};
 use text::put;
@@ -11,6 +10,7 @@ use text::put;
 const LINE_BYTES: usize = 128;
 
 // How many of 20 marks stand for `done` of `all` boards.
+#[tactic(auto, unfolding(crate::specs::Bar::marks_of))]
 fn marks(done: u16, all: u16) -> usize
     ensures value { result ≡ marks_of done all }
     ensures upper_bound { result ≤ 20 }
@@ -50,6 +50,7 @@ fn clipped(spent: u64) -> u64
 }
 
 // The seconds that the boards that are left will take, if the others took so many milliseconds.
+#[tactic(auto, unfolding(crate::specs::Bar::seconds_left))]
 fn seconds_left(done: u16, all: u16, spent: u64) -> u64
     ensures { result ≡ seconds_left done all spent }
 {
@@ -77,16 +78,17 @@ fn put_line(out: &mut [u8], done: u16, all: u16, seconds: u64) -> usize
     put::bytes(out, time, b" s left\x1b[K")
 }
 
-fn print(line: &[u8; LINE_BYTES], size: usize) {
-    io::write_all(STDERR_FILENO, front(line, size));
+// Where it cannot be written, the job goes on.
+fn print(screen: &impl Print, line: &[u8; LINE_BYTES], size: usize) {
+    let _ = screen.write_all(front(line, size));
 }
 
-pub fn draw(done: u16, all: u16, spent: u64) {
+pub fn draw(screen: &impl Print, done: u16, all: u16, spent: u64) {
     let mut line = [0u8; LINE_BYTES];
     let size = put_line(&mut line, done, all, seconds_left(done, all, spent));
-    print(&line, size);
+    print(screen, &line, size);
 }
 
-pub fn remove() {
-    io::write_all(STDERR_FILENO, b"\r\x1b[K");
+pub fn remove(screen: &impl Print) {
+    let _ = screen.write_all(b"\r\x1b[K");
 }

@@ -9,30 +9,40 @@ mod tally;
 mod wait;
 
 use plan_input::PLAN_BYTES;
+use program::argument::PATH_BYTES;
+use program::input::read_full;
 use program::say::cannot_read;
+use program::{argument, file};
+use std::io::Stderr;
+use std::rt::Files;
+use std::time::CpuClock;
 use text::part::front;
 
 // The plan sheet of a file, to the file of its route sheets.
-fn from_file(plan: &[u8], out: &[u8]) {
-    let file = os::open_read(plan);
-    if file < 0 {
-        cannot_read(plan);
+fn from_file(rt: &(impl Files + CpuClock + Print), screen: Stderr, plan: &[u8], out: &[u8]) {
+    let Some(mut file) = file::open(rt, plan) else {
+        cannot_read(rt, plan);
         return;
-    }
+    };
     let mut sheet = [0u8; PLAN_BYTES];
-    let size = io::read_full(file, &mut sheet);
-    libc::close(file);
-    job::write_sheets(&sheet, size, out);
+    let size = read_full(&mut file, &mut sheet);
+    drop(file);
+    job::write_sheets(rt, screen, &sheet, size, out);
 }
 
-fn main() {
-    let mut plan = io::buffer();
-    let plan_length = os::arg(1, &mut plan);
-    let mut out = io::buffer();
-    let out_length = os::arg(2, &mut out);
-    if plan_length == 0 || out_length == 0 || os::arg_count() != 3 {
-        say::usage();
+fn main(rt: HostRuntime) {
+    let mut plan = [0u8; PATH_BYTES];
+    let plan_length = argument::read(&rt, 1, &mut plan);
+    let mut out = [0u8; PATH_BYTES];
+    let out_length = argument::read(&rt, 2, &mut out);
+    if plan_length == 0 || out_length == 0 || argument::is_there(&rt, 3) {
+        say::usage(&rt);
         return;
     }
-    from_file(front(&plan, plan_length), front(&out, out_length));
+    from_file(
+        &rt,
+        rt.stderr(),
+        front(&plan, plan_length),
+        front(&out, out_length),
+    );
 }

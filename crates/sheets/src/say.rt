@@ -2,13 +2,13 @@
 use crate::tally::Tally;
 use program::say::{number, text};
 
-pub fn usage() {
-    text(b"usage: sheets PLAN OUT\n");
+pub fn usage(rt: &impl Print) {
+    text(rt, b"usage: sheets PLAN OUT\n");
 }
 
-pub fn done(tally: Tally) {
-    number(b"", tally.boards as u64);
-    number(b" boards, ", tally.entries as u64);
-    number(b" entries, ", tally.without as u64);
-    text(b" pairs without a clear choice\n");
+pub fn done(rt: &impl Print, tally: Tally) {
+    number(rt, b"", tally.boards as u64);
+    number(rt, b" boards, ", tally.entries as u64);
+    number(rt, b" entries, ", tally.without as u64);
+    text(rt, b" pairs without a clear choice\n");
 }

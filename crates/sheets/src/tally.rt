@@ -48,6 +48,7 @@ fn without_in(sheet: &[u8]) -> u32
 }
 
 // With one sheet more.
+#[tactic(auto, unfolding(crate::specs::Tally::tallied))]
 fn add(tally: Tally, sheet: &[u8]) -> Tally
     ensures { result ≡ tallied tally sheet.now }
 {
