@@ -1,8 +1,8 @@
 /*
  * Nafthurm for a board's program: plan and route sheets, planned routes, packets, steps, walks, and hops taken back.
  *
- * Link libnafthurm.a (`rt lib` in crates/nafthurm writes crates/nafthurm/out/libnafthurm.a; x86-64 Linux). It needs nothing but memcpy,
- * memmove and memset.
+ * Link libnafthurm.a (`rt lib` in crates/nafthurm writes crates/nafthurm/out/libnafthurm.a; x86-64 Linux). It needs nothing but memcpy
+ * and memset.
  *
  * Every call is proved to meet its contract in crates/nafthurm/src, which is the definition of the call that it stands for: it ends, never reaches
  * outside the bytes that it is lent, and takes any bytes and any numbers. Nothing has to be tested before a call. What the proof takes for granted,
@@ -51,10 +51,10 @@ extern "C" {
 
 /* Bytes of stack, held to by library/tests/test.c. */
 #define NAFTHURM_STACK 1024
-#define NAFTHURM_STACK_PAIR 147456
-#define NAFTHURM_STACK_SHEET 163840
-#define NAFTHURM_STACK_ALL 180224
-#define NAFTHURM_STACK_LISTING 393216
+#define NAFTHURM_STACK_PAIR 98304
+#define NAFTHURM_STACK_SHEET 131072
+#define NAFTHURM_STACK_ALL 131072
+#define NAFTHURM_STACK_LISTING 262144
 
 /* Extents of the dimensions X, Y, Z, each 1 to 16; wrap has bits 0, 1, 2 for X, Y, Z. */
 typedef struct {
