@@ -14,7 +14,7 @@ use std::hint::black_box;
 
 const FAST: &str = "target/bench/fast";
 const SHADOWS: &str = "target/bench/shadows";
-const SHEETS: &str = "target/bin/sheets";
+const SHEETS: &str = "crates/sheets/out/sheets";
 const PLAN: &str = "target/bench/plan";
 const ROUTES: &str = "target/bench/routes";
 

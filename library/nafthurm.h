@@ -1,7 +1,8 @@
 /*
  * Nafthurm for a board's program: plan and route sheets, planned routes, packets, steps, walks, and hops taken back.
  *
- * Link libnafthurm.a (`rt staticlib nafthurm` writes target/staticlib/libnafthurm.a; x86-64 Linux). It needs nothing but memcpy and memset.
+ * Link libnafthurm.a (`rt lib` in crates/nafthurm writes crates/nafthurm/out/libnafthurm.a; x86-64 Linux). It needs nothing but memcpy
+ * and memset.
  *
  * Every call is proved to meet its contract in crates/nafthurm/src, which is the definition of the call that it stands for: it ends, never reaches
  * outside the bytes that it is lent, and takes any bytes and any numbers. Nothing has to be tested before a call. What the proof takes for granted,

@@ -1,4 +1,4 @@
--- 'The worked machine and its edges': the lines marked (P), one table, with the documents' own numbers; w-0-1 and ring-of-4 are E5's.
+-- 'The worked machine and its edges': the lines marked (P), one table, with the documents' own numbers; w_0_1 and ring_of_4 are E5's.
 use Rattle.std.specs.Prelude.{ℕ, ◌≡◌, List, [], ◌∷◌}
 use Rattle.machine.specs.declared.leg.Mode.TheVariants.{Adaptive}
 use Rattle.packet.specs.declared.route.Route.{Route}

@@ -1,8 +1,7 @@
-// The lines of an input, each answered by a line of the output.
-ghost use Rattle.std.specs.Prelude.{◌+◌, ◌≤◌, length, IfOk};
+// The lines of an input, each answered by a line of the output. A read that fails is the input's end, and a write that fails is passed over.
+ghost use Rattle.std.specs.Prelude.{◌+◌, ◌≤◌, length};
 
 use crate::{lines, operations};
-use std::io;
 use std::io::{Read, Write};
 use text::part::{front, part};
 
@@ -20,46 +19,41 @@ struct Rest {
     skip: bool,
 }
 
-fn write_line<W: Write>(output: &mut W, line: &[u8], out: &mut [u8], skip: bool) -> io::Result<()> {
+fn write_line<W: Write>(output: &mut W, line: &[u8], out: &mut [u8], skip: bool) {
     if skip {
-        return Ok(());
+        return;
     }
     let count = operations::answer(line, out);
-    output.write_all(front(out, count))
+    let _ = output.write_all(front(out, count));
 }
 
-fn write_too_long<W: Write>(output: &mut W, start: &[u8], out: &mut [u8]) -> io::Result<()> {
+fn write_too_long<W: Write>(output: &mut W, start: &[u8], out: &mut [u8]) {
     let count = operations::too_long(start, out);
-    output.write_all(front(out, count))
+    let _ = output.write_all(front(out, count));
 }
 
 // Answers a last line that has no newline. Where no bytes are left there is none.
-fn write_last<W: Write>(output: &mut W, line: &[u8], out: &mut [u8]) -> io::Result<()> {
-    write_line(output, line, out, line.len() == 0)
+fn write_last<W: Write>(output: &mut W, line: &[u8], out: &mut [u8]) {
+    write_line(output, line, out, line.len() == 0);
 }
 
 // Answers each line whose newline is held. Where `skip`, the first is the rest of a line that did not fit, and gets no answer.
-fn answer_lines<W: Write>(
-    output: &mut W,
-    held: &[u8],
-    out: &mut [u8],
-    skip: bool,
-) -> io::Result<Rest>
-    ensures { IfOk result (λ rest. rest.start ≤ length held.now) }
+fn answer_lines<W: Write>(output: &mut W, held: &[u8], out: &mut [u8], skip: bool) -> Rest
+    ensures { result.start ≤ length held.now }
 {
     let mut start = 0;
     let mut skipping = skip;
     let mut end = lines::line_end(held, 0);
     while end < held.len() {
-        write_line(output, part(held, start, end), out, skipping)?;
+        write_line(output, part(held, start, end), out, skipping);
         skipping = false;
         start = end + 1;
         end = lines::line_end(held, start);
     }
-    Ok(Rest {
+    Rest {
         start: start,
         skip: skipping,
-    })
+    }
 }
 
 // Keeps the bytes from `start` up to `filled` for the next read. A line that fills the buffer is answered at once, and none of it is kept.
@@ -69,21 +63,21 @@ fn keep<W: Write>(
     start: usize,
     filled: usize,
     out: &mut [u8],
-) -> io::Result<Held>
+) -> Held
     requires { (start ≤ filled) × (filled ≤ length buffer.old) }
-    ensures { IfOk result (λ held. held.length ≤ length buffer.new) }
+    ensures { result.length ≤ length buffer.new }
 {
     if filled - start == buffer.len() {
-        write_too_long(output, buffer, out)?;
-        return Ok(Held {
+        write_too_long(output, buffer, out);
+        return Held {
             length: 0,
             skip: true,
-        });
+        };
     }
-    Ok(Held {
+    Held {
         length: lines::to_front(buffer, start, filled),
         skip: false,
-    })
+    }
 }
 
 // Answers the lines in the first `filled` bytes.
@@ -93,26 +87,29 @@ fn answer_filled<W: Write>(
     filled: usize,
     skip: bool,
     out: &mut [u8],
-) -> io::Result<Held>
+) -> Held
     requires { filled ≤ length buffer.old }
-    ensures { IfOk result (λ held. held.length ≤ length buffer.new) }
+    ensures { result.length ≤ length buffer.new }
 {
-    let rest = answer_lines(output, front(buffer, filled), out, skip)?;
+    let rest = answer_lines(output, front(buffer, filled), out, skip);
     if rest.skip {
-        return Ok(Held {
+        return Held {
             length: 0,
             skip: true,
-        });
+        };
     }
     keep(output, buffer, rest.start, filled, out)
 }
 
 // Reads once behind the first `held` bytes, and answers how many came.
-fn read_more<R: Read>(input: &mut R, buffer: &mut [u8], held: usize) -> io::Result<usize>
+fn read_more<R: Read>(input: &mut R, buffer: &mut [u8], held: usize) -> usize
     requires { held ≤ length buffer.old }
-    ensures { IfOk result (λ got. held + got ≤ length buffer.new) }
+    ensures { held + result ≤ length buffer.new }
 {
-    input.read(&mut buffer[held..])
+    match input.read(&mut buffer[held..]) {
+        Ok(got) => got,
+        Err(_) => 0,
+    }
 }
 
 // Answers the lines of the input. A line that does not fit into `buffer`, with its newline, is unreadable; an answer is cut to what fits into `out`.
@@ -123,17 +120,17 @@ pub(crate) fn answer_all<R: Read, W: Write>(
     output: &mut W,
     buffer: &mut [u8],
     out: &mut [u8],
-) -> io::Result<()> {
+) {
     let mut length = 0;
     let mut skip = false;
     for _ in 0..u64::MAX {
-        let got = read_more(input, buffer, length)?;
+        let got = read_more(input, buffer, length);
         if got == 0 {
-            return write_last(output, front(buffer, length), out);
+            write_last(output, front(buffer, length), out);
+            return;
         }
-        let held = answer_filled(output, buffer, length + got, skip, out)?;
+        let held = answer_filled(output, buffer, length + got, skip, out);
         length = held.length;
         skip = held.skip;
     }
-    Ok(())
 }

@@ -6,15 +6,14 @@ mod lines;
 mod operations;
 
 use answer_lines::answer_all;
-use std::io;
 
 const LINE_BYTES: usize = 131072;
 
 // Room for a line and its answer, of which a listing's text is the longest.
 const OUT_BYTES: usize = LINE_BYTES + 98304;
 
-fn main(rt: HostRuntime) -> io::Result<()> {
+fn main(rt: HostRuntime) {
     let mut buffer = [0u8; LINE_BYTES];
     let mut out = [0u8; OUT_BYTES];
-    answer_all(&mut rt.stdin(), &mut rt.stdout(), &mut buffer, &mut out)
+    answer_all(&mut rt.stdin(), &mut rt.stdout(), &mut buffer, &mut out);
 }

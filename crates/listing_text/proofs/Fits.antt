@@ -7,7 +7,6 @@ use mathlib.Core.List.{List, [], ◌∷◌, ◌++◌}
 use lib.ListN.{length, length-append}
 use lib.Dec.{ltb}
 use Rattle.numbers.specs.Numbers.{plan_short, node_outside, dead_end}
-use Rattle.theory.specs.Checks.{◌then◌}
 use Rattle.theory.specs.Machine.{sum_by}
 use Rattle.machine.specs.declared.leg.Mode.{Mode}
 use Rattle.machine.specs.declared.leg.Mode.TheVariants.{Adaptive, Deterministic}
@@ -31,7 +30,7 @@ use Rattle.planned_sheet.specs.Sheet.{source_error}
 use Rattle.planned_sheet.proofs.Planning.{Source, source_of, answer_is}
 use Rattle.listing_text.specs.Decimal.{decimal}
 use Rattle.listing_text.specs.Text.{source_in, plan_in, listing_error, line, head_line, kind_text, first_text, second_text, via_text, second_via_text, length_text, dest_line, dest_lines, refused_word, refusal, listing_of}
-use Rattle.listing_text.proofs.Decimals.{at_most_1, at_most_2, at_most_3, at_most_4}
+use Rattle.listing_text.proofs.Decimals.{at_most_2, at_most_3, at_most_4}
 use Rattle.listing_text.proofs.Sources.{source_sound, node_below}
 
 -- ---- numbers of refusals

@@ -34,9 +34,9 @@ fn head_of(plan: &[u8], source: u16) -> Head
 }
 
 // Writes the lines of the first `all` destinations from `at` on, and answers the next place.
-fn put_lines(out: &mut [u8], at: usize, outcomes: [Outcome; 4096], all: usize) -> usize
+fn put_lines(out: &mut [u8], at: usize, outcomes: &[Outcome; 4096], all: usize) -> usize
     requires { (at ≤ 18) × (all ≤ 4096) }
-    ensures { Put out.old out.new at result (outcome_lines outcomes all) }
+    ensures { Put out.old out.new at result (outcome_lines outcomes.now all) }
 {
     let mut next = at;
     let mut d: usize = 0;
@@ -48,19 +48,19 @@ fn put_lines(out: &mut [u8], at: usize, outcomes: [Outcome; 4096], all: usize) -
 }
 
 // Writes the text, as far as there is room, and answers its length.
-fn put_text(out: &mut [u8], head: Head, outcomes: [Outcome; 4096]) -> usize
+fn put_text(out: &mut [u8], head: Head, outcomes: &[Outcome; 4096]) -> usize
     requires { head.nodes ≤ 4096 }
-    ensures { Put out.old out.new 0 result (outcomes_text head outcomes) }
+    ensures { Put out.old out.new 0 result (outcomes_text head outcomes.now) }
 {
     let first = put_header(out, head.source, head.nodes, head.faults);
     put_lines(out, first, outcomes, head.nodes as usize)
 }
 
 // The text is first written to no bytes, for its length.
-fn write_text(out: &mut [u8], head: Head, outcomes: [Outcome; 4096]) -> Written
+fn write_text(out: &mut [u8], head: Head, outcomes: &[Outcome; 4096]) -> Written
     requires { head.nodes ≤ 4096 }
-    ensures value { result ≡ written (room_error 0 (outcomes_text head outcomes) out.old) (outcomes_text head outcomes) }
-    ensures out_after { out.new ≡ out_after (room_error 0 (outcomes_text head outcomes) out.old) (outcomes_text head outcomes) out.old }
+    ensures value { result ≡ written (room_error 0 (outcomes_text head outcomes.now) out.old) (outcomes_text head outcomes.now) }
+    ensures out_after { out.new ≡ out_after (room_error 0 (outcomes_text head outcomes.now) out.old) (outcomes_text head outcomes.now) out.old }
 {
     let mut none = [0u8; 0];
     let size = put_text(&mut none, head, outcomes);
@@ -93,5 +93,6 @@ pub fn listing_text(input: &[u8], out: &mut [u8]) -> Written
     }
     let plan = &input[2..];
     let source = source_in(input);
-    write_text(out, head_of(plan, source), outcomes(plan, source))
+    let all = outcomes(plan, source);
+    write_text(out, head_of(plan, source), &all)
 }

@@ -8,7 +8,7 @@ use lib.ListN.{length, drop, get_or}
 use lib.Dec.{ltb, leb}
 use borrow.Author.Tests.{le-ltb, lt-leb, ltb-false, leb-false}
 use Rattle.numbers.specs.Numbers.{wrong_packet}
-use Rattle.theory.specs.Checks.{declined, ◌then◌}
+use Rattle.theory.specs.Checks.{declined}
 use Rattle.theory.specs.Machine.{Inside}
 use Rattle.theory.specs.Marks.{MarkLaws, CheckLaws}
 use Rattle.theory.proofs.Bools.{or_false}

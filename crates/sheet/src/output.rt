@@ -1,5 +1,5 @@
 // Writing a sheet into lent bytes.
-ghost use Rattle.std.specs.Prelude.{◌≡◌};
+ghost use Rattle.std.specs.Prelude.{◌≡◌, ◌≤◌, ◌++◌, length, take, drop};
 ghost use Rattle.sheet.specs.Output.{room_error, written, out_after, written_number, written_size};
 
 use numbers::OUTPUT_SHORT;
@@ -33,6 +33,18 @@ impl Written {
     }
 }
 
+// The bytes of `s` to the front of `out`.
+fn copy(s: &[u8], out: &mut [u8])
+    requires { length s.now ≤ length out.old }
+    ensures { out.new ≡ take (length s.now) s.now ++ drop (length s.now) out.old }
+{
+    let mut i = 0;
+    while i < s.len() {
+        out[i] = s[i];
+        i += 1;
+    }
+}
+
 // The sheet `s`, whose own checks gave `error`, into `out`: then 12, and the output past the sheet is untouched.
 pub fn put_sheet(s: &[u8], error: u8, out: &mut [u8]) -> Written
     ensures value { result ≡ written (room_error error s.now out.old) s.now }
@@ -44,7 +56,6 @@ pub fn put_sheet(s: &[u8], error: u8, out: &mut [u8]) -> Written
     if out.len() < s.len() {
         return Written::Refused(OUTPUT_SHORT);
     }
-    let size = s.len();
-    out[..size].copy_from_slice(s);
-    Written::Bytes(size)
+    copy(s, out);
+    Written::Bytes(s.len())
 }

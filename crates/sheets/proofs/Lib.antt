@@ -1,3 +1,5 @@
--- The laws of a tally.
+-- `Tallies` and `Walking` have the laws of a tally, `Going` why the job ends, `Times` that the time left is a number.
 pub mod Tallies
 pub mod Walking
+pub mod Going
+pub mod Times

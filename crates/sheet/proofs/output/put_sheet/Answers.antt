@@ -1,5 +1,4 @@
 use mathlib.Core.Path.{refl}
-use lib.Seq.{take-length}
 use native.Mathlib.Omega.{arith}
 use Rattle.numbers.specs.Numbers.{output_short}
 use Rattle.sheet.proofs.Outputs.{refused, unread, no_room, copied}
@@ -15,4 +14,4 @@ pub returns-then-out-s : goal.returns-then-out-s
 returns-then-out-s c = both (refused _ output_short _ _ (no_room _ _ _ c.if-error-ne0.false c.if-out-s.true) (omega arith))
 
 pub returns : goal.returns
-returns c = both (copied _ _ _ (omega arith) (omega arith) _ _ refl (rw (c.copy_from_slice.ensures.after, take-length)))
+returns c = both (copied _ _ _ (omega arith) (omega arith) _ _ refl c.copy.ensures)
