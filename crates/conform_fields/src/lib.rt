@@ -3,7 +3,7 @@
 
 pub mod answers;
 pub mod directions;
-pub mod legs;
+pub mod leg_fields;
 pub mod lists;
 pub mod nodes;
 pub mod shapes;

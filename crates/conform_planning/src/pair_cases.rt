@@ -1,7 +1,7 @@
 // The operation `pair`: a pair is planned.
 use choice::Outcome;
 use conform_fields::answers::{put_number, unreadable};
-use conform_fields::legs::put_route;
+use conform_fields::leg_fields::put_route;
 use conform_fields::sheets::{PLAN_BYTES, PairField, read_pair};
 use planner::pair::pair;
 use text::part::front;

@@ -1,7 +1,7 @@
 // The operation `lookup`: a destination's entry, as a part of the lent sheet, and its route.
 use choice::Outcome;
 use conform_fields::answers::{put_number, unreadable};
-use conform_fields::legs::put_route;
+use conform_fields::leg_fields::put_route;
 use conform_fields::nodes::read_destination;
 use conform_fields::sheets::{PLAN_BYTES, ROUTE_BYTES, read_plan, read_routes};
 use routes::layout::{entry_place, entry_size, format_in, source_in};

@@ -3,7 +3,7 @@ ghost use Rattle.std.specs.Prelude.{◌≤◌};
 ghost use Rattle.packet.specs.Packet.{most_legs};
 
 use conform_fields::answers::put_number;
-use conform_fields::legs::put_leg;
+use conform_fields::leg_fields::put_leg;
 use conform_fields::lists::put_comma;
 use conform_fields::shapes::{ShapeField, read_shape};
 use machine::leg::{Leg, Mode};

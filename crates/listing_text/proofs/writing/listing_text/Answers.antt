@@ -17,8 +17,8 @@ pub returns : goal.returns
 returns c =
     let i = c.args.input.now in
     record {
-      value = rw (planned_text i (sym c.listing_error-error.ensures ∙ c.if-error-ne0.false) _ _ _ _ (rest i) c.source_in-source.ensures c.head_of.ensures c.outcomes.ensures) at c.write_text.ensures.value;
-      out_after = rw (planned_text i (sym c.listing_error-error.ensures ∙ c.if-error-ne0.false) _ _ _ _ (rest i) c.source_in-source.ensures c.head_of.ensures c.outcomes.ensures) at c.write_text.ensures.out_after;
+      value = rw (planned_text i (sym c.listing_error-error.ensures ∙ c.if-error-ne0.false) _ _ _ _ (rest i) c.source_in-source.ensures c.head_of.ensures c.outcomes-all.ensures) at c.write_text.ensures.value;
+      out_after = rw (planned_text i (sym c.listing_error-error.ensures ∙ c.if-error-ne0.false) _ _ _ _ (rest i) c.source_in-source.ensures c.head_of.ensures c.outcomes-all.ensures) at c.write_text.ensures.out_after;
     }
 
 pub slice_bounds-plan-start : goal.slice_bounds-plan-start
