@@ -57,7 +57,6 @@ fn beside(shape: Shape, a: Coords, t: Coords) -> [u16; 256]
 }
 
 // By the notes of the nodes between the ends: the steps on the shortest ways.
-#[inline(never)]
 fn near_by_notes(
     plan: &[u8],
     weights: Weights,
@@ -99,7 +98,6 @@ fn near_by_notes(
 }
 
 // By the notes of all nodes: the last step. No direct leg is clear.
-#[inline(never)]
 fn far_by_notes(
     plan: &[u8],
     weights: Weights,

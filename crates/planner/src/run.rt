@@ -55,7 +55,6 @@ fn ended(run: Run, all: u16) -> Answer
 }
 
 // The sets to all boards of a plan, in a workspace for them: whether no check declines the plan and the words are enough. Else the workspace is left.
-#[inline(never)]
 pub fn make_sets(plan: &[u8], work: &mut [u16]) -> bool
     ensures { SetsMade plan.now work.old result work.new }
 {

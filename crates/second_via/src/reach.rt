@@ -156,7 +156,6 @@ fn asked(
 
 // bx, by, bz: the places of the second via. From `at` on the run has the nodes with a clear leg to t, adaptive, and behind them those with a clear
 // deterministic one.
-#[inline(never)]
 pub fn reach(
     weights: Weights,
     shape: Shape,
