@@ -1,5 +1,5 @@
 // Planning a pair: the plan's checks, 9, 10, then the first clear choice, or 11.
-ghost use Rattle.std.specs.Prelude.{◌≡◌, false, List, ℕ, length};
+ghost use Rattle.std.specs.Prelude.{◌≡◌, false, List, ℕ, length, ◌<◌, get_or};
 ghost use Rattle.machine.specs.declared.leg.Mode.TheVariants.{Adaptive, Deterministic};
 ghost use Rattle.choice.specs.Pair.{far_in, pair_error, pair};
 ghost use Rattle.choice.specs.Outcome.{told};
@@ -56,6 +56,15 @@ fn beside(shape: Shape, a: Coords, t: Coords) -> [u16; 256]
     rows
 }
 
+// A node's note. Not inlined, so that the notes are not copied on the stack.
+#[inline(never)]
+fn note_of(notes: &[u32; 4096], node: u16) -> u32
+    requires { node < 4096 }
+    ensures { result ≡ get_or notes.now node 0 }
+{
+    notes[node as usize]
+}
+
 // By the notes of the nodes between the ends: the steps on the shortest ways.
 fn near_by_notes(
     plan: &[u8],
@@ -88,7 +97,7 @@ fn near_by_notes(
         plan, weights, shape, words, count, dead, ta, td, work, source, a, fa, fd, &skip, &mut twos,
     );
     let i = dest as usize;
-    let note = notes[i];
+    let note = note_of(&notes, dest);
     let length = distance_at(weights, shape, a, t);
     let first = via_outcome(note, length);
     if is_given(first) {
@@ -127,10 +136,8 @@ fn far_by_notes(
     let notes = notes_from(
         plan, weights, shape, words, count, dead, ta, td, work, source, a, fa, fd, fa, &mut twos,
     );
-    let i = dest as usize;
-    far_by_losses(
-        weights, shape, words, count, ta, td, a, t, fa, notes[i], &notes,
-    )
+    let note = note_of(&notes, dest);
+    far_by_losses(weights, shape, words, count, ta, td, a, t, fa, note, &notes)
 }
 
 fn by_notes(

@@ -53,11 +53,11 @@ pub all_unclear : (w : ℕ) → w < 4096 → get_or (replicate 4096 unclear) w 0
 all_unclear w l = get_or-replicate 4096 w unclear 0 l
 
 -- What is not asked.
-pub unreached :
+pub not_asked :
     (k : Weights) (s : Shape) (A T : Coords) (bx by bz : ℕ) (notes to : List ℕ) (at : ℕ) → askable k s A T (length to) at ≡ false →
-    (w : ℕ) → w < 4096 → get_or (replicate 4096 unclear) w 0 ≡ reach_in k s A T bx by bz notes to at w
+    (w : ℕ) → unclear ≡ reach_in k s A T bx by bz notes to at w
 unfolding reach_in reaches
-unreached k s A T bx by bz notes to at e w l = all_unclear w l ∙ rw e
+not_asked k s A T bx by bz notes to at e w = rw e
 
 module _
     (k : Weights) (s : Shape) (A T : Coords) (bx by bz : ℕ) (notes to : List ℕ) (at : ℕ) (ask : askable k s A T (length to) at ≡ true) (xs ys zs : List ℕ)

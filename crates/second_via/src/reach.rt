@@ -154,6 +154,28 @@ fn asked(
     planes(sums, shape, &xs, &ys, &zs, bx, by, bz, notes, to, at);
 }
 
+// Stores in an array that is `UNCLEAR` throughout what each node can reach; nothing where the question cannot be asked.
+pub fn store(
+    sums: &mut [u32; 4096],
+    weights: Weights,
+    shape: Shape,
+    a: Coords,
+    t: Coords,
+    bx: u16,
+    by: u16,
+    bz: u16,
+    notes: &[u32; 4096],
+    to: &[u16],
+    at: usize,
+)
+    ensures { length sums.old ≡ 4096 → ((w : ℕ) → w < 4096 → get_or sums.old w 0 ≡ unclear) → (w : ℕ) → w < 4096 → get_or sums.new w 0 ≡ reach_in weights shape a t bx by bz notes.now to.now at w }
+{
+    if !is_askable(weights, shape, a, t, to.len(), at) {
+        return;
+    }
+    asked(sums, weights, shape, a, t, bx, by, bz, notes, to, at);
+}
+
 // bx, by, bz: the places of the second via. From `at` on the run has the nodes with a clear leg to t, adaptive, and behind them those with a clear
 // deterministic one.
 pub fn reach(
@@ -171,9 +193,6 @@ pub fn reach(
     ensures { (w : ℕ) → w < 4096 → get_or result w 0 ≡ reach_in weights shape a t bx by bz notes.now to.now at w }
 {
     let mut sums = [UNCLEAR; 4096];
-    if !is_askable(weights, shape, a, t, to.len(), at) {
-        return sums;
-    }
-    asked(&mut sums, weights, shape, a, t, bx, by, bz, notes, to, at);
+    store(&mut sums, weights, shape, a, t, bx, by, bz, notes, to, at);
     sums
 }

@@ -1,19 +1,14 @@
-use mathlib.Core.Path.{sym, ◌∙◌}
-use native.Mathlib.Omega.{arith}
+use mathlib.Core.Path.{refl, sym, ◌∙◌}
+use Rattle.second_via.proofs.Sums.{all_unclear}
 use Rattle.search.proofs.Clip.{rows_fit}
 use Rattle.notes.proofs.Knowing.{rows_missing}
-use Rattle.first_clear.proofs.Reaches.{own_note, note_via, via_known, node_here, second_inside, by_second, by_first}
-use Rattle.first_clear.proofs.Dests.{member, first_leg}
 use Rattle.first_clear.proofs.far.far_outcome.Goals as goal
 
 pub returns-then-not-has_rows : goal.returns-then-not-has_rows
 returns-then-not-has_rows c = λ p S D g. absurd (rows_missing _ _ _ _ c.has_rows.ensures c.if-not-has_rows.true g.both.room)
 
-pub overflow_add-at : goal.overflow_add-at
-overflow_add-at c = let room = rows_fit _ _ _ (sym c.has_rows.ensures ∙ c.if-not-has_rows.false) in omega (arith, room)
-
-pub returns-then-second-lt4096 : goal.returns-then-second-lt4096
-returns-then-second-lt4096 c = λ p S D g. let found = c.if-second-lt4096.true in let here = node_here p _ _ S D _ _ _ _ _ _ _ _ _ _ _ g _ c.reach-reached.ensures _ c.bound.ensures _ c.least-second.ensures found in let leg = first_leg p _ S _ _ _ _ _ g.apart.plan g.apart.shape g.out (via_known p _ _ S D _ _ _ _ _ _ _ _ _ _ _ g _ c.reach-reached.ensures _ c.bound.ensures _ c.least-second.ensures found) c.via_in.ensures c.coords.ensures (c.has-first.ensures (omega arith)) in let back = member p _ _ _ _ _ _ g.apart.plan g.apart.shape here c.coords-then-second-lt4096.ensures (c.has-third.ensures (omega (arith, g.both.room))) ∙ g.both.adaptive _ here (second_inside p _ _ S D _ _ _ _ _ _ _ _ _ _ _ g _ c.reach-reached.ensures _ c.bound.ensures _ c.least-second.ensures found) in by_second p _ _ S D _ _ _ _ _ _ _ _ _ _ _ g _ c.reach-reached.ensures _ c.bound.ensures _ c.least-second.ensures found _ _ leg back _ c.by_two.ensures
+pub far_by-requires : goal.far_by-requires
+far_by-requires c = rows_fit _ _ _ (sym c.has_rows.ensures ∙ c.if-not-has_rows.false)
 
 pub returns : goal.returns
-returns c = λ p S D g. by_first p _ _ S D _ _ _ _ _ _ _ _ _ _ _ g _ c.reach-reached.ensures _ c.bound.ensures _ c.least-second.ensures c.if-second-lt4096.false _ (λ low. first_leg p _ S _ _ _ _ _ g.apart.plan g.apart.shape g.out (note_via p S D _ g.apart.plan (own_note p _ _ S D _ _ _ _ _ _ _ _ _ _ _ g) low) c.via_in-2.ensures c.coords-2.ensures (c.has-first-2.ensures (omega arith))) _ c.by_one.ensures
+returns c = λ p S D g. c.far_by.ensures p S D _ _ _ _ g (c.store.ensures refl all_unclear)
