@@ -51,10 +51,10 @@ extern "C" {
 
 /* Bytes of stack, held to by library/tests/test.c. */
 #define NAFTHURM_STACK 1024
-#define NAFTHURM_STACK_PAIR 131072
-#define NAFTHURM_STACK_SHEET 147456
-#define NAFTHURM_STACK_ALL 163840
-#define NAFTHURM_STACK_LISTING 294912
+#define NAFTHURM_STACK_PAIR 98304
+#define NAFTHURM_STACK_SHEET 131072
+#define NAFTHURM_STACK_ALL 131072
+#define NAFTHURM_STACK_LISTING 262144
 
 /* Extents of the dimensions X, Y, Z, each 1 to 16; wrap has bits 0, 1, 2 for X, Y, Z. */
 typedef struct {
