@@ -59,6 +59,11 @@ pub not_asked :
 unfolding reach_in reaches
 not_asked k s A T bx by bz notes to at e w = rw e
 
+pub unreached :
+    (k : Weights) (s : Shape) (A T : Coords) (bx by bz : ℕ) (notes to : List ℕ) (at : ℕ) → askable k s A T (length to) at ≡ false →
+    (w : ℕ) → w < 4096 → get_or (replicate 4096 unclear) w 0 ≡ reach_in k s A T bx by bz notes to at w
+unreached k s A T bx by bz notes to at e w l = all_unclear w l ∙ not_asked k s A T bx by bz notes to at e w
+
 module _
     (k : Weights) (s : Shape) (A T : Coords) (bx by bz : ℕ) (notes to : List ℕ) (at : ℕ) (ask : askable k s A T (length to) at ≡ true) (xs ys zs : List ℕ)
     (wx : PartsOf k.x s.x (wrapped_in s X) A.x T.x xs) (wy : PartsOf k.y s.y (wrapped_in s Y) A.y T.y ys) (wz : PartsOf k.z s.z (wrapped_in s Z) A.z T.z zs) where
