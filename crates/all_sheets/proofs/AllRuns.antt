@@ -9,7 +9,10 @@ use lib.ListN.{length, take, replicate, length-replicate}
 use lib.Seq.{take-append_seam}
 use lib.Dec.{eqb, ltb}
 use borrow.Author.Tests.{eq-eqb, eqb-true, lt-ltb, le-ltb, ltb-true}
-use Rattle.numbers.specs.Numbers.{output_short}
+use Rattle.std.specs.Prelude.{Result, Ok, Err}
+use Rattle.numbers.specs.declared.Refusal.{Refusal}
+use Rattle.numbers.specs.declared.Refusal.TheVariants.{OutputShort}
+use Rattle.numbers.specs.Refusals.{refusal}
 use Rattle.theory.proofs.Cases.{test, by_le}
 use Rattle.theory.proofs.Bools.{and_true}
 use Rattle.shape.specs.declared.shape.Dim.TheVariants.{X, Y, Z}
@@ -20,7 +23,8 @@ use Rattle.plan.specs.Checks.{large, torus_plans, plan_error}
 use Rattle.routes.specs.Layout.{most_bytes}
 use Rattle.plan.proofs.Plans.{accepted}
 use Rattle.planner.specs.declared.run.Run.{Run}
-use Rattle.planner.specs.declared.run.Answer.TheVariants.{Written, Refused, FewWords}
+use Rattle.planner.specs.declared.run.RunRefusal.{RunRefusal}
+use Rattle.planner.specs.declared.run.RunRefusal.TheVariants.{Refused, FewWords}
 use Rattle.all_sheets.specs.All.{left, all_sheets}
 use Rattle.planner.specs.Run.{run_next, joined, boards, run_bytes, run_of, run_after, run_error, few_words, none_fits, run_answer, passes, run_output}
 use Rattle.all_sheets.specs.Runs.{Ran, Runs, last, onward}
@@ -28,7 +32,7 @@ use Rattle.planner.proofs.Checking.{accepted_run, board_of, board_error}
 use Rattle.all_sheets.proofs.Leaving.{next_within, next_same, next_left, none_left, run_left_bytes}
 
 by_answer :
-    (a b d : Bool) (e : ℕ) (x r : Run) → cond a (cond b FewWords (cond d (Refused output_short) (Written x))) (Refused e) ≡ Written r →
+    (a b d : Bool) (e : Refusal) (x r : Run) → ◌≡◌ {A = Result Run RunRefusal} (cond a (cond b (Err FewWords) (cond d (Err (Refused OutputShort)) (Ok x))) (Err (Refused e))) (Ok r) →
     (a ≡ true) × (b ≡ false) × (d ≡ false) × (r ≡ x)
 by_answer true false false e x r h = (refl, refl, refl, cc)
 by_answer true false true e x r h = let z : ◌≡◌ {A = ℕ} 0 1 = cc in absurd (omega arith)
@@ -36,10 +40,10 @@ by_answer true true d e x r h = let z : ◌≡◌ {A = ℕ} 0 1 = cc in absurd (
 by_answer false b d e x r h = let z : ◌≡◌ {A = ℕ} 0 1 = cc in absurd (omega arith)
 
 -- ---- a run that is written
-module _ (p : List ℕ) (from words room : ℕ) (r : Run) (h : run_answer p from words room ≡ Written r) where
+module _ (p : List ℕ) (from words room : ℕ) (r : Run) (h : run_answer p from words room ≡ Ok r) where
   cases : (eqb (run_error p from) 0 ≡ true) × (few_words p words ≡ false) × (none_fits p (run_of p from room) ≡ false) × (r ≡ run_of p from room)
   unfolding run_answer
-  cases = by_answer (eqb (run_error p from) 0) (few_words p words) (none_fits p (run_of p from room)) (run_error p from) (run_of p from room) r h
+  cases = by_answer (eqb (run_error p from) 0) (few_words p words) (none_fits p (run_of p from room)) (refusal (run_error p from)) (run_of p from room) r h
 
   no_error : run_error p from ≡ 0
   no_error = eqb-true (run_error p from) 0 cases.0
@@ -116,7 +120,7 @@ module _ (p : List ℕ) (ok : plan_error large p ≡ 0) (words room : ℕ) (w : 
         (λ e. e)
 
     -- It is written.
-    pub always_written : run_answer p from words room ≡ Written (run_of p from room)
+    pub always_written : run_answer p from words room ≡ Ok (run_of p from room)
     unfolding run_answer
     always_written = rw (eq-eqb (run_error p from) 0 (board_error p from ok l), le-ltb words (512 * boards p) w, some_fits)
 

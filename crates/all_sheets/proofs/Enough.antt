@@ -6,6 +6,7 @@ use mathlib.Core.Bool.{Bool}
 use mathlib.Core.List.{List}
 use lib.ListN.{length, take}
 use borrow.Author.Tests.{le-ltb, eqb-true}
+use Rattle.std.specs.Prelude.{Result, Ok}
 use Rattle.theory.proofs.Cases.{test}
 use Rattle.sheet.specs.Input.{ReadInto}
 use Rattle.shape.proofs.Shapes.{count_most}
@@ -15,8 +16,8 @@ use Rattle.plan.specs.Checks.{large, torus_plans, plan_error}
 use Rattle.routes.specs.Layout.{most_bytes}
 use Rattle.plan.specs.Reading.{is_plan}
 use Rattle.plan.proofs.Plans.{accepted}
-use Rattle.planner.specs.declared.run.Answer.{Answer}
-use Rattle.planner.specs.declared.run.Answer.TheVariants.{Written}
+use Rattle.planner.specs.declared.run.Run.{Run}
+use Rattle.planner.specs.declared.run.RunRefusal.{RunRefusal}
 use Rattle.planner.specs.Known.{Filled}
 use Rattle.planner.specs.Run.{boards, run_of, RunWritten, SetsMade}
 use Rattle.all_sheets.proofs.Inputs.{of_sets}
@@ -34,16 +35,16 @@ always_made p w r v l g =
     (λ f. rw f)
 
 always_run :
-    (p : List ℕ) (from : ℕ) (w o : List ℕ) (r : Answer) (v t : List ℕ) → 2097152 ≤ length w → most_bytes ≤ length o → RunWritten p from w o r v t → plan_error large p ≡ 0 → from < boards p →
-    r ≡ Written (run_of p from (length o))
+    (p : List ℕ) (from : ℕ) (w o : List ℕ) (r : Result Run RunRefusal) (v t : List ℕ) → 2097152 ≤ length w → most_bytes ≤ length o → RunWritten p from w o r v t → plan_error large p ≡ 0 → from < boards p →
+    r ≡ Ok (run_of p from (length o))
 always_run p from w o r v t l h g ok k = g.answer ∙ always_written p ok (length w) (length o) (enough p ok (length w) l) h from k
 
 -- A run of a plan that was read into a buffer, with the sets to all boards.
 pub input_run :
-    (plan p : List ℕ) (size from : ℕ) (w o : List ℕ) (r : Answer) (t : List ℕ) → 781 ≤ length plan → 2097152 ≤ length w → most_bytes ≤ length o → p ≡ take size plan →
+    (plan p : List ℕ) (size from : ℕ) (w o : List ℕ) (r : Result Run RunRefusal) (t : List ℕ) → 781 ≤ length plan → 2097152 ≤ length w → most_bytes ≤ length o → p ≡ take size plan →
     (Filled p w → RunWritten p from w o r w t) →
     (Filled (take size plan) w → RunWritten (take size plan) from w o r w t) × (((whole : List ℕ) → ReadInto whole plan size → Filled (take size plan) w → RunWritten whole from w o r w t)
-    × (Filled (take size plan) w → plan_error large (take size plan) ≡ 0 → from < boards (take size plan) → r ≡ Written (run_of (take size plan) from (length o))))
+    × (Filled (take size plan) w → plan_error large (take size plan) ≡ 0 → from < boards (take size plan) → r ≡ Ok (run_of (take size plan) from (length o))))
 input_run plan p size from w o r t buffer words bytes read g =
     let run = of_sets plan p size from w o r t buffer read g in
     (run.0, (run.1, λ f. always_run (take size plan) from w o r w t words bytes (run.0 f)))

@@ -3,12 +3,11 @@ ghost use Rattle.std.specs.Prelude.{◌≡◌, List, ℕ, ◌<◌, length, take}
 ghost use Rattle.sheet.specs.Input.{ReadInto};
 ghost use Rattle.plan.specs.Checks.{large, plan_error};
 ghost use Rattle.plan.specs.Reading.{is_plan};
-ghost use Rattle.planner.specs.declared.run.Answer.TheVariants.{Written};
 ghost use Rattle.planner.specs.Known.{Filled};
 ghost use Rattle.planner.specs.Run.{boards, run_of, RunWritten, SetsMade};
 
 use plan_input::PLAN_BYTES;
-use planner::run::{Answer, make_sets, write_more};
+use planner::run::{Run, RunRefusal, make_sets, write_more};
 use text::part::front;
 
 // A workspace for every plan: one of 4,096 boards.
@@ -32,10 +31,10 @@ pub fn run_of_input(
     from: u16,
     work: &[u16; WORDS],
     out: &mut [u8; ROOM],
-) -> Answer
+) -> Result<Run, RunRefusal>
     ensures run_written { Filled (take size plan.now) work.now → RunWritten (take size plan.now) from work.now out.old result work.now out.new }
     ensures by_index { (whole : List ℕ) → ReadInto whole plan.now size → Filled (take size plan.now) work.now → RunWritten whole from work.now out.old result work.now out.new }
-    ensures value { Filled (take size plan.now) work.now → plan_error large (take size plan.now) ≡ 0 → from < boards (take size plan.now) → result ≡ Written (run_of (take size plan.now) from (length out.old)) }
+    ensures value { Filled (take size plan.now) work.now → plan_error large (take size plan.now) ≡ 0 → from < boards (take size plan.now) → result ≡ Ok (run_of (take size plan.now) from (length out.old)) }
 {
     write_more(front(plan, size), from, work, out)
 }

@@ -4,4 +4,4 @@
 mod input;
 
 pub use input::{ROOM, WORDS, run_of_input, sets_of_input};
-pub use planner::run::{Answer, Run, WORDS_A_BOARD, write_run};
+pub use planner::run::{Run, RunRefusal, WORDS_A_BOARD, write_run};

@@ -2,6 +2,7 @@
 #![tactic(auto)]
 
 use machine::leg::{Leg, Mode};
+use numbers::Refusal;
 use packet::Packet;
 use shape::Shape;
 
@@ -15,7 +16,7 @@ fn mode_of(bit: u8) -> Mode {
 
 fn leg_of(target: u16, bit: u8) -> Leg {
     Leg {
-        target: target,
+        target,
         mode: mode_of(bit),
     }
 }
@@ -36,6 +37,14 @@ fn packet_of(
     Packet::with(source, node, [first, second, third], 3, mark)
 }
 
+// 0, or the number of the refusal.
+fn number_of(answer: Result<(), Refusal>) -> u8 {
+    match answer {
+        Ok(()) => 0,
+        Err(refusal) => refusal.number(),
+    }
+}
+
 // The hops that the walk of such a packet, at its source, takes, and 65,536 for each unit of the number of the node that it ends at. Fewer than 65,536
 // directions are told apart.
 #[unsafe(no_mangle)]
@@ -54,8 +63,7 @@ pub extern "C" fn nafthurm_walk(
     let shape = Shape { x, y, z, wrap };
     let packet = packet_of(node, node, via, further, target, modes, 0);
     let walked = packet.walk(shape, dirs);
-    let ended = walked.packet;
-    (ended.node as u64) * 65536 + ((walked.hops % 65536) as u64)
+    u64::from(walked.packet.node) * 65536 + (walked.hops % 65536) as u64
 }
 
 // The node after a step of such a packet, at its source, and 65,536 for each unit of the refusal's number.
@@ -74,9 +82,7 @@ pub extern "C" fn nafthurm_step(
 ) -> u32 {
     let shape = Shape { x, y, z, wrap };
     let stepped = packet_of(node, node, via, further, target, modes, 0).step(shape, dir);
-    let packet = stepped.packet;
-    let answer = stepped.answer;
-    (answer.number() as u32) * 65536 + (packet.node as u32)
+    u32::from(number_of(stepped.answer)) * 65536 + u32::from(stepped.packet.node)
 }
 
 // The node before the last hop of such a packet, 65,536 for each unit of the mark there, and 16,777,216 for each unit of the refusal's number.
@@ -98,6 +104,7 @@ pub extern "C" fn nafthurm_take_back(
     let shape = Shape { x, y, z, wrap };
     let taken = packet_of(source, node, via, further, target, modes, mark).take_back(shape, dir);
     let packet = taken.packet;
-    let answer = taken.answer;
-    (answer.number() as u32) * 16777216 + (packet.mark as u32) * 65536 + (packet.node as u32)
+    u32::from(number_of(taken.answer)) * 16777216
+        + u32::from(packet.mark) * 65536
+        + u32::from(packet.node)
 }

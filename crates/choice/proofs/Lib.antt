@@ -11,4 +11,5 @@ pub mod AtTorus
 pub mod Computed
 pub mod Search
 pub mod Demand
+pub mod Told
 pub mod Worked

@@ -1,6 +1,7 @@
 -- The code's own steps: a note, and what a second via can reach, read back as what planning a pair answers.
 use Rattle.std.specs.Prelude.{ℕ, ◌+◌, ◌/◌, ◌%◌, Bool, true, false, leb, eqb}
 use Rattle.numbers.specs.Numbers.{no_clear_choice}
+use Rattle.numbers.specs.Refusals.{refusal}
 use Rattle.machine.specs.declared.leg.Mode.{Mode}
 use Rattle.machine.specs.declared.leg.Mode.TheVariants.{Adaptive, Deterministic}
 use Rattle.packet.specs.declared.route.Route.{Route}
@@ -19,7 +20,7 @@ pick_outcome false a b = b
 -- the deterministic legs.
 unfoldable pub one_told : ℕ → ℕ → Bool → Outcome
 one_told x len first =
-    pick_outcome (leb unclear x) (Outcome.Refused no_clear_choice)
+    pick_outcome (leb unclear x) (Outcome.Refused (refusal no_clear_choice))
     (Outcome.Given (Route.Via (x % 4096) (mode_of first) (mode_of (eqb (x / 4096 % 4) (det_of first)))) ((len + x / 16384) % 65536))
 
 -- By the second via w, where x is what it can reach; `third`: the leg from it is clear and adaptive.

@@ -1,14 +1,14 @@
 // A note, and what a second via can reach, read back as what planning a pair answers.
-ghost use Rattle.std.specs.Prelude.{◌≡◌, ◌%◌, ◌≤◌};
-ghost use Rattle.search.specs.Number.{det_of};
+ghost use Rattle.std.specs.Prelude.{◌≡◌, ◌%◌};
 ghost use Rattle.choice_number.specs.Told.{mode_of, one_told, two_told};
 ghost use Rattle.choice_number.specs.Note.{bound_of, over_of};
 
 use choice::Outcome;
 use machine::leg::Mode;
-use numbers::NO_CLEAR_CHOICE;
+use numbers::Refusal;
 use packet::Route;
 use search::best::UNCLEAR;
+use search::dets::det;
 
 // Place values: of the deterministic legs, at most three,
 pub const DETS: u32 = 4096;
@@ -16,6 +16,7 @@ pub const DETS: u32 = 4096;
 // of the length. The first via's node number has the last place.
 pub const LENGTH: u32 = 16384;
 
+// Not `From<bool>`: a bool by itself does not say which mode it stands for.
 fn mode(adaptive: bool) -> Mode
     ensures { result ≡ mode_of adaptive }
 {
@@ -24,12 +25,6 @@ fn mode(adaptive: bool) -> Mode
     } else {
         Mode::Deterministic
     }
-}
-
-fn det(adaptive: bool) -> u32
-    ensures { (result ≡ det_of adaptive) × (result ≤ 1) }
-{
-    if adaptive { 0 } else { 1 }
 }
 
 // The first via.
@@ -44,7 +39,7 @@ pub fn by_one(note: u32, length: u16, first: bool) -> Outcome
     ensures { result ≡ one_told note length first }
 {
     if UNCLEAR <= note {
-        return Outcome::Refused(NO_CLEAR_CHOICE);
+        return Outcome::Refused(Refusal::NoClearChoice);
     }
     let dets = note / DETS % 4;
     let whole = ((length as u32) + note / LENGTH) % 65536;

@@ -2,7 +2,6 @@
 #![tactic(auto)]
 
 mod answer_lines;
-mod lines;
 mod operations;
 
 use answer_lines::answer_all;

@@ -1,20 +1,24 @@
-// The answer's number, what a writing call answers, and the answer to a line that cannot be read.
-use sheet::Written;
-use text::{field, hex, put};
+// The answer's number, and what a writing call answers.
+use numbers::Refusal;
+use text::writer::Writer;
 
-// Writes the field `number`.
-pub fn put_number(out: &mut [u8], at: usize, number: u8) -> usize {
-    field::put_number(out, at, b"number=", number as u64)
+// 0, or the number of the refusal.
+pub fn number_of<T>(answer: &Result<T, Refusal>) -> u8 {
+    match answer {
+        Ok(_) => 0,
+        Err(refusal) => refusal.number(),
+    }
 }
 
-pub fn unreadable(out: &mut [u8], at: usize) -> usize {
-    put::bytes(out, at, b"unreadable")
+// Writes the field `number`.
+pub fn put_number(writer: &mut Writer, number: u8) {
+    writer.field(b"number=", u64::from(number));
 }
 
 // Writes the fields `number`, `size` and `out`, which is the lent output whole.
-pub fn put_written(out: &mut [u8], at: usize, written: Written, lent: &[u8]) -> usize {
-    let number = put_number(out, at, written.number());
-    let size = field::put_number(out, number, b" size=", written.size() as u64);
-    let key = put::bytes(out, size, b" out=");
-    hex::put(out, key, lent)
+pub fn put_written(writer: &mut Writer, written: Result<usize, Refusal>, lent: &[u8]) {
+    put_number(writer, number_of(&written));
+    writer.field(b" size=", written.unwrap_or(0) as u64);
+    writer.text(b" out=");
+    writer.hex(lent);
 }

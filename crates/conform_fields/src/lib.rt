@@ -2,10 +2,8 @@
 #![tactic(auto)]
 
 pub mod answers;
-pub mod directions;
 pub mod leg_fields;
 pub mod lists;
 pub mod nodes;
 pub mod shapes;
 pub mod sheets;
-pub mod threes;

@@ -1,7 +1,5 @@
 // The fields that give a sheet, a pair of a plan's nodes, or the room of lent output.
 use crate::nodes::{read_destination, read_source};
-use text::decimal::{Number, Word};
-use text::hex::Count;
 use text::{decimal, field, hex};
 
 // The longest plan sheet that a case gives: one of version 2 with 256 faults has 780 bytes.
@@ -11,37 +9,34 @@ pub const PLAN_BYTES: usize = 1024;
 pub const ROUTE_BYTES: usize = 28736;
 
 // Reads the field `plan=` into the front of `bytes`.
-pub fn read_plan(line: &[u8], bytes: &mut [u8]) -> Count {
+pub fn read_plan<'a>(line: &[u8], bytes: &'a mut [u8]) -> Option<&'a [u8]> {
     hex::read(field::value(line, b"plan="), bytes)
 }
 
 // Reads the field `sheet=` into the front of `bytes`.
-pub fn read_routes(line: &[u8], bytes: &mut [u8]) -> Count {
+pub fn read_routes<'a>(line: &[u8], bytes: &'a mut [u8]) -> Option<&'a [u8]> {
     hex::read(field::value(line, b"sheet="), bytes)
 }
 
-// A plan sheet of so many bytes, and the two ends of a pair.
+// A plan sheet, and the two ends of a pair.
 #[derive(Clone, Copy)]
-pub enum PairField {
-    Pair(usize, u16, u16),
-    Bad,
+pub struct Pair<'a> {
+    pub plan: &'a [u8],
+    pub source: u16,
+    pub dest: u16,
 }
 
 // Reads the fields `plan=`, into the front of `bytes`, `source=` and `destination=`.
-pub fn read_pair(line: &[u8], bytes: &mut [u8]) -> PairField {
-    let Count::Bytes(size) = read_plan(line, bytes) else {
-        return PairField::Bad;
-    };
-    let Word::Value(source) = read_source(line) else {
-        return PairField::Bad;
-    };
-    let Word::Value(dest) = read_destination(line) else {
-        return PairField::Bad;
-    };
-    PairField::Pair(size, source, dest)
+pub fn read_pair<'a>(line: &[u8], bytes: &'a mut [u8]) -> Option<Pair<'a>> {
+    Some(Pair {
+        plan: read_plan(line, bytes)?,
+        source: read_source(line)?,
+        dest: read_destination(line)?,
+    })
 }
 
-// Reads the field `room=`: how many bytes a call is lent, at most `most`.
-pub fn read_room(line: &[u8], most: usize) -> Number {
-    decimal::read(field::value(line, b"room="), most as u64)
+// Reads the field `room=`: that many bytes of `output` are lent to a call.
+pub fn read_room<'a>(line: &[u8], output: &'a mut [u8]) -> Option<&'a mut [u8]> {
+    let room: u64 = decimal::read_as(field::value(line, b"room="))?;
+    output.get_mut(..usize::try_from(room).ok()?)
 }

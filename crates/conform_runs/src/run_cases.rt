@@ -2,89 +2,57 @@
 // route is what planning a pair gives, or what the sheet that planning from the source writes says of the destination.
 use crate::along_route::put_run;
 use choice::Outcome;
-use conform_fields::answers::{put_number, unreadable};
-use conform_fields::sheets::{PLAN_BYTES, PairField, ROUTE_BYTES, read_pair};
+use conform_fields::answers::put_number;
+use conform_fields::sheets::{PLAN_BYTES, ROUTE_BYTES, read_pair};
 use packet::Packet;
 use plan::shape_of;
 use planner::pair::pair;
 use planner::sheets::write_sheet;
 use routes::lookup::lookup;
 use routes::route::route;
-use sheet::output::Written;
 use text::part::front;
-use text::{field, hex, put};
+use text::writer::Writer;
 
-// Writes the fields of the run; the field `number` of a refused pair.
-fn run_pair(line: &[u8], plan: &[u8], source: u16, dest: u16, out: &mut [u8], at: usize) -> usize {
-    match pair(plan, source, dest) {
-        Outcome::Refused(number) => put_number(out, at, number),
-        Outcome::Given(route, _) => {
-            let packet = Packet::new(source, dest, route);
-            put_run(line, shape_of(plan), packet, out, at, at)
-        }
-    }
-}
-
-// Writes the answer to a line `run plan=.. source=.. destination=.. calls=..`; `runback` is the same.
-pub fn answer_pair(line: &[u8], out: &mut [u8], at: usize) -> usize {
+// Writes the answer to a line `run plan=.. source=.. destination=.. calls=..`: the fields of the run, or the field `number` of a refused pair; `runback` is
+// the same.
+pub fn answer_pair(line: &[u8], writer: &mut Writer) -> Option<()> {
     let mut bytes = [0u8; PLAN_BYTES];
-    let PairField::Pair(size, source, dest) = read_pair(line, &mut bytes) else {
-        return unreadable(out, at);
-    };
-    run_pair(line, front(&bytes, size), source, dest, out, at)
-}
-
-// Writes the fields `size` and `entry`, which is the looked-up entry's bytes, from `next` on.
-fn put_entry(out: &mut [u8], next: usize, plan: &[u8], sheet: &[u8], dest: u16) -> usize {
-    let size = field::put_number(out, next, b" size=", sheet.len() as u64);
-    let key = put::bytes(out, size, b" entry=");
-    hex::put(out, key, lookup(plan, sheet, dest))
-}
-
-// Writes the field `number` of the lookup, and of a route the fields of the sheet and of the run.
-fn run_sheet(
-    line: &[u8],
-    plan: &[u8],
-    sheet: &[u8],
-    source: u16,
-    dest: u16,
-    out: &mut [u8],
-    at: usize,
-) -> usize {
-    match route(plan, sheet, dest) {
-        Outcome::Refused(number) => put_number(out, at, number),
-        Outcome::Given(said, _) => {
-            let number = put_number(out, at, 0);
-            let entry = put_entry(out, number, plan, sheet, dest);
-            let blank = put::byte(out, entry, b' ');
-            let packet = Packet::new(source, dest, said);
-            put_run(line, shape_of(plan), packet, out, at, blank)
+    let given = read_pair(line, &mut bytes)?;
+    match pair(given.plan, given.source, given.dest) {
+        Outcome::Given(route, _) => {
+            let packet = Packet::new(given.source, given.dest, route);
+            put_run(line, shape_of(given.plan), packet, writer)
+        }
+        Outcome::Refused(refusal) => {
+            put_number(writer, refusal.number());
+            Some(())
         }
     }
 }
 
-// Writes the sheet into `lent`, then the fields; the field `number` of a refused sheet.
-fn write_and_run(
-    line: &[u8],
-    plan: &[u8],
-    source: u16,
-    dest: u16,
-    lent: &mut [u8],
-    out: &mut [u8],
-    at: usize,
-) -> usize {
-    match write_sheet(plan, source, lent) {
-        Written::Bytes(size) => run_sheet(line, plan, front(lent, size), source, dest, out, at),
-        Written::Refused(number) => put_number(out, at, number),
-    }
-}
-
-// Writes the answer to a line `sheetrun plan=.. source=.. destination=.. calls=..`.
-pub fn answer_sheet(line: &[u8], out: &mut [u8], at: usize) -> usize {
+// Writes the answer to a line `sheetrun plan=.. source=.. destination=.. calls=..`: the number of the lookup, and of a route the fields `size` and `entry`,
+// which is the looked-up entry's bytes, and those of the run; or the field `number` of a refused sheet.
+pub fn answer_sheet(line: &[u8], writer: &mut Writer) -> Option<()> {
     let mut bytes = [0u8; PLAN_BYTES];
     let mut lent = [0u8; ROUTE_BYTES];
-    let PairField::Pair(size, source, dest) = read_pair(line, &mut bytes) else {
-        return unreadable(out, at);
+    let given = read_pair(line, &mut bytes)?;
+    let size = match write_sheet(given.plan, given.source, &mut lent) {
+        Ok(size) => size,
+        Err(refusal) => {
+            put_number(writer, refusal.number());
+            return Some(());
+        }
     };
-    write_and_run(line, front(&bytes, size), source, dest, &mut lent, out, at)
+    let sheet = front(&lent, size);
+    let outcome = route(given.plan, sheet, given.dest);
+    put_number(writer, outcome.number());
+    let Outcome::Given(route, _) = outcome else {
+        return Some(());
+    };
+    writer.field(b" size=", sheet.len() as u64);
+    writer.text(b" entry=");
+    writer.hex(lookup(given.plan, sheet, given.dest));
+    writer.byte(b' ');
+    let packet = Packet::new(given.source, given.dest, route);
+    put_run(line, shape_of(given.plan), packet, writer)
 }

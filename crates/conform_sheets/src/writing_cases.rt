@@ -1,14 +1,10 @@
 // The operations `back`, `convert` and `lost`: a route sheet is written back or converted into lent output filled with EE; the first entry that cannot be
 // kept.
-use conform_fields::answers::{put_number, put_written, unreadable};
+use conform_fields::answers::{number_of, put_number, put_written};
 use conform_fields::sheets::{PLAN_BYTES, ROUTE_BYTES, read_plan, read_room, read_routes};
 use conversion::convert;
 use route_value::write_back;
-use sheet::Written;
-use text::decimal::Number;
-use text::field;
-use text::hex::Count;
-use text::part::{front, front_mut};
+use text::writer::Writer;
 
 // The call that writes.
 #[derive(Clone, Copy)]
@@ -17,53 +13,39 @@ enum Call {
     Convert,
 }
 
-fn write(call: Call, plan: &[u8], sheet: &[u8], lent: &mut [u8]) -> Written {
-    match call {
-        Call::Back => write_back(plan, sheet, lent),
-        Call::Convert => convert(plan, sheet, lent).written,
-    }
-}
-
 // Writes the answer to a line `.. plan=.. sheet=.. room=..`.
-fn answer(call: Call, line: &[u8], out: &mut [u8], at: usize) -> usize {
+fn answer(call: Call, line: &[u8], writer: &mut Writer) -> Option<()> {
     let mut plan = [0u8; PLAN_BYTES];
     let mut sheet = [0u8; ROUTE_BYTES];
     let mut output = [0xEEu8; ROUTE_BYTES];
-    let Count::Bytes(plan_size) = read_plan(line, &mut plan) else {
-        return unreadable(out, at);
+    let plan = read_plan(line, &mut plan)?;
+    let sheet = read_routes(line, &mut sheet)?;
+    let lent = read_room(line, &mut output)?;
+    let written = match call {
+        Call::Back => write_back(plan, sheet, lent),
+        Call::Convert => convert(plan, sheet, lent).written,
     };
-    let Count::Bytes(size) = read_routes(line, &mut sheet) else {
-        return unreadable(out, at);
-    };
-    let Number::Value(room) = read_room(line, ROUTE_BYTES) else {
-        return unreadable(out, at);
-    };
-    let lent = front_mut(&mut output, room as usize);
-    let written = write(call, front(&plan, plan_size), front(&sheet, size), lent);
-    put_written(out, at, written, lent)
+    put_written(writer, written, lent);
+    Some(())
 }
 
-pub fn answer_back(line: &[u8], out: &mut [u8], at: usize) -> usize {
-    answer(Call::Back, line, out, at)
+pub fn answer_back(line: &[u8], writer: &mut Writer) -> Option<()> {
+    answer(Call::Back, line, writer)
 }
 
-pub fn answer_convert(line: &[u8], out: &mut [u8], at: usize) -> usize {
-    answer(Call::Convert, line, out, at)
+pub fn answer_convert(line: &[u8], writer: &mut Writer) -> Option<()> {
+    answer(Call::Convert, line, writer)
 }
 
 // Writes the answer to a line `lost plan=.. sheet=..`: the converter's number, with room enough, and the first entry that cannot be kept.
-pub fn answer_lost(line: &[u8], out: &mut [u8], at: usize) -> usize {
+pub fn answer_lost(line: &[u8], writer: &mut Writer) -> Option<()> {
     let mut plan = [0u8; PLAN_BYTES];
     let mut sheet = [0u8; ROUTE_BYTES];
     let mut output = [0xEEu8; ROUTE_BYTES];
-    let Count::Bytes(plan_size) = read_plan(line, &mut plan) else {
-        return unreadable(out, at);
-    };
-    let Count::Bytes(size) = read_routes(line, &mut sheet) else {
-        return unreadable(out, at);
-    };
-    let converted = convert(front(&plan, plan_size), front(&sheet, size), &mut output);
-    let written = converted.written;
-    let end = put_number(out, at, written.number());
-    field::put_number(out, end, b" entry=", converted.entry as u64)
+    let plan = read_plan(line, &mut plan)?;
+    let sheet = read_routes(line, &mut sheet)?;
+    let converted = convert(plan, sheet, &mut output);
+    put_number(writer, number_of(&converted.written));
+    writer.field(b" entry=", u64::from(converted.entry));
+    Some(())
 }

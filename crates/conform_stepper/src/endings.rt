@@ -1,12 +1,12 @@
 // How walks end, as text.
 use packet::Ending;
-use text::put;
+use text::writer::Writer;
 
-pub(crate) fn put_ending(out: &mut [u8], at: usize, ending: Ending) -> usize {
-    match ending {
-        Ending::Arrived => put::bytes(out, at, b"arrived"),
-        Ending::NotAllowed => put::bytes(out, at, b"not-allowed"),
-        Ending::UsedUp => put::bytes(out, at, b"used-up"),
-        Ending::Refused(_) => put::bytes(out, at, b"refused"),
-    }
+pub(crate) fn put_ending(writer: &mut Writer, ending: Ending) {
+    writer.text(match ending {
+        Ending::Arrived => b"arrived".as_slice(),
+        Ending::NotAllowed => b"not-allowed",
+        Ending::UsedUp => b"used-up",
+        Ending::Refused(_) => b"refused",
+    });
 }

@@ -7,13 +7,14 @@ use mathlib.Core.List.{List, [], ◌∷◌}
 use lib.ListN.{length, set}
 use lib.Dec.{leb, eqb}
 use Rattle.theory.proofs.Bools.{and_true}
-use Rattle.theory.proofs.Checks.{then_zero}
-use Rattle.sheet.specs.declared.output.Written.{Written}
-use Rattle.sheet.specs.declared.output.Written.TheVariants.{Bytes, Refused}
+use Rattle.std.specs.Prelude.{Ok, Err}
+use Rattle.numbers.specs.declared.Refusal.{Refusal}
+use Rattle.numbers.specs.Refusals.{number}
 use Rattle.sheet.specs.Bytes.{byte, word}
 use Rattle.sheet.specs.Head.{version, length_field, bytes_after, length_is}
 use Rattle.sheet.specs.Output.{room_error, written, out_after}
 use Rattle.sheet.proofs.Records.{from_same}
+use Rattle.sheet.proofs.Outputs.{Put, refused}
 use Rattle.plan.specs.Checks.{Limits}
 use Rattle.routes.specs.Layout.{first, second, format_by, entries_at, entry_place, kind_in, second_via, entry_in, entries_in, source, entry_count, size_after}
 use Rattle.routes.specs.Checks.{head_good, error_in, sheet_error}
@@ -25,52 +26,27 @@ same_length [] h = absurd (omega arith)
 same_length (b ∷ s) h = refl
 
 -- ---- writing
-module _ (s o : List ℕ) (e : ℕ) (some : e ≡ 0 → 0 < length s) where
-  same_room : room_error e (converted s) o ≡ room_error e s o
+module _ (s o : List ℕ) (some : 0 < length s) where
+  same_room : room_error 0 (converted s) o ≡ room_error 0 s o
   unfolding room_error
-  same_room = go e some
-    where
-      go : (e : ℕ) → (e ≡ 0 → 0 < length s) → room_error e (converted s) o ≡ room_error e s o
-      go zero h = rw (same_length s (h refl))
-      go (suc e) h = refl
-
-  accepted_some : room_error e s o ≡ 0 → 0 < length s
-  unfolding room_error
-  accepted_some h = some (then_zero e _ h).0
-
-  same_written : (k : ℕ) → (k ≡ 0 → 0 < length s) → written k (converted s) ≡ written k s
-  unfolding written
-  same_written zero h = ap Bytes (same_length s (h refl))
-  same_written (suc k) h = refl
-
-  refused_out : (k n : ℕ) → written k s ≡ Refused n → out_after k s o ≡ out_after k (converted s) o
-  unfolding written out_after
-  refused_out zero n h = absurd (let z : ◌≡◌ {A = ℕ} 0 1 = cc in omega arith)
-  refused_out (suc k) n h = refl
+  same_room = rw (same_length s some)
 
   changed : (s : List ℕ) → 0 < length s → set (out_after 0 s o) 0 2 ≡ out_after 0 (converted s) o
   unfolding out_after converted
   changed [] h = absurd (omega arith)
   changed (b ∷ s) h = refl
 
-  bytes_out : (k n : ℕ) → (k ≡ 0 → 0 < length s) → written k s ≡ Bytes n → set (out_after k s o) 0 2 ≡ out_after k (converted s) o
-  unfolding written
-  bytes_out zero n h w = changed s (h refl)
-  bytes_out (suc k) n h w = absurd (let z : ◌≡◌ {A = ℕ} 0 1 = cc in omega arith)
+  -- From what the sheet itself is answered, and the output t that it leaves.
+  module _ (t : List ℕ) (et : t ≡ out_after (room_error 0 s o) s o) where
+    pub put_refused : (e : Refusal) → number e ≡ room_error 0 s o → Put (room_error 0 (converted s) o) (converted s) o (Err e) t
+    put_refused e h =
+        let z : t ≡ o = et ∙ sym (refused (room_error 0 s o) e s o h).out_after in
+        rw z (refused (room_error 0 (converted s) o) e (converted s) o (h ∙ sym same_room))
 
-  -- The answer w and the output t that the sheet itself would have.
-  module _ (w : Written) (t : List ℕ) (ew : w ≡ written (room_error e s o) s) (et : t ≡ out_after (room_error e s o) s o) where
-    abbrev pub Put : List ℕ → Type 0
-    Put u = (w ≡ written (room_error e (converted s) o) (converted s)) × (u ≡ out_after (room_error e (converted s) o) (converted s) o)
-
-    answer : w ≡ written (room_error e (converted s) o) (converted s)
-    answer = ew ∙ sym (rw same_room (same_written (room_error e s o) accepted_some))
-
-    pub put_refused : (n : ℕ) → w ≡ Refused n → Put t
-    put_refused n h = (answer, et ∙ rw same_room (refused_out (room_error e s o) n (sym ew ∙ h)))
-
-    pub put_bytes : (n : ℕ) → w ≡ Bytes n → (u : List ℕ) → u ≡ set t 0 2 → Put u
-    put_bytes n h u eu = (answer, eu ∙ rw (et, same_room) (bytes_out (room_error e s o) n accepted_some (sym ew ∙ h)))
+    pub put_bytes : (n : ℕ) → Ok n ≡ written (room_error 0 s o) s → 0 ≡ room_error 0 s o → (u : List ℕ) → u ≡ set t 0 2 → Put (room_error 0 (converted s) o) (converted s) o (Ok n) u
+    put_bytes n en h u eu =
+        rw (same_room, ← h)
+        (record { value = rw (same_length s some) (rw (← h) at en); number = refl; out_after = eu ∙ ap (λ (l : List ℕ). set l 0 2) (rw (← h) at et) ∙ changed s some })
 
 -- ---- reading
 byte_kept : (s : List ℕ) → 0 < length s → (i : ℕ) → 0 < i → byte (converted s) i ≡ byte s i

@@ -1,94 +1,79 @@
 -- What the code judges of a sheet, by itself and under a plan.
 use Prim.Native.Nat.{ℕ, ◌≤◌, ◌<◌}
 use native.Mathlib.Omega.{arith}
-use mathlib.Core.Path.{◌≡◌, sym, ap, ◌∙◌}
-use mathlib.Core.Bool.{Bool, true, false, not}
+use mathlib.Core.Path.{◌≡◌, sym, ◌∙◌}
+use mathlib.Core.Bool.{true, false, not, ◌&&◌}
 use mathlib.Core.List.{List}
 use lib.ListN.{length}
 use lib.Dec.{eqb}
 use borrow.Author.Tests.{eqb-true, eqb-false, ne_eqb}
+use Rattle.std.specs.Prelude.{⊤, Result, Ok, Err}
 use Rattle.numbers.specs.Numbers.{wrong_route_sheet, entry_not_kept}
-use Rattle.theory.specs.Checks.{declined}
+use Rattle.numbers.specs.declared.Refusal.{Refusal}
+use Rattle.numbers.specs.declared.Refusal.TheVariants.{WrongRouteSheet, EntryNotKept}
+use Rattle.numbers.specs.Refusals.{number}
+use Rattle.theory.specs.Checks.{declined, ◌then◌}
+use Rattle.theory.proofs.Bools.{and_true}
 use Rattle.theory.proofs.Cases.{test}
 use Rattle.theory.proofs.Checks.{declines, then_zero}
-use Rattle.sheet.specs.declared.output.Written.{Written}
-use Rattle.sheet.specs.Output.{room_error, written, out_after}
-use Rattle.sheet.proofs.Records.{from_length}
-use Rattle.sheet.proofs.Outputs.{unread, room}
+use Rattle.sheet.specs.Output.{room_error}
+use Rattle.sheet.proofs.Outputs.{not_0, Put, unread, room}
 use Rattle.shape.specs.declared.shape.Shape.{Shape}
 use Rattle.machine.specs.Node.{is_node}
 use Rattle.plan.specs.Layout.{shape_of}
 use Rattle.plan.specs.Checks.{Limits, plan_error}
-use Rattle.routes.specs.Layout.{first, source, entry_count, entry_in, entries_in}
-use Rattle.routes.specs.Checks.{head_good, routes_good, good_in, error_in}
-use Rattle.routes.proofs.Sheets.{accepted_in}
-use Rattle.conversion.specs.declared.judge.Judged.{Judged}
-use Rattle.conversion.specs.Keeping.{all_kept, first_lost}
+use Rattle.routes.specs.Layout.{first, source, entries_in}
+use Rattle.routes.specs.Checks.{head_good, entries_good, routes_good, good_in, error_in}
+use Rattle.routes.proofs.Sheets.{accepted_in, put_declined}
+use Rattle.conversion.specs.declared.judge.NotConverted.{NotConverted}
+use Rattle.conversion.specs.declared.judge.NotConverted.TheVariants.{Refused, Lost}
+use Rattle.conversion.specs.Keeping.{all_kept}
 use Rattle.conversion.specs.Converting.{keep_error, converted, convert_error, lost_entry}
-use Rattle.conversion.specs.Steps.{Seen, sheet_judged, plan_judged}
+use Rattle.conversion.specs.Steps.{judged_number, judged_entry, Judged}
 use Rattle.conversion.proofs.Bytes.{same_length}
-use Rattle.conversion.proofs.Losing.{all_kept_law, some_lost}
+use Rattle.conversion.proofs.Losing.{judged_wrong}
 
-abbrev judged_as : ℕ → ℕ → Judged
-judged_as n e = record { number = n; entry = e }
-
--- A refusal names no entry.
-refused_as : (n : ℕ) (r : Judged) → (r.number ≡ n) × (r.entry ≡ 0) → r ≡ judged_as n 0
-refused_as n r e = λ i. record { number = e.0 i; entry = e.1 i }
-
+-- Of the sheet, from its head, its source and its entries.
 module _ (m : Shape) (s : List ℕ) where
-  abbrev kept : Bool
-  kept = all_kept m (source s) (entries_in first s)
+  pub wrong_sheet : (S : ℕ) → S ≡ source s → (head_good first s && is_node m S) ≡ false → Judged (good_in first m s) m (source s) s (Err (Refused WrongRouteSheet))
+  unfolding good_in routes_good
+  wrong_sheet S is h =
+      judged_wrong _ m (source s) s
+      (test (head_good first s)
+      (λ t. let node : is_node m S ≡ false = rw t at h in rw (t, ← is, node))
+      (λ t. rw t))
 
-  wrong : (r : Judged) → (r.number ≡ wrong_route_sheet) × (r.entry ≡ 0) → good_in first m s ≡ false → r ≡ sheet_judged m s
-  unfolding sheet_judged
-  wrong r e g = refused_as wrong_route_sheet r e ∙ rw g
+  pub sheet_judged :
+      (S : ℕ) → S ≡ source s → (head_good first s && is_node m S) ≡ true → (r : Result ⊤ NotConverted) → Judged (entries_good m S 0 (entries_in first s)) m S s r →
+      Judged (good_in first m s) m (source s) s r
+  unfolding good_in routes_good
+  sheet_judged S is h r j =
+      let b = and_true (head_good first s) (is_node m S) h in
+      rw (b.0, ← is, b.1) j
 
-  -- 13, by what is wrong.
-  pub wrong_head : (r : Judged) → (r.number ≡ wrong_route_sheet) × (r.entry ≡ 0) → head_good first s ≡ false → r ≡ sheet_judged m s
-  unfolding good_in
-  wrong_head r e h = wrong r e (rw h)
-
-  module _ (head : head_good first s ≡ true) (S : ℕ) (is : S ≡ source s) where
-    pub wrong_source : (r : Judged) → (r.number ≡ wrong_route_sheet) × (r.entry ≡ 0) → is_node m S ≡ false → r ≡ sheet_judged m s
-    unfolding good_in routes_good
-    wrong_source r e h = wrong r e (rw (head, ← is, h))
-
-    module _ (node : is_node m S ≡ true) (good : Bool) (lost : ℕ) (seen : Seen m S s good lost) where
-      good_is : good_in first m s ≡ good
-      unfolding good_in routes_good
-      good_is = rw (head, ← is, node) (sym seen.accepts)
-
-      pub wrong_entries : (r : Judged) → (r.number ≡ wrong_route_sheet) × (r.entry ≡ 0) → good ≡ false → r ≡ sheet_judged m s
-      wrong_entries r e h = wrong r e (good_is ∙ h)
-
-      module _ (h : good ≡ true) (n : ℕ) (count : n ≡ entry_count s) where
-        first_is : lost ≡ first_lost m (source s) (entries_in first s)
-        first_is = rw is at (seen.first h)
-
-        size : length (entries_in first s) ≡ n
-        size = from_length (entry_in first s) (entry_count s) 0 ∙ sym count
-
-        pub judged_kept : n ≤ lost → (r : Judged) → (r.number ≡ 0) × (r.entry ≡ 0) → r ≡ sheet_judged m s
-        unfolding sheet_judged
-        judged_kept k r e = refused_as 0 r e ∙ rw (good_is ∙ h, all_kept_law m (source s) (entries_in first s) (omega (arith, first_is, size)))
-
-        pub judged_lost : lost < n → judged_as entry_not_kept lost ≡ sheet_judged m s
-        unfolding sheet_judged
-        judged_lost k = rw (good_is ∙ h, some_lost m (source s) (entries_in first s) (omega (arith, first_is, size)), first_is)
-
+-- Under a plan.
 module _ (L : Limits) (p s : List ℕ) where
-  pub plan_refused : (e : ℕ) → e ≡ plan_error L p → (e ≡ 0 → ⊥) → (r : Judged) → (r.number ≡ e) × (r.entry ≡ 0) → r ≡ plan_judged L p s
-  unfolding plan_judged keep_error lost_entry error_in
-  plan_refused e q ne r k =
-      refused_as e r k ∙ rw (← q, declines e (declined (not (good_in first (shape_of p) s)) wrong_route_sheet) ne, declines e (declined (not (all_kept (shape_of p) (source s) (entries_in first s))) entry_not_kept) ne, ne_eqb e 0 ne)
+  abbrev Answers : Result ⊤ NotConverted → Type 0
+  Answers r = record { number : judged_number r ≡ keep_error L p s; entry : judged_entry r ≡ lost_entry L p s }
 
-  pub plan_accepted : plan_error L p ≡ 0 → sheet_judged (shape_of p) s ≡ plan_judged L p s
-  unfolding plan_judged sheet_judged keep_error lost_entry error_in
-  plan_accepted e = rw e (test (good_in first (shape_of p) s) (λ g. rw g) (λ g. rw g))
+  pub plan_refused : (e : Refusal) → number e ≡ plan_error L p → Answers (Err (Refused e))
+  unfolding keep_error lost_entry error_in
+  plan_refused e h =
+      let k : plan_error L p ≡ 0 → ⊥ = λ z. not_0 e (h ∙ z) in
+      record {
+        number = rw (declines (plan_error L p) (declined (not (good_in first (shape_of p) s)) wrong_route_sheet) k, declines (plan_error L p) (declined (not (all_kept (shape_of p) (source s) (entries_in first s))) entry_not_kept) k) h;
+        entry = rw (declines (plan_error L p) (declined (not (good_in first (shape_of p) s)) wrong_route_sheet) k, ne_eqb (plan_error L p) 0 k);
+      }
 
-  pub plan_judged_law : (e : ℕ) → e ≡ plan_error L p → e ≡ 0 → (m : Shape) → m ≡ shape_of p → (r : Judged) → r ≡ sheet_judged m s → r ≡ plan_judged L p s
-  plan_judged_law e q z m em r er = er ∙ rw em (plan_accepted (sym q ∙ z))
+  pub plan_judged : 0 ≡ plan_error L p → (m : Shape) → m ≡ shape_of p → (r : Result ⊤ NotConverted) → Judged (good_in first m s) m (source s) s r → Answers r
+  unfolding keep_error lost_entry error_in
+  plan_judged h m em r j =
+      let n = rw em at j.number in
+      let e = rw em at j.entry in
+      record {
+        number = rw (← h) n;
+        entry = rw (← h) (e ∙ test (good_in first (shape_of p) s) (λ g. rw g) (λ g. rw g));
+      }
 
   -- A sheet that is converted has bytes.
   pub long : keep_error L p s ≡ 0 → 0 < length s
@@ -103,20 +88,20 @@ module _ (L : Limits) (p s : List ℕ) where
       enough z = room (keep_error L p s) (converted s) o z (rw (same_length s (long z)) h) ∙ sym z
 
   -- The converter's answer, by what was judged.
-  module _ (r : Judged) (is : r ≡ plan_judged L p s) where
-    number_is : r.number ≡ keep_error L p s
-    unfolding plan_judged
-    number_is = ap (λ (j : Judged). j.number) is
+  module _ (o : List ℕ) where
+    pub record Convert (w : Result ℕ Refusal) (i : ℕ) (t : List ℕ) : Type 0 where
+      pub put : Put (convert_error L p s o) (converted s) o w t
+      pub entry : i ≡ lost_entry L p s
 
-    entry_is : r.entry ≡ lost_entry L p s
-    unfolding plan_judged
-    entry_is = ap (λ (j : Judged). j.entry) is
+    pub convert_refused : (e : Refusal) → Answers (Err (Refused e)) → Convert (Err e) 0 o
+    convert_refused e a = record { put = put_declined (keep_error L p s) (converted s) o e a.number; entry = a.entry }
 
-    pub judged_long : r.number ≡ 0 → 0 < length s
-    judged_long z = long (sym number_is ∙ z)
+    pub convert_lost : (i : ℕ) → Answers (Err (Lost i)) → Convert (Err EntryNotKept) i o
+    convert_lost i a = record { put = put_declined (keep_error L p s) (converted s) o EntryNotKept a.number; entry = a.entry }
 
-    pub convert_answer :
-        (o : List ℕ) (w : Written) (t : List ℕ) →
-        (w ≡ written (room_error r.number (converted s) o) (converted s)) × (t ≡ out_after (room_error r.number (converted s) o) (converted s) o) →
-        (w ≡ written (convert_error L p s o) (converted s)) × ((r.entry ≡ lost_entry L p s) × (t ≡ out_after (convert_error L p s o) (converted s) o))
-    convert_answer o w t put = rw (← number_is) (put.0, (entry_is, put.1))
+    module _ (u : ⊤) (a : Answers (Ok u)) where
+      pub convert_long : 0 < length s
+      convert_long = long (sym a.number)
+
+      pub convert_kept : (w : Result ℕ Refusal) (t : List ℕ) → Put (room_error 0 (converted s) o) (converted s) o w t → Convert w 0 t
+      convert_kept w t put = record { put = rw (← a.number) put; entry = a.entry }

@@ -1,9 +1,19 @@
 -- What an entry says, by the code's enum, and where its legs end.
 use Prim.Native.Nat.{ℕ, zero, suc, ◌/◌, ◌<◌}
-use mathlib.Core.Path.{◌≡◌, refl, ap, ◌∙◌}
+use mathlib.Core.Path.{◌≡◌, refl, sym, ap, ◌∙◌}
 use mathlib.Core.Bool.{Bool, true, not}
 use lib.Dec.{eqb}
+use native.Mathlib.Omega.{arith}
 use Rattle.numbers.specs.Numbers.{no_clear_choice}
+use Rattle.numbers.specs.declared.Refusal.{Refusal}
+use Rattle.numbers.specs.declared.Refusal.TheVariants.{NoClearChoice}
+use Rattle.numbers.specs.contracts.Refusal.{the_type}
+use Rattle.numbers.specs.Refusals.{number, refusal}
+use Rattle.numbers.proofs.Refusals.{refusal-number}
+use Rattle.theory.proofs.Cases.{test}
+use denote.Enum.Bare.{sameb, same_true, same_false}
+use borrow.Author.Rules.{rules}
+use borrow.Author.Tests.{ne_eqb}
 use Rattle.theory.specs.Machine.{Inside}
 use Rattle.shape.specs.declared.shape.Shape.{Shape}
 use Rattle.shape.specs.declared.shape.Coords.{Coords}
@@ -16,22 +26,30 @@ use Rattle.packet.specs.New.{legs_to}
 use Rattle.choice.specs.declared.outcome.Outcome.{Outcome}
 use Rattle.choice.specs.Answer.{Given, Refused}
 use Rattle.choice.specs.Outcome.{told_as}
+use Rattle.choice.proofs.Told.{number-refusal}
 use Rattle.routes.specs.declared.layout.Entry.{Entry}
 use Rattle.routes.specs.Said.{said_with, said_by, heard}
 use Rattle.conversion.specs.Keeping.{legs_kept, answer_kept, entry_kept}
 use Rattle.conversion.proofs.Legs.{InsideOf, Each}
 
 -- The enum says what the entry says.
-heard_with : (vias k : ℕ) (e : Entry) (n : ℕ) → heard e.dest (told_as n (said_with vias k e)) ≡ said_with vias k e
+heard_with : (vias k : ℕ) (e : Entry) (n : ℕ) → vias < 19 → heard e.dest (told_as n (said_with vias k e)) ≡ said_with vias k e
 unfolding heard told_as legs_to
-heard_with zero k e n = refl
-heard_with (suc zero) k e n = refl
-heard_with (suc (suc zero)) k e n = refl
-heard_with (suc (suc (suc vias))) k e n = refl
+heard_with zero k e n b = refl
+heard_with (suc zero) k e n b = refl
+heard_with (suc (suc zero)) k e n b = refl
+heard_with (suc (suc (suc vias))) k e n b = ap Refused (number-refusal (suc (suc (suc vias))) (omega arith) b)
 
-pub heard_said : (e : Entry) (n : ℕ) → heard e.dest (told_as n (said_by e)) ≡ said_by e
+pub heard_said : (e : Entry) (n : ℕ) → e.kind < 256 → heard e.dest (told_as n (said_by e)) ≡ said_by e
 unfolding said_by
-heard_said e n = heard_with (e.kind / 16) e.kind e n
+heard_said e n b = heard_with (e.kind / 16) e.kind e n (omega arith)
+
+-- The number by which the code tells a cause.
+pub no_clear : (r : Refusal) → sameb the_type r NoClearChoice ≡ eqb (number r) no_clear_choice
+no_clear r =
+    test (sameb the_type r NoClearChoice)
+    (λ t. let e : r ≡ NoClearChoice = same_true the_type (search rules) r NoClearChoice t in rw e)
+    (λ t. rw (t, ne_eqb (number r) no_clear_choice (λ z. same_false the_type r NoClearChoice t (sym (refusal-number r) ∙ ap refusal z))))
 
 -- The legs end at the vias and the destination.
 module _ (s : Shape) where
@@ -46,9 +64,9 @@ module _ (s : Shape) where
   inside_said e d v u = inside_with (e.kind / 16) e.kind e d v u
 
 -- What the code finds in an entry.
-module _ (s : Shape) (e : Entry) (o : Outcome) (told : o ≡ told_as 0 (said_by e)) where
+module _ (s : Shape) (e : Entry) (small : e.kind < 256) (o : Outcome) (told : o ≡ told_as 0 (said_by e)) where
   said : heard e.dest o ≡ said_by e
-  said = ap (heard e.dest) told ∙ heard_said e 0
+  said = ap (heard e.dest) told ∙ heard_said e 0 small
 
   module _ (r : Route) (n : ℕ) (given : o ≡ Outcome.Given r n) where
     legs : Given (legs_to e.dest r) ≡ said_by e
@@ -62,6 +80,6 @@ module _ (s : Shape) (e : Entry) (o : Outcome) (told : o ≡ told_as 0 (said_by 
     unfolding entry_kept answer_kept
     given_kept c k q a qa = q a qa ∙ rw (← legs)
 
-  pub refused_kept : (n : ℕ) → o ≡ Outcome.Refused n → (c : Coords) → Each s c (λ a. entry_kept s a e) (not (eqb n no_clear_choice))
+  pub refused_kept : (r : Refusal) → o ≡ Outcome.Refused r → (c : Coords) → Each s c (λ a. entry_kept s a e) (not (eqb (number r) no_clear_choice))
   unfolding entry_kept answer_kept heard
-  refused_kept n given c a qa = let is : Refused n ≡ said_by e = rw given at said in rw (← is)
+  refused_kept r given c a qa = let is : Refused (number r) ≡ said_by e = rw given at said in rw (← is)

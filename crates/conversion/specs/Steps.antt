@@ -1,5 +1,5 @@
 -- The code's own steps.
-use Rattle.std.specs.Prelude.{ℕ, ◌+◌, ◌*◌, ◌%◌, Bool, true, not, cond, ◌&&◌, ◌||◌, List, ◌≡◌, eqb, ltb}
+use Rattle.std.specs.Prelude.{ℕ, ◌+◌, ◌*◌, ◌%◌, Bool, not, cond, ◌&&◌, ◌||◌, List, ◌≡◌, eqb, ⊤, Result, Ok, Err}
 use Rattle.numbers.specs.Numbers.{wrong_route_sheet, entry_not_kept}
 use Rattle.theory.specs.Checks.{declined, ◌then◌}
 use Rattle.shape.specs.declared.shape.Shape.{Shape}
@@ -7,12 +7,11 @@ use Rattle.shape.specs.declared.shape.Coords.{Coords}
 use Rattle.shape.specs.declared.shape.Dim.{Dim}
 use Rattle.shape.specs.declared.shape.Dim.TheVariants.{X, Y, Z}
 use Rattle.shape.specs.Shape.{extent_of, wrapped_in, coord_of}
-use Rattle.plan.specs.Checks.{Limits}
-use Rattle.routes.specs.Layout.{first, source, entries_in}
-use Rattle.routes.specs.Checks.{entries_good, good_in}
-use Rattle.conversion.specs.declared.judge.Judged.{Judged}
+use Rattle.numbers.specs.Refusals.{number}
+use Rattle.routes.specs.Layout.{first, entries_in}
+use Rattle.conversion.specs.declared.judge.NotConverted.{NotConverted}
+use Rattle.conversion.specs.declared.judge.NotConverted.TheVariants.{Refused, Lost}
 use Rattle.conversion.specs.Keeping.{all_kept, first_lost}
-use Rattle.conversion.specs.Converting.{keep_error, lost_entry}
 
 -- Half a ring of len places is between p and q; and half a ring from an odd coordinate, by coordinates.
 unfoldable pub half_between : ℕ → ℕ → ℕ → Bool
@@ -24,24 +23,18 @@ odd_half_at s c t d = wrapped_in s d && (half_between (extent_of s d) (coord_of 
 unfoldable pub odd_half_of : Shape → Coords → Coords → Bool
 odd_half_of s c t = odd_half_at s c t X || (odd_half_at s c t Y || odd_half_at s c t Z)
 
--- The first entry that cannot be kept after entry number i, of n; n while there is none.
-unfoldable pub lost_after : ℕ → ℕ → ℕ → Bool → ℕ
-lost_after lost n i kept = cond (ltb lost n) lost (cond kept n i)
+-- Why a sheet is not converted, as a number, 0 where it is; and the entry that is named, else 0.
+abbrev pub judged_number : {A : Type 0} → Result A NotConverted → ℕ
+judged_number (Ok a) = 0
+judged_number (Err (Refused e)) = number e
+judged_number (Err (Lost i)) = entry_not_kept
 
--- What one pass over the entries tells: whether check 13 accepts them, and then the first that cannot be kept.
-pub record Seen (m : Shape) (S : ℕ) (s : List ℕ) (good : Bool) (lost : ℕ) : Type 0 where
-  pub accepts : good ≡ entries_good m S 0 (entries_in first s)
-  pub first : good ≡ true → lost ≡ first_lost m S (entries_in first s)
+abbrev pub judged_entry : {A : Type 0} → Result A NotConverted → ℕ
+judged_entry (Ok a) = 0
+judged_entry (Err (Refused e)) = 0
+judged_entry (Err (Lost i)) = i
 
--- What is judged of a sheet, by itself and under a plan.
-unfoldable pub sheet_judged : Shape → List ℕ → Judged
-sheet_judged m s =
-    let good = good_in first m s in
-    let kept = all_kept m (source s) (entries_in first s) in
-    record {
-      number = declined (not good) wrong_route_sheet then declined (not kept) entry_not_kept;
-      entry = cond (good && not kept) (first_lost m (source s) (entries_in first s)) 0;
-    }
-
-unfoldable pub plan_judged : Limits → List ℕ → List ℕ → Judged
-plan_judged L p s = record { number = keep_error L p s; entry = lost_entry L p s }
+-- What is judged of the entries of a sheet from the source S: 13 where it is not good, then 17, with the first that cannot be kept.
+pub record Judged (good : Bool) (m : Shape) (S : ℕ) (s : List ℕ) (r : Result ⊤ NotConverted) : Type 0 where
+  pub number : judged_number r ≡ (declined (not good) wrong_route_sheet then declined (not (all_kept m S (entries_in first s))) entry_not_kept)
+  pub entry : judged_entry r ≡ cond (good && not (all_kept m S (entries_in first s))) (first_lost m S (entries_in first s)) 0

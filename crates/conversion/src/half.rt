@@ -3,7 +3,6 @@ ghost use Rattle.std.specs.Prelude.{◌≡◌};
 ghost use Rattle.conversion.specs.Steps.{half_between, odd_half_at, odd_half_of};
 
 use logic::{both, either};
-use shape::shape::{coord, extent, wrapped};
 use shape::{Coords, Dim, Shape};
 
 // Whether half a ring of `len` places is between p and q: without a branch, since places cannot be foretold.
@@ -19,9 +18,9 @@ fn is_half(len: u8, p: u8, q: u8) -> bool
 fn odd_half_along(shape: Shape, at: Coords, to: Coords, d: Dim) -> bool
     ensures { result ≡ odd_half_at shape at to d }
 {
-    let p = coord(at, d);
-    let half = is_half(extent(shape, d), p, coord(to, d));
-    both(wrapped(shape, d), both(half, p % 2 == 1))
+    let p = at.coord(d);
+    let half = is_half(shape.extent(d), p, to.coord(d));
+    both(shape.wrapped(d), both(half, p % 2 == 1))
 }
 
 // In some dimension.

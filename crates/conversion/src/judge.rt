@@ -2,41 +2,35 @@
 ghost use Rattle.std.specs.Prelude.{true, ◌≡◌};
 ghost use Rattle.plan.specs.Checks.{large};
 ghost use Rattle.machine.specs.Node.{is_node};
-ghost use Rattle.routes.specs.Layout.{first, entry_in};
-ghost use Rattle.routes.specs.Checks.{head_good};
-ghost use Rattle.conversion.specs.Steps.{lost_after, Seen, sheet_judged, plan_judged};
+ghost use Rattle.routes.specs.Layout.{first, source, entry_in, entries_in};
+ghost use Rattle.routes.specs.Checks.{head_good, entries_good, good_in};
+ghost use Rattle.conversion.specs.declared.judge.NotConverted.TheVariants.{Refused};
+ghost use Rattle.conversion.specs.Converting.{keep_error, lost_entry};
+ghost use Rattle.conversion.specs.Steps.{judged_number, judged_entry, Judged};
 
 use crate::keep::entry_kept;
+use logic::both;
 use machine::node::{coords, is_node};
-use numbers::{ENTRY_NOT_KEPT, WRONG_ROUTE_SHEET};
+use numbers::Refusal;
 use plan::layout::shape_in;
 use routes::Entry;
-use routes::checks::{head_good, next_good};
+use routes::checks::{Origin, head_good};
 use routes::layout::{FIRST_VERSION, count_in, entry_by, one_via, source_in};
 use shape::Shape;
 
-// The number, 0 where none declines; and with 17 the number of the first entry that cannot be kept, else 0.
+// Why a sheet is not converted: the cause for which it is declined; or, with 17, the number, from 0, of the first entry that cannot be kept.
 #[derive(Clone, Copy)]
-pub struct Judged {
-    pub number: u8,
-    pub entry: u16,
+pub enum NotConverted {
+    Refused(Refusal),
+    Lost(u16),
 }
 
-// Of all entries: whether check 13 accepts them; and then the number of the first that cannot be kept, how many there are where all can.
-#[derive(Clone, Copy)]
-struct Entries {
-    good: bool,
-    lost: u16,
-}
+impl From<Refusal> for NotConverted {
+    ghost from_gives = { λ e r. r ≡ Refused e };
 
-// The first entry that cannot be kept, with entry number i. `lost` is `count` while there is none.
-fn lost_after(lost: u16, count: u16, i: u16, kept: bool) -> u16
-    ensures { result ≡ lost_after lost count i kept }
-{
-    if lost < count {
-        return lost;
+    fn from(refusal: Refusal) -> NotConverted {
+        NotConverted::Refused(refusal)
     }
-    if kept { count } else { i }
 }
 
 // The head of a sheet of version 1, and its entry number i.
@@ -52,72 +46,45 @@ fn old_entry(sheet: &[u8], i: u16) -> Entry
     entry_by(sheet, one_via(FIRST_VERSION), i)
 }
 
-// In one pass.
-fn see_entries(sheet: &[u8], shape: Shape, source: u16) -> Entries
+// The entries, in one pass. One that check 13 declines comes before one that cannot be kept.
+fn judge_entries(sheet: &[u8], shape: Shape, source: u16) -> Result<(), NotConverted>
     requires { is_node shape source ≡ true }
-    ensures { Seen shape source sheet.now result.good result.lost }
+    ensures { Judged (entries_good shape source 0 (entries_in first sheet.now)) shape source sheet.now result }
 {
+    let origin = Origin { shape, source };
     let at = coords(shape, source);
-    let count = count_in(sheet);
-    let mut lost = count;
+    let mut lost = None;
     let mut least: u32 = 0;
-    let mut i: u16 = 0;
-    while i < count {
+    for i in 0..count_in(sheet) {
         let e = old_entry(sheet, i);
-        if !next_good(shape, source, least, e) {
-            return Entries {
-                good: false,
-                lost: 0,
-            };
+        if !origin.next_good(least, e) {
+            return Err(NotConverted::Refused(Refusal::WrongRouteSheet));
         }
-        lost = lost_after(lost, count, i, entry_kept(shape, at, e));
+        if !entry_kept(shape, at, e) {
+            lost = lost.or(Some(i));
+        }
         least = (e.dest as u32) + 1;
-        i = i + 1;
     }
-    Entries {
-        good: true,
-        lost: lost,
-    }
-}
-
-fn refused(number: u8) -> Judged
-    ensures { (result.number ≡ number) × (result.entry ≡ 0) }
-{
-    Judged {
-        number: number,
-        entry: 0,
+    match lost {
+        None => Ok(()),
+        Some(i) => Err(NotConverted::Lost(i)),
     }
 }
 
-fn judge_sheet(shape: Shape, sheet: &[u8]) -> Judged
-    ensures { result ≡ sheet_judged shape sheet.now }
+fn judge_sheet(shape: Shape, sheet: &[u8]) -> Result<(), NotConverted>
+    ensures { Judged (good_in first shape sheet.now) shape (source sheet.now) sheet.now result }
 {
-    if !old_head(sheet) {
-        return refused(WRONG_ROUTE_SHEET);
-    }
     let source = source_in(sheet);
-    if !is_node(shape, source) {
-        return refused(WRONG_ROUTE_SHEET);
+    if !both(old_head(sheet), is_node(shape, source)) {
+        return Err(NotConverted::Refused(Refusal::WrongRouteSheet));
     }
-    let seen = see_entries(sheet, shape, source);
-    if !seen.good {
-        return refused(WRONG_ROUTE_SHEET);
-    }
-    if count_in(sheet) <= seen.lost {
-        return refused(0);
-    }
-    Judged {
-        number: ENTRY_NOT_KEPT,
-        entry: seen.lost,
-    }
+    judge_entries(sheet, shape, source)
 }
 
-pub fn judge(plan: &[u8], sheet: &[u8]) -> Judged
-    ensures { result ≡ plan_judged large plan.now sheet.now }
+pub fn judge(plan: &[u8], sheet: &[u8]) -> Result<(), NotConverted>
+    ensures number { judged_number result ≡ keep_error large plan.now sheet.now }
+    ensures entry { judged_entry result ≡ lost_entry large plan.now sheet.now }
 {
-    let error = plan::check(plan);
-    if error != 0 {
-        return refused(error);
-    }
+    plan::check(plan)?;
     judge_sheet(shape_in(plan), sheet)
 }

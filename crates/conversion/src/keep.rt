@@ -14,7 +14,7 @@ use choice::Outcome;
 use logic::both;
 use machine::leg::Mode;
 use machine::node::coords;
-use numbers::NO_CLEAR_CHOICE;
+use numbers::Refusal;
 use packet::Route;
 use routes::Entry;
 use routes::kinds::outcome_by;
@@ -31,7 +31,7 @@ fn leg_kept(mode: Mode, shape: Shape, at: Coords, target: u16) -> bool
     }
 }
 
-// A later leg alone, from its own start.
+// A later leg alone, from its own start: apart from `leg_kept` for speed, since an adaptive leg asks for no coordinates.
 fn second_kept(mode: Mode, shape: Shape, via: u16, dest: u16) -> bool
     requires via_value { is_node shape via ≡ true }
     requires dest_value { is_node shape dest ≡ true }
@@ -92,6 +92,6 @@ pub fn entry_kept(shape: Shape, at: Coords, e: Entry) -> bool
 {
     match outcome_by(e, 0) {
         Outcome::Given(route, _) => route_kept(shape, at, e.dest, route),
-        Outcome::Refused(number) => number != NO_CLEAR_CHOICE,
+        Outcome::Refused(refusal) => refusal != Refusal::NoClearChoice,
     }
 }

@@ -6,41 +6,38 @@ mod reading;
 mod say;
 mod tally;
 
+use crate::job::NotDone;
+use crate::tally::Tally;
 use plan_input::PLAN_BYTES;
-use program::argument::PATH_BYTES;
-use program::input::read_full;
-use program::say::cannot_read;
-use program::{argument, file};
+use program::argument::{self, PATH_BYTES};
+use program::file::read_front;
 use std::rt::Files;
-use text::part::front;
 
 // The plan sheet of a file, for the route sheets of another.
-fn from_files(rt: &(impl Files + Print), plan: &[u8], old: &[u8], out: &[u8]) {
-    let Some(mut file) = file::open(rt, plan) else {
-        cannot_read(rt, plan);
-        return;
-    };
+fn from_files<'a>(
+    rt: &(impl Files + AllocGlobal),
+    plan: &'a [u8],
+    old: &'a [u8],
+    out: &'a [u8],
+) -> Result<Tally, NotDone<'a>> {
     let mut sheet = [0u8; PLAN_BYTES];
-    let size = read_full(&mut file, &mut sheet);
-    drop(file);
-    job::convert_sheets(rt, &sheet, size, old, out);
+    let size = read_front(rt, plan, &mut sheet)?;
+    job::convert_sheets(rt, &sheet, size, old, out)
 }
 
 fn main(rt: HostRuntime) {
     let mut plan = [0u8; PATH_BYTES];
-    let plan_length = argument::read(&rt, 1, &mut plan);
     let mut old = [0u8; PATH_BYTES];
-    let old_length = argument::read(&rt, 2, &mut old);
     let mut out = [0u8; PATH_BYTES];
-    let out_length = argument::read(&rt, 3, &mut out);
-    if plan_length == 0 || old_length == 0 || out_length == 0 || argument::is_there(&rt, 4) {
-        say::usage(&rt);
-        return;
+    let plan = argument::read(&rt, 1, &mut plan);
+    let old = argument::read(&rt, 2, &mut old);
+    let out = argument::read(&rt, 3, &mut out);
+    match (plan, old, out, argument::is_there(&rt, 4)) {
+        (Some(plan), Some(old), Some(out), false) => match from_files(&rt, plan, old, out) {
+            Ok(tally) => say::done(&rt, tally),
+            Err(NotDone::Failed(failure)) => program::say::failed(&rt, failure),
+            Err(NotDone::Declined(tally, lost)) => say::declined(&rt, tally, lost),
+        },
+        _ => say::usage(&rt),
     }
-    from_files(
-        &rt,
-        front(&plan, plan_length),
-        front(&old, old_length),
-        front(&out, out_length),
-    );
 }

@@ -1,5 +1,5 @@
 // Reading the sheets of a file, one behind the other. Each says its own length.
-ghost use Rattle.std.specs.Prelude.{◌+◌, ◌≤◌, length};
+ghost use Rattle.std.specs.Prelude.{◌≤◌, length};
 
 use program::input::read_full;
 use sheet::word_at;
@@ -8,23 +8,24 @@ use std::io::Read;
 // The bytes of the longest sheet that a length field can say.
 pub const SHEET_BYTES: usize = 65538;
 
-// `size` bytes behind the head's three. Answers how many bytes there are in all.
-fn read_behind(file: &mut impl Read, sheet: &mut [u8], size: usize) -> usize
-    requires { 3 + size ≤ length sheet.old }
+// Reads the next sheet, or what there is of it, and answers how many bytes there are: 3 of its head, and those behind it.
+fn read_next(file: &mut impl Read, room: &mut [u8; SHEET_BYTES]) -> usize
+    ensures { result ≤ 65538 }
 {
-    let room = &mut sheet[3..3 + size];
-    3 + read_full(file, room)
-}
-
-// The next sheet, or what there is of it; 0 where the file ends.
-pub fn read_sheet(file: &mut impl Read, sheet: &mut [u8]) -> usize
-    requires { 65538 ≤ length sheet.old }
-{
-    let head = read_full(file, &mut sheet[..3]);
+    let head = read_full(file, &mut room[..3]);
     if head < 3 {
         return head;
     }
-    read_behind(file, sheet, word_at(sheet, 1))
+    let behind = word_at(room, 1);
+    3 + read_full(file, &mut room[3..3 + behind])
+}
+
+// The next sheet, or what there is of it; no bytes where the file ends.
+pub fn read_sheet<'a>(file: &mut impl Read, room: &'a mut [u8; SHEET_BYTES]) -> &'a [u8]
+    ensures { length result.now ≤ 65538 }
+{
+    let size = read_next(file, room);
+    &room[..size]
 }
 
 // Whether the file was read to its end: a read that failed looks like an end before.

@@ -1,40 +1,42 @@
 // What the program says of its own.
 use crate::tally::{Lost, Tally};
-use numbers::ENTRY_NOT_KEPT;
-use program::say::{number, text};
+use std::fmt;
 
 pub fn usage(rt: &impl Print) {
-    text(rt, b"usage: convert PLAN OLD OUT\n");
-}
-
-fn counts(rt: &impl Print, tally: Tally, before: &[u8], behind: &[u8]) {
-    number(rt, before, tally.kept as u64);
-    number(rt, b" of ", tally.sheets as u64);
-    text(rt, behind);
+    let _ = println!(rt; "usage: convert PLAN OLD OUT");
 }
 
 pub fn done(rt: &impl Print, tally: Tally) {
-    counts(rt, tally, b"", b" sheets converted\n");
+    let Tally { sheets, kept, .. } = tally;
+    let _ = println!(rt; "{kept} of {sheets} sheets converted");
 }
 
 // Which sheet it is that cannot be converted; with 17, by which entry.
-fn name(rt: &impl Print, lost: Lost) {
-    number(rt, b"the first that cannot is sheet ", lost.place as u64);
-    if lost.number == ENTRY_NOT_KEPT {
-        number(rt, b", of board ", lost.source as u64);
-        number(rt, b", by its entry of kind ", lost.kind as u64);
-        number(rt, b" to board ", lost.dest as u64);
+impl fmt::Display for Lost {
+    fn fmt<W: fmt::Write>(&self, f: &mut fmt::Formatter<W>) -> fmt::Result {
+        match *self {
+            Lost::Declined(place, _) => write!(f, "sheet {place}"),
+            Lost::NotKept {
+                place,
+                source,
+                kind,
+                dest,
+            } => write!(
+                f,
+                "sheet {place}, of board {source}, by its entry of kind {kind} to board {dest}"
+            ),
+        }
     }
 }
 
-pub fn refused(rt: &impl Print, tally: Tally) {
-    let lost = tally.lost;
-    number(rt, b"refused ", lost.number as u64);
-    if tally.sheets == 0 {
-        text(rt, b": there is no sheet\n");
+pub fn declined(rt: &impl Print, tally: Tally, lost: Lost) {
+    let number = lost.refusal().number();
+    let Tally { sheets, kept, .. } = tally;
+    if sheets == 0 {
+        let _ = println!(rt; "refused {number}: there is no sheet");
         return;
     }
-    counts(rt, tally, b": ", b" sheets can be converted, ");
-    name(rt, lost);
-    text(rt, b"\n");
+    let _ = println!(rt;
+        "refused {number}: {kept} of {sheets} sheets can be converted, the first that cannot is {lost}"
+    );
 }

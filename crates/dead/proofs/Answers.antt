@@ -17,24 +17,22 @@ use Rattle.plan.specs.Checks.{Limits, plan_error, fault_exists}
 use Rattle.plan.specs.Reading.{is_plan}
 use Rattle.plan.proofs.Readings.{is_plan_law, is_no_plan}
 use Rattle.dead.specs.Dead.{dead_link, link_answer}
-use Rattle.dead.specs.Steps.{any_names, Marks, mark_bit, mark_link, mark_from, mark_fault}
+use Rattle.dead.specs.Steps.{any_names, mark_bit, mark_link, mark_from, mark_fault}
 use Rattle.dead.proofs.Links.{opposite_low}
-use Rattle.dead.proofs.Table.{node_below, next_below, bit_marks}
+use Rattle.dead.proofs.Table.{next_below}
 
 -- ---- a link marked at both its ends
 module _ (s : Shape) (n d : ℕ) (h : is_node s n ≡ true) where
-  module _ (u : List ℕ) (q o : ℕ) (eq : q ≡ N.neighbour_answer s n d) (eo : o ≡ opposite d) where
+  module _ (q o : ℕ) (eq : q ≡ N.neighbour_answer s n d) (eo : o ≡ opposite d) where
     other_end : q ≡ neighbour s n d
     other_end = eq ∙ rw h
 
-    pub second_mark : (t : List ℕ) → u ≡ mark_bit t n d → Marks t → d ≤ 5 → Marks u × ((q < 4096) × (o ≤ 5))
-    second_mark t eu m k =
-        let x = node_of s n h in
-        (rw eu (bit_marks t n d m (node_below s n x) k), (rw other_end (next_below s n x d), rw eo (opposite_low d k)))
+    pub other_below : d ≤ 5 → (q < 4096) × (o ≤ 5)
+    other_below k = (rw other_end (next_below s n (node_of s n h) d), rw eo (opposite_low d k))
 
-    pub marked : (t w : List ℕ) → u ≡ mark_bit t n d → w ≡ mark_bit u q o → (r : Bool) → r ≡ N.link_answer s n d → r ≡ true → w ≡ mark_link s t n d
+    pub marked : (u t w : List ℕ) → u ≡ mark_bit t n d → w ≡ mark_bit u q o → (r : Bool) → r ≡ N.link_answer s n d → r ≡ true → w ≡ mark_link s t n d
     unfolding mark_link
-    marked t w eu ew r er yes-link =
+    marked u t w eu ew r er yes-link =
         let l = (and_true (is_node s n) (link s n d) (sym er ∙ yes-link)).1 in
         ew ∙ rw (eu, other_end, eo, l)
 

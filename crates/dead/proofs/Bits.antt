@@ -3,12 +3,14 @@ use Prim.Native.Nat.{ℕ, zero, suc, ◌+◌, ◌*◌, ◌/◌, ◌%◌, ◌^◌
 use native.Mathlib.Omega.{arith}
 use native.Mathlib.Nat.{zero-div, div-one, div-div-eq-div-mul, pow-suc, mul_comm, mul-add}
 use mathlib.Core.Path.{◌≡◌, refl, sym, ap, ◌∙◌}
-use mathlib.Core.Bool.{Bool, true, false, cond, ◌||◌}
+use mathlib.Core.Bool.{Bool, true, false, cond, ◌&&◌, ◌||◌}
 use mathlib.Core.List.{List, [], ◌∷◌}
 use lib.ListN.{length, get_or, set}
 use lib.Dec.{eqb, lit≤}
-use borrow.Author.Tests.{eq-eqb, ne_eqb, eqb-false}
-use Rattle.theory.proofs.Cases.{test}
+use lib.Bits.{bit_or}
+use borrow.Author.Tests.{eq-eqb, ne_eqb, eqb-true, eqb-false}
+use Rattle.theory.proofs.Bools.{and_true}
+use Rattle.theory.proofs.Cases.{test, by_le}
 use Rattle.dead.specs.Dead.{bit_of, value_of, bits}
 use Rattle.dead.specs.Steps.{odd, with_bit}
 use Rattle.dead.proofs.Bools.{or_on, or_off}
@@ -108,22 +110,24 @@ with_small v d h =
     (within v 32 h (λ n. omega arith))
     d
 
--- The code's table of powers, and its test.
-pub power : (d : ℕ) → d ≤ 5 → let p = get_or {A = ℕ} (1 ∷ 2 ∷ 4 ∷ 8 ∷ 16 ∷ 32 ∷ []) d 0 in (p ≡ 2 ^ d) × (0 < p) × (p ≤ 32)
-power =
-    by_six (λ d. let p = get_or {A = ℕ} (1 ∷ 2 ∷ 4 ∷ 8 ∷ 16 ∷ 32 ∷ []) d 0 in (p ≡ 2 ^ d) × (0 < p) × (p ≤ 32))
-    (refl, lit≤ tt, lit≤ tt)
-    (refl, lit≤ tt, lit≤ tt)
-    (refl, lit≤ tt, lit≤ tt)
-    (refl, lit≤ tt, lit≤ tt)
-    (refl, lit≤ tt, lit≤ tt)
-    (refl, lit≤ tt, lit≤ tt)
+-- A byte with one of six bits set: by a test of each.
+unfoldable all_to : (ℕ → Bool) → ℕ → Bool
+all_to f zero = true
+all_to f (suc n) = f n && all_to f n
 
-module _ (v d b : ℕ) (e : b ≡ 2 ^ d) where
-  pub is_set : v / b % 2 ≡ 1 → v ≡ with_bit v d
-  unfolding with_bit
-  is_set h = rw (← e, eq-eqb (v / b % 2) 1 h)
+all_below : (f : ℕ → Bool) (n : ℕ) → all_to f n ≡ true → (k : ℕ) → k < n → f k ≡ true
+unfolding all_to
+all_below f zero e k l = absurd (omega arith)
+all_below f (suc n) e k l = by_le n k
+    (λ h. let q : k ≡ n = omega arith in rw q (and_true (f n) _ e).0)
+    (λ h. all_below f n (and_true (f n) _ e).1 k h)
 
-  pub is_unset : (v / b % 2 ≡ 1 → ⊥) → v + b ≡ with_bit v d
-  unfolding with_bit
-  is_unset h = rw (← e, ne_eqb (v / b % 2) 1 h)
+abbrev is_or : ℕ → ℕ → Bool
+is_or d v = eqb (bit_or v (1 * 2 ^ d % 256)) (with_bit v d)
+
+ors_are : (d : ℕ) → d ≤ 5 → all_to (is_or d) 256 ≡ true
+unfolding all_to with_bit
+ors_are = by_six (λ d. all_to (is_or d) 256 ≡ true) refl refl refl refl refl refl
+
+pub or_is : (v d : ℕ) → v < 256 → d ≤ 5 → bit_or v (1 * 2 ^ d % 256) ≡ with_bit v d
+or_is v d h k = eqb-true (bit_or v (1 * 2 ^ d % 256)) (with_bit v d) (all_below (is_or d) 256 (ors_are d k) v h)

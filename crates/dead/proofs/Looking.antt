@@ -1,37 +1,21 @@
--- A loop over the faults of a sheet that looks for one that is such.
-use Prim.Native.Nat.{ℕ, ◌+◌, ◌-◌, ◌≤◌, ◌<◌}
-use native.Mathlib.Omega.{arith}
-use mathlib.Core.Path.{◌≡◌, sym, ap, ◌∙◌}
-use mathlib.Core.Bool.{Bool, true, false, ◌||◌}
+-- Whether some fault of a sheet is such, by the numbers of its faults.
+use Prim.Native.Nat.{ℕ, zero, suc}
+use native.Mathlib.Numerals.{add-one}
+use mathlib.Core.Path.{◌≡◌, refl, ap}
+use mathlib.Core.Bool.{Bool, ◌||◌}
 use mathlib.Core.List.{List}
+use Rattle.std.specs.List.{list_any, range_with_len}
 use Rattle.sheet.specs.Bytes.{list_from}
-use Rattle.sheet.proofs.Records.{from_cons, from_none}
 use Rattle.plan.specs.declared.layout.Fault.{Fault}
 use Rattle.plan.specs.Layout.{fault_count, fault_at, faults_of}
 use Rattle.dead.specs.Dead.{some}
 
-pub record Looking (such : Fault → Bool) (s : List ℕ) (n i : ℕ) : Type 0 where
-  pub count : n ≡ fault_count s
-  pub within : i ≤ n
-  pub rest : some such (faults_of s) ≡ some such (list_from (fault_at s) i (n - i))
+module _ (such : Fault → Bool) (s : List ℕ) where
+  some_from : (n i : ℕ) → list_any (λ k. such (fault_at s k)) (range_with_len i n) ≡ some such (list_from (fault_at s) i n)
+  unfolding some list_from
+  some_from zero i = refl
+  some_from (suc n) i = ap (λ r. such (fault_at s i) || r) (rw (add-one i) (some_from n (suc i)))
 
-module _ (such : Fault → Bool) (s : List ℕ) (n : ℕ) where
-  pub begin : n ≡ fault_count s → Looking such s n 0
+  pub some_fault : (r : Bool) (n : ℕ) → r ≡ list_any (λ k. such (fault_at s k)) (range_with_len 0 n) → n ≡ fault_count s → r ≡ some such (faults_of s)
   unfolding faults_of
-  begin e = record { count = e; within = omega arith; rest = let z : n - 0 ≡ fault_count s = omega arith in rw z }
-
-  module _ (i : ℕ) (g : Looking such s n i) where
-    pub ended : n ≤ i → false ≡ some such (faults_of s)
-    unfolding some
-    ended h = sym (g.rest ∙ ap (some such) (from_none (fault_at s) i n h))
-
-    module _ (f : Fault) (e : f ≡ fault_at s i) (h : i < n) where
-      turn : some such (faults_of s) ≡ (such f || some such (list_from (fault_at s) (i + 1) (n - (i + 1))))
-      unfolding some
-      turn = g.rest ∙ ap (some such) (from_cons (fault_at s) i n h) ∙ rw e
-
-      pub found : such f ≡ true → true ≡ some such (faults_of s)
-      found x = sym (turn ∙ rw x)
-
-      pub onward : such f ≡ false → Looking such s n (i + 1)
-      onward x = record { count = g.count; within = omega arith; rest = turn ∙ rw x }
+  some_fault r n e q = rw (← q, e) (some_from n 0)

@@ -12,13 +12,11 @@ pub fn dead_masks(sheet: &[u8]) -> [u8; 4096]
     ensures { (n : ℕ) → get_or result n 0 ≡ mask_answer large sheet.now n }
 {
     let mut masks = [0u8; 4096];
-    if check(sheet) != 0 {
+    if check(sheet).is_err() {
         return masks;
     }
     let shape = shape_in(sheet);
-    let mut i = count_in(sheet);
-    while 0 < i {
-        i = i - 1;
+    for i in (0..count_in(sheet)).rev() {
         mark_fault(&mut masks, shape, fault_in(sheet, i));
     }
     masks

@@ -13,45 +13,28 @@ use plan::layout::{count_in, fault_in, shape_in};
 fn node_in(sheet: &[u8], node: u16) -> bool
     ensures { result ≡ dead_node (faults_of sheet.now) node }
 {
-    let count = count_in(sheet);
-    let mut i: u16 = 0;
-    while i < count {
-        if names_node(fault_in(sheet, i), node) {
-            return true;
-        }
-        i = i + 1;
-    }
-    false
+    (0..count_in(sheet)).any(|i| names_node(fault_in(sheet, i), node))
 }
 
 fn link_in(sheet: &[u8], node: u16, dir: u8, to: u16) -> bool
     ensures { result ≡ any_names (faults_of sheet.now) node dir to }
 {
-    let count = count_in(sheet);
-    let mut i: u16 = 0;
-    while i < count {
-        if names(fault_in(sheet, i), node, dir, to) {
-            return true;
-        }
-        i = i + 1;
-    }
-    false
+    (0..count_in(sheet)).any(|i| names(fault_in(sheet, i), node, dir, to))
 }
 
 pub fn is_dead_node(sheet: &[u8], node: u16) -> bool
     ensures { result ≡ node_answer large sheet.now node }
 {
-    if check(sheet) == 0 {
-        node_in(sheet, node)
-    } else {
-        false
+    if check(sheet).is_err() {
+        return false;
     }
+    node_in(sheet, node)
 }
 
 pub fn is_dead_link(sheet: &[u8], node: u16, dir: u8) -> bool
     ensures { result ≡ link_answer large sheet.now node dir }
 {
-    if check(sheet) != 0 {
+    if check(sheet).is_err() {
         return false;
     }
     let shape = shape_in(sheet);

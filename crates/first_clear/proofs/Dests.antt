@@ -25,7 +25,7 @@ use Rattle.choice_number.specs.Note.{over_of}
 use Rattle.notes.specs.Known.{is_clear, IsAt, FromSet, PartTo, ToEnd}
 use Rattle.notes.proofs.Knowing.{weights_ok, shape_ok, part_of}
 use Rattle.notes.proofs.Destination.{length_is_law, gathered_at, small_at}
-use Rattle.first_clear.specs.Known.{route_told, is_given, Near, Reaching, FarSets, FarLost}
+use Rattle.first_clear.specs.Known.{route_told, Near, Reaching, FarSets, FarLost}
 
 -- Whether a node is in a set, by its coordinates.
 pub member :
@@ -36,13 +36,6 @@ member p s v c rows at b h es l ec is =
     let e : c ≡ coords_of (shape_of p) v = ec ∙ rw (es, below_node (shape_of p) (shape_ok p h) v l) refl in
     let k = small_at p v c h (record { node = l; at = e }) in
     is k.0 k.1 k.2 ∙ ap (in_rows rows at) e
-
--- ---- the answer of the steps on the shortest ways, or else that of the last
-pub first_given : (p : List ℕ) (S D : ℕ) (r : Outcome) (b : Bool) → Near p S D r → b ≡ is_given r → b ≡ true → r ≡ route_told p S D
-first_given p S D r b n e t = n.given (sym e ∙ t)
-
-pub none_given : (p : List ℕ) (S D : ℕ) (r : Outcome) (b : Bool) → Near p S D r → b ≡ is_given r → b ≡ false → is_clear p Deterministic S D ≡ false
-none_given p S D r b n e t = n.none (sym e ∙ t)
 
 -- The places of every second via that may be better than the note.
 pub near_known :
@@ -55,15 +48,15 @@ near_known p w s S D a t h ew es from to note over bx by bz eo near =
 module _ (p : List ℕ) (w : Weights) (s : Shape) (work : List ℕ) (S D : ℕ) (a t : Coords) (fa : List ℕ) (note : ℕ) (notes : List ℕ)
     (g : FarSets p w s work S D a t fa note notes) where
   pub sets_reaching :
-      (over bx by bz : ℕ) → over ≡ over_of note → (askable w s a t 512 0 ≡ true → NearWays w s a t over bx by bz) → (len : ℕ) → len ≡ distance_word w s a t →
-      Reaching p w s S D len a t bx by bz fa note work (512 * D) notes
-  sets_reaching over bx by bz eo near len el = record {
+      (over bx by bz : ℕ) → over ≡ over_of note → (askable w s a t 512 0 ≡ true → NearWays w s a t over bx by bz) →
+      Reaching p w s S D (distance_word w s a t) a t bx by bz fa note work (512 * D) notes
+  sets_reaching over bx by bz eo near = record {
     apart = record {
       plan = g.plan;
       shape = g.shape;
       source = g.source.node;
       target = g.target.node;
-      distance = length_is_law p w s S D a t len g.plan g.weights g.shape g.source g.target el;
+      distance = length_is_law p w s S D a t (distance_word w s a t) g.plan g.weights g.shape g.source g.target refl;
       direct = g.direct;
     };
     weights = g.weights;
@@ -91,14 +84,14 @@ module _ (p : List ℕ) (w : Weights) (s : Shape) (words : List ℕ) (count : �
 
   pub far_reaching :
       (over bx by bz : ℕ) → over ≡ over_of note → (askable w s a t 512 0 ≡ true → NearWays w s a t over bx by bz) → (run : List ℕ) → PartTo p D bx by bz run 0 →
-      (len : ℕ) → len ≡ distance_word w s a t → Reaching p w s S D len a t bx by bz fa note run 0 notes
-  far_reaching over bx by bz eo near run both len el = record {
+      Reaching p w s S D (distance_word w s a t) a t bx by bz fa note run 0 notes
+  far_reaching over bx by bz eo near run both = record {
     apart = record {
       plan = g.of_plan.plan;
       shape = g.of_plan.shape;
       source = g.source.node;
       target = g.target.node;
-      distance = length_is_law p w s S D a t len g.of_plan.plan g.weights g.of_plan.shape g.source g.target el;
+      distance = length_is_law p w s S D a t (distance_word w s a t) g.of_plan.plan g.weights g.of_plan.shape g.source g.target refl;
       direct = g.direct;
     };
     weights = g.weights;

@@ -1,10 +1,13 @@
 -- The steps on the shortest ways give the route, or that the direct deterministic leg is not clear.
 use Prim.Native.Nat.{ℕ, ◌+◌, ◌/◌, ◌%◌, ◌≤◌, ◌<◌}
 use native.Mathlib.Omega.{arith}
-use mathlib.Core.Path.{◌≡◌, sym, ap, ◌∙◌}
-use mathlib.Core.Bool.{Bool, true, false, true≢false}
+use mathlib.Core.Path.{◌≡◌, refl, sym, ap, ◌∙◌}
+use mathlib.Core.Bool.{Bool, true, false}
 use mathlib.Core.List.{List, [], ◌∷◌}
+use borrow.Author.Tests.{lt-ltb, le-ltb}
+use Rattle.std.specs.Prelude.{Option, Some, None}
 use Rattle.theory.specs.Machine.{sum_by}
+use Rattle.theory.proofs.Cases.{by_le}
 use Rattle.shape.specs.declared.shape.Shape.{Shape}
 use Rattle.shape.specs.Shape.{shape_error}
 use Rattle.machine.specs.declared.leg.Mode.TheVariants.{Adaptive, Deterministic}
@@ -25,7 +28,7 @@ use Rattle.choice_number.proofs.TwoShort as Short
 use Rattle.choice_number.proofs.Answers.{one_answer}
 use Rattle.notes.specs.Known.{is_clear}
 use Rattle.notes.proofs.Knowing.{shape_ok}
-use Rattle.first_clear.specs.Known.{route_told, is_given, Near, Nearing}
+use Rattle.first_clear.specs.Known.{route_told, via_route, Near, Nearing}
 use Rattle.first_clear.proofs.Own.{told_by, no_via}
 
 module _ (p : List ℕ) (s : Shape) (S D len : ℕ) (fa : List ℕ) (straight : Bool) (note pair : ℕ) (g : Nearing p s S D len fa straight note pair) where
@@ -71,8 +74,32 @@ module _ (p : List ℕ) (s : Shape) (S D len : ℕ) (fa : List ℕ) (straight : 
         (Short.above_short (far_in p) (shape_of p) F ok (sound_in p) S D h_s h_d g.apart.direct no_one (not_straight e) none_two note low)
         len g.apart.distance first (λ _. ef)
 
-pub given_near : (p : List ℕ) (S D : ℕ) (r : Outcome) → is_given r ≡ true → r ≡ route_told p S D → Near p S D r
-given_near p S D r e is = record { given = λ _. is; none = λ f. absurd (true≢false (sym e ∙ f)) }
+-- ---- what such a step gives, and when it gives nothing
+some_same : (r o : Outcome) → ◌≡◌ {A = Option Outcome} (Some r) (Some o) → o ≡ r
+some_same r o e = cc
 
-pub given_by : (p : List ℕ) (S D : ℕ) (r : Outcome) (b : Bool) → b ≡ is_given r → b ≡ true → r ≡ route_told p S D → Near p S D r
-given_by p S D r b e y is = given_near p S D r (sym e ∙ y) is
+some_none : (r : Outcome) → ◌≡◌ {A = Option Outcome} (Some r) None → ⊥
+some_none r e = let z : ◌≡◌ {A = ℕ} 0 1 = cc in omega arith
+
+none_some : (o : Outcome) → ◌≡◌ {A = Option Outcome} None (Some o) → ⊥
+none_some o e = let z : ◌≡◌ {A = ℕ} 0 1 = cc in omega arith
+
+pub given_near : (p : List ℕ) (S D : ℕ) (r : Outcome) → r ≡ route_told p S D → Near p S D (Some r)
+given_near p S D r is = record { given = λ o e. some_same r o e ∙ is; none = λ e. absurd (some_none r e) }
+
+pub none_near : (p : List ℕ) (S D : ℕ) → is_clear p Deterministic S D ≡ false → Near p S D None
+none_near p S D blocked = record { given = λ o e. absurd (none_some o e); none = λ _. blocked }
+
+-- By the note of the destination.
+pub via_low : (note len : ℕ) (r : Option Outcome) → r ≡ via_route note len → (o : Outcome) → r ≡ Some o → (note < 4096) × (o ≡ Outcome.Given (Route.Via note Adaptive Adaptive) len)
+unfolding via_route
+via_low note len r e o is =
+    by_le 4096 note
+    (λ k. let z : via_route note len ≡ None = rw (le-ltb note 4096 k) refl in absurd (none_some o (sym (e ∙ z) ∙ is)))
+    (λ k. let z : via_route note len ≡ Some (Outcome.Given (Route.Via note Adaptive Adaptive) len) = rw (lt-ltb note 4096 k) refl in (k, some_same _ o (sym (e ∙ z) ∙ is)))
+
+pub via_high : (note len : ℕ) (r : Option Outcome) → r ≡ via_route note len → r ≡ None → 4096 ≤ note
+unfolding via_route
+via_high note len r e is =
+    by_le 4096 note (λ k. k)
+    (λ k. let z : via_route note len ≡ Some (Outcome.Given (Route.Via note Adaptive Adaptive) len) = rw (lt-ltb note 4096 k) refl in absurd (some_none _ (sym (e ∙ z) ∙ is)))

@@ -1,6 +1,5 @@
 -- The code's own steps: what is known of an accepted plan p while a route from S to D is sought, by the notes of the nodes.
-use Rattle.std.specs.Prelude.{ℕ, ◌+◌, ◌*◌, ◌/◌, ◌%◌, ◌≤◌, ◌<◌, ◌≡◌, Bool, true, false, List, length, get_or, ltb}
-use Rattle.numbers.specs.Numbers.{no_clear_choice}
+use Rattle.std.specs.Prelude.{ℕ, ◌+◌, ◌*◌, ◌/◌, ◌%◌, ◌≤◌, ◌<◌, ◌≡◌, Bool, true, false, cond, List, length, get_or, ltb, Option, Some, None}
 use Rattle.shape.specs.declared.shape.Shape.{Shape}
 use Rattle.shape.specs.declared.shape.Coords.{Coords}
 use Rattle.machine.specs.declared.leg.Mode.TheVariants.{Adaptive, Deterministic}
@@ -16,16 +15,11 @@ use Rattle.choice.specs.Pair.{far_in, route_in, chosen}
 use Rattle.search.specs.Number.{unclear}
 use Rattle.search.specs.Near.{NearWays}
 use Rattle.choice_number.specs.Note.{over_of}
-use Rattle.choice_number.specs.Told.{pick_outcome}
 use Rattle.masks.specs.Masks.{Masked}
 use Rattle.notes.specs.Known.{is_clear, OfPlan, IsAt, FromSet, ToBetween, BothTo, PartTo, IsBox, NoteTo}
 
 abbrev pub route_told : List ℕ → ℕ → ℕ → Outcome
 route_told p S D = told (far_in p) S (chosen (route_in p S D))
-
-abbrev pub is_given : Outcome → Bool
-is_given (Outcome.Given r len) = true
-is_given (Outcome.Refused e) = false
 
 -- The notes of all nodes; and of those on the shortest ways to D alone.
 abbrev pub Noted : List ℕ → ℕ → List ℕ → Type 0
@@ -35,13 +29,13 @@ abbrev pub NotedBetween : List ℕ → ℕ → ℕ → List ℕ → Type 0
 NotedBetween p S D notes = (w : ℕ) → w < node_count (shape_of p) → hops (shape_of p) S w + hops (shape_of p) w D ≡ hops (shape_of p) S D → NoteTo p S w (get_or notes w 0)
 
 -- By the via of a note, where both its legs are adaptive and make the least length.
-unfoldable pub via_route : ℕ → ℕ → Outcome
-via_route note len = pick_outcome (ltb note 4096) (Outcome.Given (Route.Via note Adaptive Adaptive) len) (Outcome.Refused no_clear_choice)
+unfoldable pub via_route : ℕ → ℕ → Option Outcome
+via_route note len = cond (ltb note 4096) (Some (Outcome.Given (Route.Via note Adaptive Adaptive) len)) None
 
 -- What a step of the search gives: the route, or that the direct deterministic leg is not clear.
-pub record Near (p : List ℕ) (S D : ℕ) (r : Outcome) : Type 0 where
-  pub given : is_given r ≡ true → r ≡ route_told p S D
-  pub none : is_given r ≡ false → is_clear p Deterministic S D ≡ false
+pub record Near (p : List ℕ) (S D : ℕ) (r : Option Outcome) : Type 0 where
+  pub given : (o : Outcome) → r ≡ Some o → o ≡ route_told p S D
+  pub none : r ≡ None → is_clear p Deterministic S D ≡ false
 
 -- Vias u and x on a shortest way, with three clear adaptive legs.
 pub record OnWays (p : List ℕ) (S D u x : ℕ) : Type 0 where

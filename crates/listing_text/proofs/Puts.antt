@@ -3,13 +3,17 @@ use Prim.Native.Nat.{ℕ, suc, ◌+◌, ◌/◌, ◌%◌, ◌≤◌, ◌<◌}
 use native.Mathlib.Omega.{arith}
 use mathlib.Core.Path.{◌≡◌, refl, sym, ap, ◌∙◌}
 use mathlib.Core.List.{List, [], ◌∷◌, ◌++◌}
-use lib.ListN.{length, set, drop, length-set, length-append}
-use lib.Seq.{take-length}
-use Rattle.sheet.specs.declared.output.Written.TheVariants.{Bytes, Refused}
-use Rattle.sheet.specs.Output.{room_error, written, out_after}
+use lib.ListN.{length, set, get_or, take, drop, length-set, length-append}
+use lib.Seq.{take-suc}
+use native.Mathlib.Numerals.{add-one}
+use Rattle.std.proofs.Common.{Ok, Err}
+use Rattle.numbers.specs.declared.Refusal.TheVariants.{OutputShort}
+use Rattle.sheet.specs.Output.{room_error}
+use Rattle.sheet.proofs.Outputs as sheet
 use Rattle.sheet.proofs.Outputs.{refused, no_room, copied}
 use Rattle.listing_text.specs.Decimal.{decimal}
-use Rattle.listing_text.specs.Steps.{put_all, Put}
+use Rattle.listing_text.specs.declared.lent.Lent.{Lent}
+use Rattle.listing_text.specs.Steps.{put_all, Put, Wrote}
 use Rattle.listing_text.proofs.Decimals.{one_digit, more_digits, at_most_5}
 
 put_append : (o : List ℕ) (at : ℕ) (s t : List ℕ) → put_all o at (s ++ t) ≡ put_all (put_all o at s) (at + length s) t
@@ -54,20 +58,34 @@ put_front (x ∷ o) (b ∷ s) h = put_behind b o 0 s ∙ ap (λ (l : List ℕ). 
 
 -- ---- the text s, whose length n is known from writing it elsewhere, into the lent bytes o
 module _ (z t o s : List ℕ) (n : ℕ) (counted : Put z t 0 n s) where
-  pub too_short : length o < n → (Refused 12 ≡ written (room_error 0 s o) s) × (o ≡ out_after (room_error 0 s o) s o)
-  too_short h = refused (room_error 0 s o) 12 s o (no_room 0 s o refl (omega (arith, counted.next))) (λ e. omega (arith, e))
+  pub too_short : length o < n → sheet.Put (room_error 0 s o) s o (Err OutputShort) o
+  too_short h = refused (room_error 0 s o) OutputShort s o (sym (no_room 0 s o refl (omega (arith, counted.next))))
 
-  pub wrote : n ≤ length o → (u : List ℕ) (m : ℕ) → Put o u 0 m s → (Bytes m ≡ written (room_error 0 s o) s) × (u ≡ out_after (room_error 0 s o) s o)
+  pub wrote : n ≤ length o → (u : List ℕ) (m : ℕ) → Put o u 0 m s → sheet.Put (room_error 0 s o) s o (Ok m) u
   wrote h u m p =
       let fits : length s ≤ length o = omega (arith, counted.next) in
-      copied 0 s o refl fits m u (omega (arith, p.next)) (p.bytes ∙ put_front o s fits ∙ rw (take-length s))
+      copied 0 s o refl fits m u (omega (arith, p.next)) (p.bytes ∙ put_front o s fits)
+
+-- ---- by lent bytes
+pub wrote_none : (w : Lent) → Wrote w w []
+wrote_none w = record { same = refl; put = put_none w.out.now w.at }
+
+pub wrote_one : (w v : Lent) (b : ℕ) → v.out.ghost_name ≡ w.out.ghost_name → v.out.now ≡ set w.out.now w.at b → v.at ≡ w.at + 1 → Wrote w v (b ∷ [])
+wrote_one w v b g e n = record { same = g; put = put_one w.out.now v.out.now w.at v.at b e n }
+
+pub wrote_then : {w v u : Lent} {s t : List ℕ} → Wrote w v s → Wrote v u t → Wrote w u (s ++ t)
+wrote_then p q = record { same = q.same ∙ p.same; put = put_then p.put q.put }
+
+-- One byte more of a text.
+pub wrote_more : {w v u : Lent} (s : List ℕ) (i : ℕ) → i < length s → Wrote w v (take i s) → Wrote v u (get_or s i 0 ∷ []) → Wrote w u (take (i + 1) s)
+wrote_more s i h p q = rw (add-one, take-suc s i 0 h) (wrote_then p q)
 
 -- ---- a number's digits
-pub put_digit : (o t : List ℕ) (at n : ℕ) → n < 10 → t ≡ set o at (48 + n) → Put o t at (at + 1) (decimal n)
-put_digit o t at n h e = rw (one_digit n h) (put_one o t at (at + 1) (48 + n) e refl)
+pub wrote_digit : {w v : Lent} (n : ℕ) → n < 10 → Wrote w v ((48 + n) ∷ []) → Wrote w v (decimal n)
+wrote_digit n h p = rw (one_digit n h) p
 
-pub put_digits : (o t u : List ℕ) (at k n : ℕ) → 10 ≤ n → Put o t at k (decimal (n / 10)) → u ≡ set t k (48 + n % 10) → Put o u at (k + 1) (decimal n)
-put_digits o t u at k n h p e = rw (more_digits n h) (put_then p (put_one t u k (k + 1) (48 + n % 10) e refl))
+pub wrote_digits : {w v u : Lent} (n : ℕ) → 10 ≤ n → Wrote w v (decimal (n / 10)) → Wrote v u ((48 + n % 10) ∷ []) → Wrote w u (decimal n)
+wrote_digits n h p q = rw (more_digits n h) (wrote_then p q)
 
-pub decimal_end : {o t : List ℕ} {at r n : ℕ} → Put o t at r (decimal n) → n < 65536 → r ≤ at + 5
-decimal_end {o} {t} {at} {r} {n} p h = omega (arith, p.next, at_most_5 n (omega arith))
+pub decimal_end : {w v : Lent} {n : ℕ} → Wrote w v (decimal n) → n < 65536 → v.at ≤ w.at + 5
+decimal_end {w} {v} {n} p h = omega (arith, p.put.next, at_most_5 n (omega arith))

@@ -4,8 +4,9 @@ use native.Mathlib.Omega.{arith}
 use mathlib.Core.Path.{◌≡◌, refl, ap, ◌∙◌}
 use mathlib.Core.List.{List}
 use lib.ListN.{length, take}
-use Rattle.sheet.specs.declared.output.Written.{Written}
-use Rattle.sheet.specs.declared.output.Written.TheVariants.{Bytes, Refused}
+use Rattle.std.proofs.Common.{Result, Ok, Err}
+use Rattle.std.specs.Result.{result_unwrap_or}
+use Rattle.numbers.specs.declared.Refusal.{Refusal}
 use Rattle.sheet.specs.Input.{ReadInto}
 use Rattle.sheet.specs.Output.{room_error, written, out_after}
 use Rattle.sheet.proofs.Inputs.{read_whole}
@@ -16,7 +17,7 @@ use Rattle.listing_text.proofs.Fits.{listing_fits}
 
 -- The buffer has the bytes that decide, and the lent bytes have room for the longest text.
 module _
-    (input : List ℕ) (size : ℕ) (i o t : List ℕ) (w : Written) (read : i ≡ take size input)
+    (input : List ℕ) (size : ℕ) (i o t : List ℕ) (w : Result ℕ Refusal) (read : i ≡ take size input)
     (made : (w ≡ written (room_error 0 (listing_of i) o) (listing_of i)) × (t ≡ out_after (room_error 0 (listing_of i) o) (listing_of i) o))
     (buffer : 783 ≤ length input) (long : 94222 ≤ length o) where
   abbrev s : List ℕ
@@ -31,8 +32,8 @@ module _
   abbrev Listed : ℕ → Type 0
   Listed r = (r ≡ length (listing_of (take size input))) × ((t ≡ out_after 0 (listing_of (take size input)) o) × ((whole : List ℕ) → ReadInto whole input size → take r t ≡ listing_of whole))
 
-  pub listed : (k r : ℕ) → w ≡ Bytes k → r ≡ k → Listed r
-  listed k r e q =
+  listed_ok : (k r : ℕ) → w ≡ Ok k → r ≡ k → Listed r
+  listed_ok k r e q =
       let n : r ≡ length s = q ∙ size_written 0 s o refl fits w t made k e in (
         n ∙ ap length same,
         (
@@ -41,5 +42,9 @@ module _
         ),
       )
 
-  pub refused_listed : (e r : ℕ) → w ≡ Refused e → Listed r
-  refused_listed e r q = absurd (not_refused 0 s o refl fits w t made e q)
+  pub listed : (r : ℕ) → r ≡ result_unwrap_or w 0 → Listed r
+  listed r q = go w refl
+    where
+      go : (x : Result ℕ Refusal) → w ≡ x → Listed r
+      go (Ok n) e = listed_ok n r e (q ∙ ap (λ y. result_unwrap_or y 0) e)
+      go (Err x) e = absurd (not_refused 0 s o refl fits w t made x e)

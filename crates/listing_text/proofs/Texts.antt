@@ -3,7 +3,9 @@ use Prim.Native.Nat.{ℕ, zero, suc, ◌≤◌, ◌<◌}
 use mathlib.Core.Path.{◌≡◌, refl, ap}
 use mathlib.Core.List.{List}
 use lib.ListN.{get_or}
-use Rattle.numbers.specs.Numbers.{dead_end, no_clear_choice}
+use Rattle.numbers.specs.declared.Refusal.{Refusal}
+use Rattle.numbers.specs.Refusals.{number}
+use Rattle.sheet.proofs.Outputs.{of_number}
 use Rattle.machine.specs.Number.{node_count}
 use Rattle.machine.specs.Node.{count_answer}
 use Rattle.plan.specs.Layout.{shape_of}
@@ -12,27 +14,27 @@ use Rattle.choice.specs.Pair.{far_in, pair}
 use Rattle.choice.specs.declared.outcome.Outcome.{Outcome}
 use Rattle.planner.specs.Outcomes.{no_outcome, outcome_at}
 use Rattle.planned_sheet.proofs.Planning.{source_of, answer_is}
-use Rattle.listing_text.specs.declared.writing.Head.{Head}
-use Rattle.listing_text.specs.Text.{source_in, plan_in, listing_error, head_line, refusal, listing_of}
-use Rattle.listing_text.specs.Steps.{Put, head_of, outcome_lines, outcomes_text}
-use Rattle.listing_text.proofs.Puts.{put_then}
-use Rattle.listing_text.proofs.Lines.{LineTold, refused_told, choice_told, lines_told}
+use Rattle.listing_text.specs.declared.lent.Lent.{Lent}
+use Rattle.listing_text.specs.declared.said.Head.{Head}
+use Rattle.listing_text.specs.Text.{source_in, plan_in, listing_error, head_line, refusal, text_of, listing_of}
+use Rattle.listing_text.specs.Steps.{Wrote, head_of, outcome_lines, outcomes_text}
+use Rattle.listing_text.proofs.Puts.{wrote_then}
+use Rattle.listing_text.proofs.Lines.{LineTold, dead_told, unclear_told, choice_told, lines_told}
 use Rattle.listing_text.proofs.Sources.{count_small, source_sound, counted, node_below, planned_all}
 
 -- The first line, then the others.
-pub text_put : {o t u : List ℕ} {k r : ℕ} (h : Head) (os : List Outcome) → Put o t 0 k (head_line h.source h.nodes h.faults) → Put t u k r (outcome_lines os h.nodes) → Put o u 0 r (outcomes_text h os)
+pub text_put : {w v u : Lent} (h : Head) (os : List Outcome) → Wrote w v (head_line h.source h.nodes h.faults) → Wrote v u (outcome_lines os h.nodes) → Wrote w u (outcomes_text h os)
 unfolding outcomes_text
-text_put h os p q = put_then p q
+text_put h os p q = wrote_then p q
 
 pub head_small : (p : List ℕ) (S : ℕ) (h : Head) → h ≡ head_of p S → h.nodes ≤ 4096
 unfolding head_of
 head_small p S h e = count_small (shape_of p) h.nodes (ap (λ (x : Head). x.nodes) e)
 
 module _ (i : List ℕ) where
-  pub refused_text : (e : ℕ) → e ≡ listing_error i → (e ≡ 0 → ⊥) → refusal e ≡ listing_of i
+  pub refused_text : (r : Refusal) → number r ≡ listing_error i → refusal (number r) ≡ listing_of i
   unfolding listing_of
-  refused_text zero h n = absurd (n refl)
-  refused_text (suc e) h n = rw (← h)
+  refused_text r h = rw (← h) (of_number (λ n. refusal n ≡ text_of n (plan_in i) (source_in i)) (λ k. refl) r)
 
   module _ (ok : listing_error i ≡ 0) where
     all_nodes : count_answer (shape_of (plan_in i)) ≡ node_count (shape_of (plan_in i))
@@ -44,7 +46,7 @@ module _ (i : List ℕ) where
         let S = source_in i in
         let s = shape_of p in
         let ok = source_sound i ok in
-        answer_is large p S (source_of large p S ok) d (node_below p S ok d h) (LineTold (far_in p) S) (refused_told (far_in p) S dead_end) (refused_told (far_in p) S no_clear_choice) (choice_told (far_in p) s S d)
+        answer_is large p S (source_of large p S ok) d (node_below p S ok d h) (LineTold (far_in p) S) (dead_told (far_in p) S) (unclear_told (far_in p) S) (choice_told (far_in p) s S d)
 
     accepted_text :
         (os : List Outcome) →

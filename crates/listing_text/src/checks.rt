@@ -1,9 +1,10 @@
-// The checks of a listing; 0 where none declines.
+// The checks of a listing.
 ghost use Rattle.std.specs.Prelude.{◌≡◌};
+ghost use Rattle.numbers.specs.Refusals.{answer_number};
 ghost use Rattle.listing_text.specs.Text.{source_in, listing_error};
 
-use numbers::PLAN_SHORT;
-use planner::sheets::source_error;
+use numbers::Refusal;
+use planner::sheets::check_source;
 use sheet::word_at;
 
 pub fn source_in(input: &[u8]) -> u16
@@ -13,11 +14,11 @@ pub fn source_in(input: &[u8]) -> u16
 }
 
 // Under two bytes is 1.
-pub fn listing_error(input: &[u8]) -> u8
-    ensures { result ≡ listing_error input.now }
+pub fn check_listing(input: &[u8]) -> Result<(), Refusal>
+    ensures { answer_number result ≡ listing_error input.now }
 {
     if input.len() < 2 {
-        return PLAN_SHORT;
+        return Err(Refusal::PlanShort);
     }
-    source_error(&input[2..], source_in(input))
+    check_source(&input[2..], source_in(input))
 }

@@ -1,16 +1,17 @@
 // The first line: source, node count, fault count.
-ghost use Rattle.std.specs.Prelude.{◌≤◌};
+ghost use Rattle.std.specs.Prelude.{◌≡◌, ◌≤◌};
 ghost use Rattle.listing_text.specs.Text.{head_line};
-ghost use Rattle.listing_text.specs.Steps.{Put};
+ghost use Rattle.listing_text.specs.Steps.{Wrote};
 
-use crate::field::{Field, put_field};
+use crate::lent::Lent;
 
-// Writes the line at the front, and answers the next place.
-pub fn put_header(out: &mut [u8], source: u16, nodes: u16, faults: u16) -> usize
-    ensures put { Put out.old out.new 0 result (head_line source nodes faults) }
-    ensures upper_bound { result ≤ 18 }
+// Writes the line at the front.
+pub fn put_header(lent: &mut Lent<'_>, source: u16, nodes: u16, faults: u16)
+    requires { lent.old.at ≡ 0 }
+    ensures wrote { Wrote lent.old lent.new (head_line source nodes faults) }
+    ensures upper_bound { lent.new.at ≤ 18 }
 {
-    let first = put_field(out, 0, Field::Number(source), b' ');
-    let second = put_field(out, first, Field::Number(nodes), b' ');
-    put_field(out, second, Field::Number(faults), b'\n')
+    lent.field(Some(source), b' ');
+    lent.field(Some(nodes), b' ');
+    lent.field(Some(faults), b'\n');
 }

@@ -2,12 +2,12 @@
 #![tactic(auto)]
 
 mod checks;
-mod decimal;
-mod field;
 mod header;
 mod input;
+mod lent;
 mod line;
 mod refusal;
+mod said;
 mod writing;
 
 pub use input::{INPUT_BYTES, TEXT_BYTES, listing};

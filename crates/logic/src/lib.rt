@@ -1,15 +1,10 @@
-// Choices and connectives as functions: a function that only calls others is proved by congruence.
+// Choices and connectives as functions: both values are worked out and one is chosen, with no branch, and a function that only calls others is proved by
+// congruence.
 #![tactic(auto)]
 
 ghost use Rattle.std.specs.Prelude.{◌≡◌, cond, ◌&&◌, ◌||◌};
 
-pub fn pick(b: bool, x: u8, y: u8) -> u8
-    ensures { result ≡ cond b x y }
-{
-    if b { x } else { y }
-}
-
-pub fn pick_bool(b: bool, x: bool, y: bool) -> bool
+pub fn pick<T: Copy>(b: bool, x: T, y: T) -> T
     ensures { result ≡ cond b x y }
 {
     if b { x } else { y }

@@ -1,12 +1,17 @@
 -- The list of losses, fault by fault.
 use Prim.Native.Nat.{ℕ, ◌+◌, ◌≤◌, ◌<◌}
+use Rattle.std.specs.Prelude.{Result, Ok, Err, is_err, [], take}
+use Rattle.std.proofs.lemmas.List.{length-take-le, get_or-take}
 use native.Mathlib.Omega.{arith}
 use native.Mathlib.Decide.{ℕ_discrete}
-use mathlib.Core.Path.{◌≡◌, refl, ◌∙◌}
-use mathlib.Core.Bool.{true}
+use mathlib.Core.Path.{◌≡◌, refl, sym, ◌∙◌}
+use mathlib.Core.Bool.{true, false}
 use mathlib.Core.List.{List}
 use lib.ListN.{get_or, set, length, length-set, replicate}
 use lib.Seq.{get_or-set_same, get_or-set_other}
+use Rattle.numbers.specs.declared.Refusal.{Refusal}
+use Rattle.numbers.specs.Refusals.{answer_number}
+use Rattle.numbers.proofs.Refusals.{number-range}
 use Rattle.shape.specs.declared.shape.Shape.{Shape}
 use Rattle.plan.specs.declared.layout.Fault.{Fault}
 use Rattle.plan.specs.Layout.{shape_of, fault_count, fault_at}
@@ -50,9 +55,25 @@ module _ (p : List ℕ) (s : Shape) (n : ℕ) where
         at k a (yes b) = rw (b, get_or-set_same words i w 0 (omega (arith, g.long, few))) (q ∙ rw (e, g.shape))
         at k a (no b) = rw (get_or-set_other words i k w 0 b) (g.each k (omega (arith, a, b)))
 
-    pub ended : n ≤ i → AreLosses p words n
-    ended l = record { counted = g.count ∙ rw (is_plan_law large p (plan_error large p) refl g.plan); few = few; each = λ k a. g.each k (omega arith) }
+    pub ended : n ≤ i → AreLosses p (take n words) (length (take n words))
+    ended l = rw (length-take-le n words (omega (arith, g.long, few))) (record {
+      counted = g.count ∙ rw (is_plan_law large p (plan_error large p) refl g.plan);
+      few = few;
+      each = λ k a. get_or-take n words k 0 a ∙ g.each k (omega arith);
+    })
+
+-- A check that declines answers with a number above 0, and one that passes with 0.
+declines : {A : Type 0} (r : Result A Refusal) → is_err r ≡ true → answer_number r ≡ 0 → ⊥
+declines (Ok a) e z = cc
+declines (Err d) e z = absurd (omega (arith, number-range d))
+
+passes : {A : Type 0} (r : Result A Refusal) → is_err r ≡ false → answer_number r ≡ 0
+passes (Ok a) e = refl
+passes (Err d) e = cc
 
 -- A sheet that a check declines has none.
-pub none_of : (p words : List ℕ) (e : ℕ) → e ≡ plan_error large p → (e ≡ 0 → ⊥) → AreLosses p words 0
-none_of p words e h n = record { counted = rw (is_no_plan large p e h n); few = omega arith; each = λ k a. absurd (omega arith) }
+pub none_of : {A : Type 0} (p : List ℕ) (r : Result A Refusal) → answer_number r ≡ plan_error large p → is_err r ≡ true → AreLosses p [] 0
+none_of p r h n = record { counted = rw (is_no_plan large p (answer_number r) h (declines r n)); few = omega arith; each = λ k a. absurd (omega arith) }
+
+pub plan_of : {A : Type 0} (p : List ℕ) (r : Result A Refusal) → answer_number r ≡ plan_error large p → is_err r ≡ false → plan_error large p ≡ 0
+plan_of p r h n = sym h ∙ passes r n

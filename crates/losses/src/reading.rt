@@ -1,4 +1,5 @@
 // The losses of a plan sheet.
+ghost use Rattle.std.specs.Prelude.{length};
 ghost use Rattle.losses.specs.OfPlan.{AreLosses};
 
 use crate::list::Losses;
@@ -8,25 +9,16 @@ use plan::layout::{count_in, fault_in, shape_in};
 
 // One for each fault of an accepted plan, in their order; none where a check declines the sheet.
 pub fn losses(sheet: &[u8]) -> Losses
-    ensures { AreLosses sheet.now result.words result.count }
+    ensures { AreLosses sheet.now result (length result) }
 {
     let mut words = [0u16; 256];
-    if check(sheet) != 0 {
-        return Losses {
-            words: words,
-            count: 0,
-        };
+    if check(sheet).is_err() {
+        return Losses { words, count: 0 };
     }
     let shape = shape_in(sheet);
     let count = count_in(sheet);
-    let mut i: u16 = 0;
-    while i < count {
-        let at = i as usize;
-        words[at] = word_of(shape, fault_in(sheet, i));
-        i = i + 1;
+    for i in 0..count {
+        words[i as usize] = word_of(shape, fault_in(sheet, i));
     }
-    Losses {
-        words: words,
-        count: count,
-    }
+    Losses { words, count }
 }

@@ -74,13 +74,12 @@ put_dim c v =
     (λ dir e. rw (ne_eqb (dir / 2) 0 (λ z. omega arith), ne_eqb (dir / 2) 1 (λ z. omega arith)))
 
 pub moved_dim :
-    (s : Shape) (c : Coords) (dir p len next : ℕ) →
+    (s : Shape) (c : Coords) (dir p next : ℕ) →
     p ≡ in_dim dir c.x c.y c.z →
-    len ≡ in_dim dir s.x s.y s.z →
-    next ≡ place len p (dir_plus dir) →
+    next ≡ place (extent_of s (dir_dim dir)) p (dir_plus dir) →
     ◌≡◌ {A = Coords} (record { x = in_dim dir next c.x c.x; y = in_dim dir c.y next c.y; z = in_dim dir c.z c.z next }) (moved_at s c dir)
 unfolding moved_at
-moved_dim s c dir p len next ep el en = put_dim c next dir ∙ rw (en, el, ep, in_dim_law (extent_of s) dir, in_dim_law (coord_of c) dir)
+moved_dim s c dir p next ep en = put_dim c next dir ∙ rw (en, ep, in_dim_law (coord_of c) dir)
 
 abbrev wrap_bit : Shape → Dim → ℕ
 wrap_bit s X = s.wrap % 2

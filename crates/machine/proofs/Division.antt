@@ -1,45 +1,34 @@
 -- Division by subtraction: the divisor taken away 8, 4, 2 times and once, where each goes.
 use Prim.Native.Nat.{ℕ, ◌+◌, ◌-◌, ◌*◌, ◌/◌, ◌%◌, ◌≤◌, ◌<◌}
-use mathlib.Core.Bool.{cond}
 use mathlib.Core.Path.{◌≡◌, sym, ap, ◌∙◌}
 use native.Mathlib.Nat.{add-mul, mod-add-div, mul_comm, mul-le-mul}
 use native.Mathlib.Omega.{arith}
 use lib.Arith.{digits_div}
-use lib.Dec.{leb}
-use borrow.Author.Tests.{lt-ltb, le-ltb, le-leb, lt-leb}
+use borrow.Author.Tests.{lt-ltb, le-ltb}
 use Rattle.theory.proofs.Cases.{by_le}
-use Rattle.machine.specs.Division.{times, rest}
+use Rattle.machine.specs.Division.{times, rest, Left}
 
 pub part_most : (k d : ℕ) → k < 16 → d ≤ 65535 → k * d ≤ 983025
 part_most k d hk hd = let h : k ≤ 15 = omega arith in mul-le-mul h hd
 
--- Of n the divisor was taken away t times, and r is left: less than m times the divisor, where the quotient is below 16.
-pub record Left (n d m t r : ℕ) : Type 0 where
-  pub is : n ≡ t * d + r
-  pub few : t + m ≤ 16
-  pub low : n < 16 * d → r < m * d
-  pub high : 16 * d ≤ n → t + m ≡ 16
-
 pub whole : (n d : ℕ) → Left n d 16 0 n
 whole n d = record { is = omega arith; few = omega arith; low = λ h. h; high = λ h. omega arith }
 
-pub half :
-    (n d m t r t' r' : ℕ) → Left n d (m + m) t r →
-    t' ≡ cond (leb (m * d) r) (t + m) t → r' ≡ cond (leb (m * d) r) (r - m * d) r → Left n d m t' r'
-half n d m t r t' r' w et er =
-    rw (et, er) (by_le (m * d) r
-    (λ a. rw (le-leb (m * d) r a) (record {
-      is = omega (arith, w.is, add-mul t m d);
-      few = omega (arith, w.few);
-      low = λ h. omega (arith, w.low h, add-mul m m d);
-      high = λ h. omega (arith, w.high h);
-    }))
-    (λ a. rw (lt-leb (m * d) r a) (record {
-      is = w.is;
-      few = omega (arith, w.few);
-      low = λ h. a;
-      high = λ h. absurd (omega (arith, w.is, ap (λ k. k * d) (w.high h), add-mul t (m + m) d, add-mul m m d));
-    })))
+pub half_taken : (n d m t r : ℕ) → m * d ≤ r → Left n d (m + m) t r → Left n d m (t + m) (r - m * d)
+half_taken n d m t r a w = record {
+  is = omega (arith, w.is, add-mul t m d);
+  few = omega (arith, w.few);
+  low = λ h. omega (arith, w.low h, add-mul m m d);
+  high = λ h. omega (arith, w.high h);
+}
+
+pub half_kept : (n d m t r : ℕ) → r < m * d → Left n d (m + m) t r → Left n d m t r
+half_kept n d m t r a w = record {
+  is = w.is;
+  few = omega (arith, w.few);
+  low = λ h. a;
+  high = λ h. absurd (omega (arith, w.is, ap (λ k. k * d) (w.high h), add-mul t (m + m) d, add-mul m m d));
+}
 
 pub done : (n d t r : ℕ) → Left n d 1 t r → (t ≡ times n d) × (r ≡ rest n d)
 unfolding rest times

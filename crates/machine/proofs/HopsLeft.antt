@@ -31,33 +31,12 @@ use Rattle.machine.proofs.Directions.{Direction, direction, by_direction, opposi
 use Rattle.machine.proofs.ByCoords.{inside_at}
 use Rattle.machine.proofs.OneDirection.{FirstDim, dim_x, dim_y, dim_z, allowed_leads, leads_along, leads_allowed}
 
--- ---- as the code judges a direction
-module _ (m : Mode) (ws : List ℕ) (dir : ℕ) where
-  pub declines : allowed_in m ws dir ≡ false → (false ≡ allowed_in m ws dir) × (ws ≡ taken m ws dir)
-  declines e = (sym e, rw e)
+pub opposite_below : (dir : ℕ) → dir ≤ 5 → opposite dir < 6
+opposite_below dir low = omega (arith, (opposite_is dir low).low)
 
-  pub none_named : 5 < dir → allowed_in m ws dir ≡ false
-  unfolding allowed_in
-  none_named h = rw (lt-leb dir 5 h)
-
-  module _ (low : dir ≤ 5) where
-    pub none_left : get_or ws dir 0 ≡ 0 → allowed_in m ws dir ≡ false
-    unfolding allowed_in
-    none_left e = rw (le-leb dir 5 low, eq-eqb (get_or ws dir 0) 0 e)
-
-    module _ (some : get_or ws dir 0 ≡ 0 → ⊥) where
-      in_turn_is : allowed_in m ws dir ≡ in_turn m ws dir
-      unfolding allowed_in
-      in_turn_is = rw (le-leb dir 5 low, ne_eqb (get_or ws dir 0) 0 some)
-
-      pub out_of_turn : in_turn m ws dir ≡ false → allowed_in m ws dir ≡ false
-      out_of_turn e = in_turn_is ∙ e
-
-      pub takes : in_turn m ws dir ≡ true → (true ≡ allowed_in m ws dir) × (hop_taken ws dir ≡ taken m ws dir)
-      takes e = let a = in_turn_is ∙ e in (sym a, rw a)
-
-pub back_below : (dir o : ℕ) → dir ≤ 5 → o ≡ opposite dir → o < 6
-back_below dir o low e = omega (arith, (opposite_is dir low).low)
+none_named : (m : Mode) (ws : List ℕ) (dir : ℕ) → 5 < dir → allowed_in m ws dir ≡ false
+unfolding allowed_in
+none_named m ws dir h = rw (lt-leb dir 5 h)
 
 -- ---- one dimension
 zero_both : (b : Bool) → ◌≡◌ {A = ℕ} (cond b 0 0) 0

@@ -1,5 +1,5 @@
 -- What a number is that is a node's.
-use Prim.Native.Nat.{ℕ, ◌<◌}
+use Prim.Native.Nat.{ℕ, ◌%◌, ◌<◌}
 use mathlib.Core.Bool.{true}
 use mathlib.Core.Path.{◌≡◌}
 use lib.Dec.{eqb}
@@ -7,8 +7,13 @@ use borrow.Author.Tests.{ltb-true, eqb-true, eq-eqb, lt-ltb}
 use Rattle.theory.proofs.Bools.{and_true}
 use Rattle.shape.specs.declared.shape.Shape.{Shape}
 use Rattle.shape.specs.Shape.{shape_error}
-use Rattle.machine.specs.Number.{node_count}
+use Rattle.machine.specs.Number.{node_count, number_of, coords_of}
+use Rattle.machine.specs.Hop.{neighbour}
 use Rattle.machine.specs.Node.{is_node, are_pair}
+use Rattle.machine.specs.ByCoords.{moved_at}
+use Rattle.machine.specs.Division.{coords_by}
+use Rattle.machine.proofs.Numbers.{coords_by_law}
+use Rattle.machine.proofs.ByCoords.{neighbour_number}
 
 pub record Node (s : Shape) (n : ℕ) : Type 0 where
   pub sound : shape_error s ≡ 0
@@ -33,3 +38,10 @@ below_node s h n k = rw (eq-eqb (shape_error s) 0 h, lt-ltb n (node_count s) k)
 -- A number below the nodes of a shape that has one.
 pub is_node_law : (s : Shape) (a : ℕ) → is_node s a ≡ true → (n : ℕ) → n < node_count s → is_node s n ≡ true
 is_node_law s a h n k = below_node s (node_of s a h).sound n k
+
+-- What the code finds by coordinates.
+pub coords_node : (s : Shape) (n : ℕ) → is_node s n ≡ true → coords_by s n ≡ coords_of s n
+coords_node s n e = let k = node_of s n e in coords_by_law s k.sound n k.below
+
+pub neighbour_node : (s : Shape) (n dir : ℕ) → is_node s n ≡ true → number_of s (moved_at s (coords_of s n) dir) % 65536 ≡ neighbour s n dir
+neighbour_node s n dir e = let k = node_of s n e in neighbour_number s k.sound n k.below dir

@@ -23,6 +23,10 @@ outer_product a y b z ha hy hb hz = let inner : y + b * z ≤ 65280 = omega (ari
 pub count_product : (a b c : ℕ) → a ≤ 255 → b ≤ 255 → c ≤ 255 → a * b * c ≤ 16581375
 count_product a b c ha hb hc = mul-le-mul (inner_product a b ha hb) hc
 
+pub count_small : (s : Shape) → shape_error s ≡ 0 → node_count s ≤ 4096
+unfolding node_count
+count_small s h = count_most s h
+
 -- ---- two digits
 pub digits_below : (x a m k : ℕ) → x < a → m < k → x + a * m < a * k
 digits_below x a m k hx hm = omega (arith, digits_lt hm hx, mul_comm m a, mul_comm k a)

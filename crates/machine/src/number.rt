@@ -1,7 +1,7 @@
 // Node numbers and coordinates, with no division. Defined for all shapes and numbers, also for those that a check declines.
-ghost use Rattle.std.specs.Prelude.{◌≡◌, cond, ◌+◌, ◌-◌, ◌*◌, ◌<◌, leb};
+ghost use Rattle.std.specs.Prelude.{◌≡◌, ℕ, ◌+◌, ◌<◌};
 ghost use Rattle.machine.specs.Number.{node_count};
-ghost use Rattle.machine.specs.Division.{times, rest, coords_by};
+ghost use Rattle.machine.specs.Division.{times, rest, Left, coords_by};
 
 use shape::{Coords, Shape};
 
@@ -12,9 +12,10 @@ struct Quotient {
 }
 
 // The divisor taken away k times, where that goes.
+#[tactic(auto, using(crate::proofs::Division::part_most, crate::proofs::Division::half_taken, crate::proofs::Division::half_kept))]
 fn less_by(q: Quotient, k: u8, d: u16) -> Quotient
     requires { q.times + k < 16 }
-    ensures { (result.times ≡ cond (leb (k * d) q.rest) (q.times + k) q.times) × (result.rest ≡ cond (leb (k * d) q.rest) (q.rest - k * d) q.rest) }
+    ensures { (n : ℕ) → Left n d (k + k) q.times q.rest → Left n d k result.times result.rest }
 {
     let part = (k as u32) * (d as u32);
     if part <= q.rest {
@@ -38,6 +39,7 @@ fn divide(n: u32, d: u16) -> Quotient
 }
 
 // The number of nodes, also of a shape that a check declines.
+#[tactic(auto, using(crate::proofs::Numbers::inner_product, crate::proofs::Numbers::count_product), unfolding(crate::specs::Number::node_count))]
 pub fn node_count(shape: Shape) -> u32
     ensures { result ≡ node_count shape }
 {
@@ -48,6 +50,7 @@ pub fn node_count(shape: Shape) -> u32
 }
 
 // The coordinates of a node that exists; of any other number those that the same subtractions give.
+#[tactic(auto, using(crate::proofs::Numbers::inner_product), unfolding(crate::specs::Division::coords_by))]
 pub fn coords_of(shape: Shape, node: u16) -> Coords
     ensures { result ≡ coords_by shape node }
 {

@@ -6,8 +6,7 @@ ghost use Rattle.machine.specs.Ways.{way_along, ways_at, once_round, place_befor
 use crate::hop::{goes_plus, opposite};
 use crate::leg::Mode;
 use logic::{both, either, pick};
-use shape::shape::{coord, extent, wrapped};
-use shape::{Coords, Dim, Shape, axis};
+use shape::{Coords, Dim, Shape};
 
 // For each direction the hops left in its dimension, if the leg may go that way there; else 0.
 pub type Ways = [u8; 6];
@@ -21,18 +20,17 @@ struct Sides {
 fn along(mode: Mode, shape: Shape, at: Coords, to: Coords, d: Dim) -> Sides
     ensures { (result.plus ≡ way_along rule mode shape at to d true) × (result.minus ≡ way_along rule mode shape at to d false) }
 {
-    let len = extent(shape, d);
-    let ring = wrapped(shape, d);
-    let p = coord(at, d);
-    let q = coord(to, d);
-    let hops = axis::hops(len, ring, p, q);
+    let axis = shape.axis(d);
+    let p = at.coord(d);
+    let q = to.coord(d);
+    let hops = axis.hops(p, q);
     match mode {
         Mode::Adaptive => Sides {
-            plus: pick(axis::useful(len, ring, p, q, true), hops, 0),
-            minus: pick(axis::useful(len, ring, p, q, false), hops, 0),
+            plus: pick(axis.useful(p, q, true), hops, 0),
+            minus: pick(axis.useful(p, q, false), hops, 0),
         },
         Mode::Deterministic => {
-            let plus = goes_plus(len, ring, p, q);
+            let plus = goes_plus(axis, p, q);
             Sides {
                 plus: pick(plus, hops, 0),
                 minus: pick(!plus, hops, 0),
@@ -42,6 +40,7 @@ fn along(mode: Mode, shape: Shape, at: Coords, to: Coords, d: Dim) -> Sides
 }
 
 // The hops left of a leg in that mode, from one place to another.
+#[tactic(auto, unfolding(crate::specs::Ways::ways_at))]
 pub fn ways(mode: Mode, shape: Shape, at: Coords, to: Coords) -> Ways
     ensures { result ≡ ways_at rule mode shape at to }
 {
@@ -51,14 +50,8 @@ pub fn ways(mode: Mode, shape: Shape, at: Coords, to: Coords) -> Ways
     [x.plus, x.minus, y.plus, y.minus, z.plus, z.minus]
 }
 
-// The hops the other way round a ring.
-fn hops_round(len: u8, hops: u8) -> u8
-    ensures { result ≡ len - hops }
-{
-    if hops < len { len - hops } else { 0 }
-}
-
 // The place that was counted on past the end of a ring.
+#[tactic(auto, unfolding(crate::specs::Ways::once_round))]
 fn once_round(len: u16, place: u16) -> u16
     ensures { result ≡ once_round len place }
 {
@@ -66,15 +59,17 @@ fn once_round(len: u16, place: u16) -> u16
 }
 
 // The place from which that many hops going plus, or where there are none that many going minus, lead to q.
+#[tactic(auto, unfolding(crate::specs::Ways::place_before))]
 fn place_before(len: u8, q: u8, plus: u8, minus: u8) -> u8
     ensures { result ≡ place_before len q plus minus }
 {
-    let back = pick(plus == 0, minus, hops_round(len, plus)) as u16;
+    let back = pick(plus == 0, minus, len.saturating_sub(plus)) as u16;
     let place = once_round(len as u16, (q as u16) + back);
     (place % 256) as u8
 }
 
 // The place from which the hops left lead to another.
+#[tactic(auto, unfolding(crate::specs::Ways::standing_at))]
 pub fn standing(shape: Shape, ways: &Ways, to: Coords) -> Coords
     ensures { result ≡ standing_at shape ways.now to }
 {
@@ -86,6 +81,7 @@ pub fn standing(shape: Shape, ways: &Ways, to: Coords) -> Coords
 }
 
 // No hop is left in a dimension before that of the direction.
+#[tactic(auto, unfolding(crate::specs::Ways::none_before))]
 fn none_before(ways: &Ways, dir: u8) -> bool
     ensures { result ≡ none_before ways.now dir }
 {
@@ -94,6 +90,7 @@ fn none_before(ways: &Ways, dir: u8) -> bool
     both(either(dir < 2, x), either(dir < 4, y))
 }
 
+#[tactic(auto, unfolding(crate::specs::Ways::in_turn))]
 fn in_turn(mode: Mode, ways: &Ways, dir: u8) -> bool
     ensures { result ≡ in_turn mode ways.now dir }
 {
@@ -104,6 +101,7 @@ fn in_turn(mode: Mode, ways: &Ways, dir: u8) -> bool
 }
 
 // Takes a hop off the hops left, if the leg allows it, and tells whether it does.
+#[tactic(auto, using(crate::proofs::HopsLeft::opposite_below), unfolding(crate::specs::Ways::allowed_in, crate::specs::Ways::hop_taken))]
 pub fn take(ways: &mut Ways, mode: Mode, dir: u8) -> bool
     ensures value { result ≡ allowed_in mode ways.old dir }
     ensures ways_after { ways.new ≡ taken mode ways.old dir }

@@ -94,21 +94,21 @@ module _ (m : Mode) (from : Bool) (len : ℕ) (ring : Bool) (c at : ℕ) where
   unfolding between_row behind_row passes_behind
   behind_adaptive r e q = q ∙ rw e (row_same _ _ len (λ x l. either_end from x))
 
-  pub before_deterministic : (a b r : ℕ) → m ≡ Deterministic → a ≡ row_of (λ x. eqb c x) len → b ≡ row_of (λ x. eqb c at) len → r ≡ cond from a b → r ≡ before_row m from len ring c at
+  pub before_start : (r : ℕ) → m ≡ Deterministic → from ≡ true → r ≡ row_of (λ x. eqb c x) len → r ≡ before_row m from len ring c at
   unfolding before_row passes_before
-  before_deterministic a b r e ea eb er = er ∙ rw (e, ea, eb) (go from)
-    where
-      go : (from : Bool) → cond from (row_of (λ x. eqb c x) len) (row_of (λ x. eqb c at) len) ≡ row_of (λ x. eqb c (cond from x at)) len
-      go true = refl
-      go false = refl
+  before_start r e f q = q ∙ rw (e, f)
 
-  pub behind_deterministic : (a b r : ℕ) → m ≡ Deterministic → a ≡ row_of (λ x. eqb c at) len → b ≡ row_of (λ x. eqb c x) len → r ≡ cond from a b → r ≡ behind_row m from len ring c at
+  pub before_target : (r : ℕ) → m ≡ Deterministic → from ≡ false → r ≡ row_of (λ x. eqb c at) len → r ≡ before_row m from len ring c at
+  unfolding before_row passes_before
+  before_target r e f q = q ∙ rw (e, f)
+
+  pub behind_start : (r : ℕ) → m ≡ Deterministic → from ≡ true → r ≡ row_of (λ x. eqb c at) len → r ≡ behind_row m from len ring c at
   unfolding behind_row passes_behind
-  behind_deterministic a b r e ea eb er = er ∙ rw (e, ea, eb) (go from)
-    where
-      go : (from : Bool) → cond from (row_of (λ x. eqb c at) len) (row_of (λ x. eqb c x) len) ≡ row_of (λ x. eqb c (cond from at x)) len
-      go true = refl
-      go false = refl
+  behind_start r e f q = q ∙ rw (e, f)
+
+  pub behind_target : (r : ℕ) → m ≡ Deterministic → from ≡ false → r ≡ row_of (λ x. eqb c x) len → r ≡ behind_row m from len ring c at
+  unfolding behind_row passes_behind
+  behind_target r e f q = q ∙ rw (e, f)
 
 -- ---- by the number of a column
 module _ (m : Mode) (from : Bool) (len : ℕ) (ring : Bool) (column c at r : ℕ) where

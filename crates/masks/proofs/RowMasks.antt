@@ -38,12 +38,6 @@ open_row len c at hi high a b h hc ha eh eg f g =
     two_ranges c hi 0 high len a b h (pick_most (leb at c) len 0 len hi eh (omega arith) (omega arith)) (pick_most (leb c at) (c + 1) 0 len high eg (omega arith) (omega arith)) f g
     ∙ row_same _ _ len (λ x l. rw (eh, eg) (sym (open_between len c at x hc ha l)))
 
-pub between_ring : (len : ℕ) (ring : Bool) (c at r : ℕ) → ring ≡ true → r ≡ between_row len true c at → r ≡ between_row len ring c at
-between_ring len ring c at r e q = q ∙ rw e
-
-pub between_open : (len : ℕ) (ring : Bool) (c at r : ℕ) → ring ≡ false → r ≡ between_row len false c at → r ≡ between_row len ring c at
-between_open len ring c at r e q = q ∙ rw e
-
 pub ring_useful_row :
     (len c : ℕ) (plus : Bool) (lo hi r : ℕ) → c < len → lo ≡ cond plus 1 (len - len / 2) → hi ≡ cond plus (len / 2 + 1) len →
     r ≡ row_of (λ x. in_range lo hi (ahead len c x)) len → r ≡ useful_row len true c plus
@@ -56,12 +50,6 @@ pub open_useful_row :
 unfolding useful_row
 open_useful_row len c plus lo hi r h hc el eh e =
     e len (pick_most plus len c len hi eh (omega arith) (omega arith)) h ∙ row_same _ _ len (λ x l. rw (el, eh) (sym (open_range len c x plus hc l)))
-
-pub useful_ring : (len : ℕ) (ring : Bool) (c : ℕ) (plus : Bool) (r : ℕ) → ring ≡ true → r ≡ useful_row len true c plus → r ≡ useful_row len ring c plus
-useful_ring len ring c plus r e q = q ∙ rw e
-
-pub useful_open : (len : ℕ) (ring : Bool) (c : ℕ) (plus : Bool) (r : ℕ) → ring ≡ false → r ≡ useful_row len false c plus → r ≡ useful_row len ring c plus
-useful_open len ring c plus r e q = q ∙ rw e
 
 -- ---- crossing a link
 pub crosses_from : (from : Bool) (len : ℕ) (ring plus : Bool) (c at a b : ℕ) → from ≡ true → a ≡ between_row len ring c at → b ≡ useful_row len ring c plus → bit_and a b ≡ crosses_row from len ring plus c at

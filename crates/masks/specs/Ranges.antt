@@ -1,8 +1,5 @@
 -- The code's own steps: ranges of places, and the masks that others are made of.
-use Rattle.std.specs.Prelude.{ℕ, ◌/◌, ◌%◌, Bool, cond, ◌&&◌, leb, ltb}
-use Rattle.shape.specs.declared.shape.Shape.{Shape}
-use Rattle.shape.specs.declared.shape.Coords.{Coords}
-use Rattle.shape.specs.Shape.{extent_of, wrapped_in, coord_of}
+use Rattle.std.specs.Prelude.{ℕ, Bool, cond, ◌&&◌, leb, ltb}
 use Rattle.shape.specs.Axis.{axis_useful}
 use Rattle.shape.specs.Steps.{goes}
 use Rattle.machine.specs.declared.leg.Mode.{Mode}
@@ -10,7 +7,6 @@ use Rattle.machine.specs.Hop.{rule}
 use Rattle.legs.specs.Between.{between, crosses}
 use Rattle.rows.specs.Bits.{row_of}
 use Rattle.masks.specs.Cell.{takes, takes_link, takes_links, passes_before, passes_behind}
-use Rattle.masks.specs.Masks.{dim_at}
 
 -- From lo on, below hi.
 unfoldable pub in_range : ℕ → ℕ → ℕ → Bool
@@ -44,10 +40,3 @@ before_row mode from len ring c at = row_of (λ x. passes_before mode len ring c
 
 unfoldable pub behind_row : Mode → Bool → ℕ → Bool → ℕ → ℕ → ℕ
 behind_row mode from len ring c at = row_of (λ x. passes_behind mode len ring c (cond from at x) (cond from x at)) len
-
--- ---- the ways, for each dimension of one end, and for every end
-unfoldable pub end_way : Bool → Shape → Coords → ℕ → ℕ
-end_way from s at d = ways_row from (extent_of s (dim_at d)) (wrapped_in s (dim_at d)) (coord_of at (dim_at d))
-
-unfoldable pub any_way : Bool → Shape → ℕ → ℕ
-any_way from s k = ways_row from (extent_of s (dim_at (k / 16))) (wrapped_in s (dim_at (k / 16))) (k % 16)

@@ -6,7 +6,7 @@ use Rattle.shape.specs.declared.shape.Dim.TheVariants.{X, Y, Z}
 use Rattle.shape.specs.Shape.{wrapped_in}
 use Rattle.legs.specs.Between.{between}
 use Rattle.rows.specs.Bits.{row_of}
-use Rattle.masks.specs.declared.span.Box.{Box}
+use Rattle.rows.specs.declared.product.Places.{Places}
 
 -- All places; none of a dimension that has more than 16.
 unfoldable pub full_mask : ℕ → ℕ
@@ -17,7 +17,7 @@ unfoldable pub between_mask : ℕ → Bool → ℕ → ℕ → ℕ
 between_mask len ring p q = cond (leb len 16 && (ltb p len && ltb q len)) (row_of (λ c. between len ring c p q) len) 0
 
 -- In each dimension the places between the two.
-unfoldable pub box_of : Shape → Coords → Coords → Box
+unfoldable pub box_of : Shape → Coords → Coords → Places
 box_of s a t = record {
   x = between_mask s.x (wrapped_in s X) a.x t.x;
   y = between_mask s.y (wrapped_in s Y) a.y t.y;

@@ -2,19 +2,14 @@
 ghost use Rattle.std.specs.Prelude.{◌≡◌, true, false, cond, ◌≤◌, ◌<◌};
 ghost use Rattle.shape.specs.Steps.{goes};
 ghost use Rattle.machine.specs.Hop.{rule};
-ghost use Rattle.masks.specs.Ranges.{between_row, useful_row, ways_row, crosses_row, takes_row};
+ghost use Rattle.masks.specs.End.{begins};
+ghost use Rattle.masks.specs.Ranges.{between_row, useful_row, ways_row};
 
+use crate::end::End;
 use crate::range::{arc, arcs, hops, ones, range};
 use logic::pick;
 use machine::hop::goes_plus;
-use machine::leg::Mode;
-use shape::axis::useful;
-
-pub fn pick_row(b: bool, x: u16, y: u16) -> u16
-    ensures { result ≡ cond b x y }
-{
-    if b { x } else { y }
-}
+use shape::axis::Axis;
 
 fn ring_between(len: u8, c: u8, at: u8) -> u16
     requires { (len ≤ 16) × (c < len) × (at < len) }
@@ -36,14 +31,14 @@ fn open_between(len: u8, c: u8, at: u8) -> u16
 }
 
 // Those for which c lies between.
-pub fn between_row(len: u8, ring: bool, c: u8, at: u8) -> u16
-    requires { (len ≤ 16) × (c < len) × (at < len) }
-    ensures { result ≡ between_row len ring c at }
+pub fn between_row(axis: Axis, c: u8, at: u8) -> u16
+    requires { (axis.len ≤ 16) × (c < axis.len) × (at < axis.len) }
+    ensures { result ≡ between_row axis.len axis.ring c at }
 {
-    if ring {
-        ring_between(len, c, at)
+    if axis.ring {
+        ring_between(axis.len, c, at)
     } else {
-        open_between(len, c, at)
+        open_between(axis.len, c, at)
     }
 }
 
@@ -63,74 +58,36 @@ fn open_useful(len: u8, c: u8, plus: bool) -> u16
 }
 
 // Those toward which the hop from c, plus or minus, is useful.
-fn useful_row(len: u8, ring: bool, c: u8, plus: bool) -> u16
-    requires { (len ≤ 16) × (c < len) }
-    ensures { result ≡ useful_row len ring c plus }
+pub fn useful_row(axis: Axis, c: u8, plus: bool) -> u16
+    requires { (axis.len ≤ 16) × (c < axis.len) }
+    ensures { result ≡ useful_row axis.len axis.ring c plus }
 {
-    if ring {
-        ring_useful(len, c, plus)
+    if axis.ring {
+        ring_useful(axis.len, c, plus)
     } else {
-        open_useful(len, c, plus)
+        open_useful(axis.len, c, plus)
     }
 }
 
-// Those for which some shortest way takes the link that leaves c, plus or minus.
-fn crosses_row(from: bool, len: u8, ring: bool, plus: bool, c: u8, at: u8) -> u16
-    requires { (len ≤ 16) × (c < len) × (at < len) }
-    ensures { result ≡ crosses_row from len ring plus c at }
+fn goes_end(end: End, axis: Axis, at: u8, x: u8) -> bool
+    ensures { result ≡ goes rule axis.len axis.ring (cond (begins end) at x) (cond (begins end) x at) }
 {
-    let row = between_row(len, ring, c, at);
-    if from {
-        return row & useful_row(len, ring, c, plus);
+    match end {
+        End::Start => goes_plus(axis, at, x),
+        End::Target => goes_plus(axis, x, at),
     }
-    pick_row(useful(len, ring, c, at, plus), row, 0)
-}
-
-// Those for which the leg takes it. `ways`: those for which a deterministic leg goes plus.
-pub fn takes_row(
-    mode: Mode,
-    from: bool,
-    len: u8,
-    ring: bool,
-    plus: bool,
-    c: u8,
-    at: u8,
-    ways: u16,
-) -> u16
-    requires { (len ≤ 16) × (c < len) × (at < len) × (ways ≡ ways_row from len ring at) }
-    ensures { result ≡ takes_row mode from len ring plus c at }
-{
-    let row = crosses_row(from, len, ring, plus, c, at);
-    match mode {
-        Mode::Adaptive => row,
-        Mode::Deterministic => row & pick_row(plus, ways, 65535 - ways),
-    }
-}
-
-fn pick_bit(b: bool, x: u32, y: u32) -> u32
-    ensures { result ≡ cond b x y }
-{
-    if b { x } else { y }
-}
-
-fn goes_end(from: bool, len: u8, ring: bool, at: u8, x: u8) -> bool
-    ensures { result ≡ goes rule len ring (cond from at x) (cond from x at) }
-{
-    goes_plus(len, ring, pick(from, at, x), pick(from, x, at))
 }
 
 // Those for which a deterministic leg goes plus: each is asked.
-pub fn ways_row(from: bool, len: u8, ring: bool, at: u8) -> u16
-    requires { len ≤ 16 }
-    ensures { result ≡ ways_row from len ring at }
+pub fn ways_row(end: End, axis: Axis, at: u8) -> u16
+    requires { axis.len ≤ 16 }
+    ensures { result ≡ ways_row (begins end) axis.len axis.ring at }
 {
     let mut row: u32 = 0;
     let mut bit: u32 = 1;
-    let mut x: u8 = 0;
-    while x < len {
-        row = pick_bit(goes_end(from, len, ring, at, x), bit, 0) + row;
-        bit = 2 * bit;
-        x = x + 1;
+    for x in 0..axis.len {
+        row += pick(goes_end(end, axis, at, x), bit, 0);
+        bit *= 2;
     }
     row as u16
 }

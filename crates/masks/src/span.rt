@@ -6,16 +6,9 @@ ghost use Rattle.masks.specs.Span.{full_mask, between_mask, box_of};
 
 use crate::range::{arcs, hops, ones, range};
 use logic::pick;
-use shape::shape::wrapped;
+use rows::product::Places;
+use shape::axis::Axis;
 use shape::{Coords, Dim, Shape};
-
-// In each dimension the places between two nodes.
-#[derive(Clone, Copy)]
-pub struct Box {
-    pub x: u16,
-    pub y: u16,
-    pub z: u16,
-}
 
 pub fn full(len: u8) -> u16
     ensures { result ≡ full_mask len }
@@ -46,30 +39,26 @@ fn open_span(len: u8, p: u8, q: u8) -> u16
 }
 
 // The places between p and q.
-pub fn between_mask(len: u8, ring: bool, p: u8, q: u8) -> u16
-    ensures { result ≡ between_mask len ring p q }
+pub fn between_mask(axis: Axis, p: u8, q: u8) -> u16
+    ensures { result ≡ between_mask axis.len axis.ring p q }
 {
-    if 16 < len {
+    if 16 < axis.len || axis.len <= p || axis.len <= q {
         return 0;
     }
-    if len <= p {
-        return 0;
+    if axis.ring {
+        ring_span(axis.len, p, q)
+    } else {
+        open_span(axis.len, p, q)
     }
-    if len <= q {
-        return 0;
-    }
-    if ring {
-        return ring_span(len, p, q);
-    }
-    open_span(len, p, q)
 }
 
-pub fn box_of(shape: Shape, a: Coords, t: Coords) -> Box
+// In each dimension the places between two nodes.
+pub fn box_of(shape: Shape, a: Coords, t: Coords) -> Places
     ensures { result ≡ box_of shape a t }
 {
-    Box {
-        x: between_mask(shape.x, wrapped(shape, Dim::X), a.x, t.x),
-        y: between_mask(shape.y, wrapped(shape, Dim::Y), a.y, t.y),
-        z: between_mask(shape.z, wrapped(shape, Dim::Z), a.z, t.z),
+    Places {
+        x: between_mask(shape.axis(Dim::X), a.x, t.x),
+        y: between_mask(shape.axis(Dim::Y), a.y, t.y),
+        z: between_mask(shape.axis(Dim::Z), a.z, t.z),
     }
 }

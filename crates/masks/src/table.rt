@@ -1,174 +1,82 @@
 // The masks of one end, and of every end.
-ghost use Rattle.std.specs.Prelude.{◌≡◌, ℕ, ◌<◌, length, get_or};
-ghost use Rattle.masks.specs.Laid.{Laid, laid_to};
-ghost use Rattle.masks.specs.Ranges.{end_way, any_way};
+ghost use Rattle.std.specs.Prelude.{◌≡◌, ℕ, ◌+◌, ◌*◌, ◌/◌, ◌%◌, ◌≤◌, ◌<◌, length, get_or};
 ghost use Rattle.shape.specs.Shape.{shape_error};
-ghost use Rattle.masks.specs.Masks.{dim_at, end_at, mask_at, gather_at, Ended, Masked};
+ghost use Rattle.masks.specs.End.{begins};
+ghost use Rattle.masks.specs.Masks.{dim_at, mask_of, gather_at, Ended, Masked};
 
-use crate::mask::mask;
-use crate::row::ways_row;
+use crate::end::End;
+use crate::mask::Fan;
 use machine::leg::Mode;
-use shape::shape::{coord, extent, shape_error, wrapped};
+use shape::axis::Axis;
 use shape::{Coords, Dim, Shape};
 
 fn dim_at(n: usize) -> Dim
     ensures { result ≡ dim_at n }
 {
-    if n == 0 {
-        return Dim::X;
+    match n {
+        0 => Dim::X,
+        1 => Dim::Y,
+        _ => Dim::Z,
     }
-    if n == 1 {
-        return Dim::Y;
-    }
-    Dim::Z
 }
 
-fn end_way(from: bool, shape: Shape, at: Coords, d: usize) -> u16
-    requires { shape_error shape ≡ 0 }
-    ensures { result ≡ end_way from shape at d }
+// The masks of one place of a dimension: of each column those of 16 places of a loss. All 0 where the dimension has no such place.
+fn block(mode: Mode, end: End, axis: Axis, at: u8) -> [u16; 96]
+    requires { axis.len ≤ 16 }
+    ensures { (j : ℕ) → j < 96 → get_or result j 0 ≡ mask_of mode (begins end) axis.len axis.ring (j / 16) (j % 16) at }
 {
-    let dim = dim_at(d);
-    ways_row(
-        from,
-        extent(shape, dim),
-        wrapped(shape, dim),
-        coord(at, dim),
-    )
-}
-
-// For each dimension, the other ends for which a deterministic leg goes plus.
-fn end_ways(from: bool, shape: Shape, at: Coords) -> [u16; 3]
-    requires { shape_error shape ≡ 0 }
-    ensures { (d : ℕ) → d < 3 → get_or result d 0 ≡ end_way from shape at d }
-{
-    let mut ways = [0u16; 3];
-    let mut d: usize = 0;
-    while d < 3 {
-        ways[d] = end_way(from, shape, at, d);
-        d = d + 1;
+    let mut masks = [0u16; 96];
+    if axis.len <= at {
+        return masks;
     }
-    ways
-}
-
-fn end_at(mode: Mode, from: bool, shape: Shape, at: Coords, ways: &[u16; 3], i: usize) -> u16
-    requires { (shape_error shape ≡ 0) × (i < 288) × ((d : ℕ) → d < 3 → get_or ways.now d 0 ≡ end_way from shape at d) }
-    ensures { result ≡ end_at mode from shape at i }
-{
-    let d = i / 96;
-    let dim = dim_at(d);
-    let len = extent(shape, dim);
-    let end = coord(at, dim);
-    if len <= end {
-        return 0;
-    }
-    let ring = wrapped(shape, dim);
-    let column = (i % 96 / 16) as u8;
-    let c = (i % 16) as u8;
-    mask(mode, from, len, ring, column, c, end, ways[d])
-}
-
-fn filled_ends(mode: Mode, from: bool, shape: Shape, at: Coords) -> [u16; 288]
-    requires { shape_error shape ≡ 0 }
-    ensures { (i : ℕ) → i < 288 → get_or result i 0 ≡ end_at mode from shape at i }
-{
-    let ways = end_ways(from, shape, at);
-    let mut masks = [0u16; 288];
-    let mut i: usize = 0;
-    while i < 288 {
-        masks[i] = end_at(mode, from, shape, at, &ways, i);
-        i = i + 1;
+    let legs = Fan::new(mode, end, axis, at);
+    for j in 0..96u8 {
+        masks[j as usize] = legs.mask(j / 16, j % 16);
     }
     masks
 }
 
-// The masks of one end of the legs in this mode: the one that they begin at (`from`), or the one that they go to.
-pub fn ends(mode: Mode, from: bool, shape: Shape, at: Coords) -> [u16; 288]
-    ensures { Ended mode from shape at result }
+// Block k of the masks.
+fn lay(masks: &mut [u16], k: usize, block: &[u16])
+    requires { (96 * k + 96 ≤ length masks.old) × (length block.now ≡ 96) }
+    ensures here { (j : ℕ) → j < 96 → get_or masks.new (96 * k + j) 0 ≡ get_or block.now j 0 }
+    ensures before { (i : ℕ) → i < 96 * k → get_or masks.new i 0 ≡ get_or masks.old i 0 }
 {
-    if shape_error(shape) == 0 {
-        filled_ends(mode, from, shape, at)
-    } else {
-        [0u16; 288]
+    let to = 96 * k;
+    // A loop, since the library's copy would make a board supply memmove.
+    for j in 0..96 {
+        masks[to + j] = block[j];
     }
 }
 
-fn any_way(from: bool, shape: Shape, k: usize) -> u16
-    requires { shape_error shape ≡ 0 }
-    ensures { result ≡ any_way from shape k }
+// The masks of one end of the legs in this mode: a block for each dimension.
+pub fn ends(mode: Mode, end: End, shape: Shape, at: Coords) -> [u16; 288]
+    ensures { Ended mode (begins end) shape at result }
 {
-    let dim = dim_at(k / 16);
-    let end = (k % 16) as u8;
-    ways_row(from, extent(shape, dim), wrapped(shape, dim), end)
-}
-
-// For each dimension and each end, the other ends for which a deterministic leg goes plus.
-fn any_ways(from: bool, shape: Shape) -> [u16; 48]
-    requires { shape_error shape ≡ 0 }
-    ensures { (k : ℕ) → k < 48 → get_or result k 0 ≡ any_way from shape k }
-{
-    let mut ways = [0u16; 48];
-    let mut k: usize = 0;
-    while k < 48 {
-        ways[k] = any_way(from, shape, k);
-        k = k + 1;
+    let mut masks = [0u16; 288];
+    if shape.check().is_err() {
+        return masks;
     }
-    ways
-}
-
-fn mask_at(mode: Mode, from: bool, shape: Shape, ways: &[u16; 48], i: usize) -> u16
-    requires { (shape_error shape ≡ 0) × (i < 4608) × ((k : ℕ) → k < 48 → get_or ways.now k 0 ≡ any_way from shape k) }
-    ensures { result ≡ mask_at mode from shape i }
-{
-    let dim = dim_at(i / 1536);
-    let len = extent(shape, dim);
-    let end = (i / 96 % 16) as u8;
-    if len <= end {
-        return 0;
+    for k in 0..3 {
+        let d = dim_at(k);
+        lay(&mut masks, k, &block(mode, end, shape.axis(d), at.coord(d)));
     }
-    let ring = wrapped(shape, dim);
-    let column = (i % 96 / 16) as u8;
-    let c = (i % 16) as u8;
-    let k = i / 96;
-    mask(mode, from, len, ring, column, c, end, ways[k])
+    masks
 }
 
-fn filled(mode: Mode, from: bool, shape: Shape) -> [u16; 4608]
-    requires { shape_error shape ≡ 0 }
-    ensures { (i : ℕ) → i < 4608 → get_or result i 0 ≡ mask_at mode from shape i }
+// The masks of every end, a block for each: once for each plan.
+pub fn table(mode: Mode, end: End, shape: Shape) -> [u16; 4608]
+    ensures { Masked mode (begins end) shape result }
 {
-    let ways = any_ways(from, shape);
     let mut table = [0u16; 4608];
-    let mut i: usize = 0;
-    while i < 4608 {
-        table[i] = mask_at(mode, from, shape, &ways, i);
-        i = i + 1;
+    if shape.check().is_err() {
+        return table;
+    }
+    for k in 0..48 {
+        let axis = shape.axis(dim_at(k / 16));
+        lay(&mut table, k, &block(mode, end, axis, (k % 16) as u8));
     }
     table
-}
-
-// The masks of every end: once for each plan.
-pub fn table(mode: Mode, from: bool, shape: Shape) -> [u16; 4608]
-    ensures { Masked mode from shape result }
-{
-    if shape_error(shape) == 0 {
-        filled(mode, from, shape)
-    } else {
-        [0u16; 4608]
-    }
-}
-
-// The masks of dimension number d, from those of all its ends.
-fn lay(masks: &mut [u16; 288], table: &[u16; 4608], d: usize, end: usize)
-    requires { (length masks.old ≡ 288) × (d < 3) × (end < 16) }
-    ensures { Laid (laid_to table.now d end 96) masks.old masks.new }
-{
-    let to = 96 * d;
-    let at = 1536 * d + 96 * end;
-    let mut j: usize = 0;
-    while j < 96 {
-        masks[to + j] = table[at + j];
-        j = j + 1;
-    }
 }
 
 // The masks of one end, from the table of all.
@@ -176,8 +84,9 @@ pub fn gather(table: &[u16; 4608], at: Coords) -> [u16; 288]
     ensures { (i : ℕ) → i < 288 → get_or result i 0 ≡ gather_at table.now at i }
 {
     let mut masks = [0u16; 288];
-    lay(&mut masks, table, 0, at.x as usize % 16);
-    lay(&mut masks, table, 1, at.y as usize % 16);
-    lay(&mut masks, table, 2, at.z as usize % 16);
+    for k in 0..3 {
+        let from = 96 * (16 * k + at.coord(dim_at(k)) as usize % 16);
+        lay(&mut masks, k, &table[from..from + 96]);
+    }
     masks
 }

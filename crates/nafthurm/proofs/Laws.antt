@@ -5,7 +5,9 @@ use mathlib.Core.List.{List, [], ◌∷◌}
 use mathlib.Core.Option.{Option, none, some}
 use lib.ListN.{drop}
 use lib.Dec.{eqb}
+use Rattle.numbers.specs.declared.Refusal.{Refusal}
 use Rattle.numbers.specs.Numbers.{wrong_packet}
+use Rattle.numbers.specs.Refusals.{refusal}
 use Rattle.theory.specs.Checks.{◌then◌}
 use Rattle.theory.specs.Packet.{step, tried, may_go, walk, goes, arrived}
 use Rattle.theory.specs.Marks.{passed, hop}
@@ -99,12 +101,12 @@ module _ (s : Shape) (f : PacketForm) where
   taken_back_is d = packet_kept f (back (torus s) (backward s) (kept s) (packet_of f) d).packet (back_same s (packet_of f) d)
 
 -- A form with a number is that refusal; without one it says what its kind and vias say.
-refused_as : (n : ℕ) (a : Answer) → (n ≡ 0 → ⊥) → Outcome.Refused n ≡ told_as 0 (answered n a)
+refused_as : (n : ℕ) (a : Answer) → (n ≡ 0 → ⊥) → Outcome.Refused (refusal n) ≡ told_as 0 (answered n a)
 unfolding told_as answered
 refused_as zero a h = absurd (h refl)
 refused_as (suc n) a h = refl
 
-pub refused_in : (D : ℕ) (f : RouteForm) → (f.number ≡ 0 → ⊥) → Outcome.Refused f.number ≡ outcome_in D f
+pub refused_in : (D : ℕ) (f : RouteForm) → (f.number ≡ 0 → ⊥) → Outcome.Refused (refusal f.number) ≡ outcome_in D f
 unfolding outcome_in
 refused_in D f h = refused_as f.number _ h
 
@@ -142,6 +144,6 @@ new_is far s S D c a = admitted_legs (λ c. packet_of (made_for (packet_in S D (
     three v u Deterministic Deterministic Deterministic = refl
 
 -- Of a refusal it is declined by every call: 5 or 6 of the shape, else 14.
-pub new_refused : (s : Shape) (S D e : ℕ) → packet_error s (packet_in S D (Outcome.Refused e)) ≡ (shape_error s then wrong_packet)
+pub new_refused : (s : Shape) (S D : ℕ) (e : Refusal) → packet_error s (packet_in S D (Outcome.Refused e)) ≡ (shape_error s then wrong_packet)
 unfolding packet_in packet_with packet_error bad_packet
 new_refused s S D e = refl

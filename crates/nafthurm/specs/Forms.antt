@@ -1,5 +1,5 @@
 -- The values that cross, as the proved calls' own: numbers in place of enums.
-use Rattle.std.specs.Prelude.{ℕ, cond, [], ◌∷◌, get_or, replicate, eqb}
+use Rattle.std.specs.Prelude.{ℕ, cond, ◌&&◌, List, [], ◌∷◌, get_or, replicate, eqb, Result, Ok, Err}
 use Rattle.shape.specs.declared.shape.Shape.{Shape}
 use Rattle.weights.specs.declared.weights.Weights.{Weights}
 use Rattle.machine.specs.declared.leg.Leg.{Leg}
@@ -12,14 +12,17 @@ use Rattle.packet.specs.declared.stepper.Ending.{Ending}
 use Rattle.packet.specs.declared.stepper.Walked.{Walked}
 use Rattle.packet.specs.Packet.{most_legs, no_leg, packet_with}
 use Rattle.packet.specs.New.{legs_to, new_packet}
-use Rattle.packet.specs.Answers.{answer_number, ending_number}
+use Rattle.numbers.specs.declared.Refusal.{Refusal}
+use Rattle.numbers.specs.Refusals.{number, answer_number}
+use Rattle.packet.specs.Answers.{ending_number}
 use Rattle.choice.specs.declared.outcome.Outcome.{Outcome}
 use Rattle.choice.specs.Choice.{det}
 use Rattle.choice.specs.Answer.{answered}
 use Rattle.choice.specs.Outcome.{outcome_number, told_as}
-use Rattle.sheet.specs.declared.output.Written.{Written}
-use Rattle.sheet.specs.Output.{written_number, written_size}
-use Rattle.planner.specs.declared.run.Answer.{Answer}
+use Rattle.sheet.specs.Output.{written_size}
+use Rattle.planner.specs.declared.run.Run.{Run}
+use Rattle.planner.specs.declared.run.RunRefusal.{RunRefusal}
+use Rattle.planner.specs.Run.{few_words, run_error, answer_of}
 use Rattle.routes.specs.declared.layout.Entry.{Entry}
 use Rattle.routes.specs.Said.{said_by, entry_for, heard}
 use Rattle.nafthurm.specs.declared.forms.ShapeForm.{ShapeForm}
@@ -80,17 +83,24 @@ ending_for (Ending.Refused e) = 3
 unfoldable pub walked_for : PacketForm → Walked → WalkedForm
 walked_for lent w = record { packet = packet_for lent w.packet; number = ending_number w.ending; ending = ending_for w.ending; hops = w.hops }
 
-unfoldable pub written_for : Written → WrittenForm
-written_for w = record { number = written_number w; size = written_size w }
+unfoldable pub written_for : Result ℕ Refusal → WrittenForm
+written_for w = record { number = answer_number w; size = written_size w }
 
-unfoldable pub converted_for : Written → ℕ → ConvertedForm
-converted_for w i = record { number = written_number w; entry = i; size = written_size w }
+unfoldable pub converted_for : Result ℕ Refusal → ℕ → ConvertedForm
+converted_for w i = record { number = answer_number w; entry = i; size = written_size w }
 
 -- The number of too small a workspace is 255, which no refusal has.
-unfoldable pub run_for : Answer → RunForm
-run_for (Answer.Written run) = record { number = 0; next = run.next; size = run.size }
-run_for (Answer.Refused e) = record { number = e; next = 0; size = 0 }
-run_for Answer.FewWords = record { number = 255; next = 0; size = 0 }
+abbrev pub run_refusal_for : RunRefusal → ℕ
+run_refusal_for (RunRefusal.Refused e) = number e
+run_refusal_for RunRefusal.FewWords = 255
+
+unfoldable pub run_for : Result Run RunRefusal → RunForm
+run_for (Ok run) = record { number = 0; next = run.next; size = run.size }
+run_for (Err e) = record { number = run_refusal_for e; next = 0; size = 0 }
+
+-- That number of a run from a board on, with a workspace of so many words, into so many bytes.
+unfoldable pub run_form_number : List ℕ → ℕ → ℕ → ℕ → ℕ
+run_form_number p from words room = cond (eqb (run_error p from) 0 && few_words p words) 255 (answer_of p from words room)
 
 abbrev pub part_for : ℕ → ℕ → PartForm
 part_for at len = record { start = at; size = len }

@@ -1,16 +1,17 @@
-// The values that cross, each a struct of numbers, and the calls' own values as such.
+// The values that cross, each a struct of numbers as library/nafthurm.h has it, and the calls' own values as such.
 ghost use Rattle.std.specs.Prelude.{◌≡◌};
-ghost use Rattle.nafthurm.specs.Forms.{shape_of, shape_for, weights_for, mode_of, leg_of, packet_of, packet_for, stepped_for, ending_for, walked_for, written_for, converted_for, run_for, route_for, length_for, planned_for, outcome_in, packet_in, leg_for, made_for};
+ghost use Rattle.nafthurm.specs.Forms.{mode_of, packet_for, stepped_for, ending_for, walked_for, run_refusal_for, length_for, outcome_in, packet_in};
 
-use all_sheets::Answer;
+use all_sheets::{Run, RunRefusal};
 use choice::Outcome;
 use conversion::Converted;
 use machine::leg::{Leg, Mode};
+use numbers::Refusal;
 use packet::{Ending, MOST_LEGS, Packet, Stepped, Walked};
 use routes::Entry;
 use routes::kinds::{entry_for, outcome_by};
 use shape::Shape;
-use sheet::output::Written;
+use sheet::output::{number, size};
 use weights::Weights;
 
 #[repr(C)]
@@ -108,94 +109,139 @@ pub struct PlannedForm {
     pub length: u16,
 }
 
-pub fn shape_of(form: ShapeForm) -> Shape
-    ensures { result ≡ shape_of form }
-{
-    Shape {
-        x: form.x,
-        y: form.y,
-        z: form.z,
-        wrap: form.wrap,
+impl From<ShapeForm> for Shape {
+    ghost use Rattle.nafthurm.specs.Forms.{shape_of};
+
+    ghost from_gives = { λ form made. made ≡ shape_of form };
+
+    fn from(form: ShapeForm) -> Shape {
+        Shape {
+            x: form.x,
+            y: form.y,
+            z: form.z,
+            wrap: form.wrap,
+        }
     }
 }
 
-pub fn shape_for(shape: Shape) -> ShapeForm
-    ensures { result ≡ shape_for shape }
-{
-    ShapeForm {
-        x: shape.x,
-        y: shape.y,
-        z: shape.z,
-        wrap: shape.wrap,
+impl From<Shape> for ShapeForm {
+    ghost use Rattle.nafthurm.specs.Forms.{shape_for};
+
+    ghost from_gives = { λ shape made. made ≡ shape_for shape };
+
+    fn from(shape: Shape) -> ShapeForm {
+        ShapeForm {
+            x: shape.x,
+            y: shape.y,
+            z: shape.z,
+            wrap: shape.wrap,
+        }
     }
 }
 
-pub fn weights_for(weights: Weights) -> WeightsForm
-    ensures { result ≡ weights_for weights }
-{
-    WeightsForm {
-        x: weights.x,
-        y: weights.y,
-        z: weights.z,
+impl From<Weights> for WeightsForm {
+    ghost use Rattle.nafthurm.specs.Forms.{weights_for};
+
+    ghost from_gives = { λ weights made. made ≡ weights_for weights };
+
+    fn from(weights: Weights) -> WeightsForm {
+        WeightsForm {
+            x: weights.x,
+            y: weights.y,
+            z: weights.z,
+        }
     }
 }
 
+// A byte in C, and every byte is a mode (`nafthurm_step`).
 fn mode_of(mode: u8) -> Mode
     ensures { result ≡ mode_of mode }
 {
-    if mode == 0 {
-        Mode::Adaptive
-    } else {
-        Mode::Deterministic
+    match mode {
+        0 => Mode::Adaptive,
+        _ => Mode::Deterministic,
     }
 }
 
-fn leg_of(leg: LegForm) -> Leg
-    ensures { result ≡ leg_of leg }
-{
-    Leg {
-        target: leg.target,
-        mode: mode_of(leg.mode),
+impl From<LegForm> for Leg {
+    ghost use Rattle.nafthurm.specs.Forms.{leg_of};
+
+    ghost from_gives = { λ form made. made ≡ leg_of form };
+
+    fn from(form: LegForm) -> Leg {
+        Leg {
+            target: form.target,
+            mode: mode_of(form.mode),
+        }
     }
 }
 
-pub fn packet_of(form: PacketForm) -> Packet
-    ensures { result ≡ packet_of form }
-{
-    let legs = form.legs;
-    let first = leg_of(legs[0]);
-    let second = leg_of(legs[1]);
-    let third = leg_of(legs[2]);
-    Packet::with(
-        form.source,
-        form.node,
-        [first, second, third],
-        form.count,
-        form.mark,
-    )
+impl From<Leg> for LegForm {
+    ghost use Rattle.nafthurm.specs.Forms.{leg_for};
+
+    ghost from_gives = { λ leg made. made ≡ leg_for leg };
+
+    fn from(leg: Leg) -> LegForm {
+        LegForm {
+            target: leg.target,
+            mode: leg.mode as u8,
+        }
+    }
 }
 
+impl From<PacketForm> for Packet {
+    ghost use Rattle.nafthurm.specs.Forms.{packet_of};
+
+    ghost from_gives = { λ form made. made ≡ packet_of form };
+
+    fn from(form: PacketForm) -> Packet {
+        let [first, second, third] = form.legs;
+        Packet::with(
+            form.source,
+            form.node,
+            [first.into(), second.into(), third.into()],
+            form.count,
+            form.mark,
+        )
+    }
+}
+
+// A packet that was made here, and not lent.
+impl From<Packet> for PacketForm {
+    ghost use Rattle.nafthurm.specs.Forms.{made_for};
+
+    ghost from_gives = { λ packet made. made ≡ made_for packet };
+
+    fn from(packet: Packet) -> PacketForm {
+        let [first, second, third] = packet.legs;
+        PacketForm {
+            source: packet.source,
+            node: packet.node,
+            legs: [first.into(), second.into(), third.into()],
+            count: packet.count,
+            mark: packet.mark,
+        }
+    }
+}
+
+// A packet that was lent, after a call: the source, the legs and the count stay as lent.
 fn packet_for(lent: PacketForm, packet: Packet) -> PacketForm
     ensures { result ≡ packet_for lent packet }
 {
-    let legs = lent.legs;
     PacketForm {
-        source: lent.source,
         node: packet.node,
-        legs: legs,
-        count: lent.count,
         mark: packet.mark,
+        ..lent
     }
 }
 
 pub fn stepped_for(lent: PacketForm, stepped: Stepped) -> SteppedForm
     ensures { result ≡ stepped_for lent stepped }
 {
-    let packet = stepped.packet;
-    let answer = stepped.answer;
+    let Stepped { packet, answer } = stepped;
     SteppedForm {
         packet: packet_for(lent, packet),
-        number: answer.number(),
+        number: number(answer),
     }
 }
 
@@ -213,70 +259,93 @@ fn ending_for(ending: Ending) -> u8
 pub fn walked_for(lent: PacketForm, walked: Walked) -> WalkedForm
     ensures { result ≡ walked_for lent walked }
 {
-    let packet = walked.packet;
-    let ending = walked.ending;
+    let Walked {
+        packet,
+        hops,
+        ending,
+    } = walked;
     WalkedForm {
         packet: packet_for(lent, packet),
         number: ending.number(),
         ending: ending_for(ending),
-        hops: walked.hops,
+        hops,
     }
 }
 
-pub fn written_for(written: Written) -> WrittenForm
-    ensures { result ≡ written_for written }
-{
-    WrittenForm {
-        number: written.number(),
-        size: written.size(),
+impl From<Result<usize, Refusal>> for WrittenForm {
+    ghost use Rattle.nafthurm.specs.Forms.{written_for};
+
+    ghost from_gives = { λ written made. made ≡ written_for written };
+
+    fn from(written: Result<usize, Refusal>) -> WrittenForm {
+        WrittenForm {
+            number: number(written),
+            size: size(written),
+        }
     }
 }
 
-pub fn converted_for(converted: Converted) -> ConvertedForm
-    ensures { result ≡ converted_for converted.written converted.entry }
-{
-    let written = converted.written;
-    ConvertedForm {
-        number: written.number(),
-        entry: converted.entry,
-        size: written.size(),
+impl From<Converted> for ConvertedForm {
+    ghost use Rattle.nafthurm.specs.Forms.{converted_for};
+
+    ghost from_gives = { λ converted made. made ≡ converted_for converted.written converted.entry };
+
+    fn from(converted: Converted) -> ConvertedForm {
+        let Converted { written, entry } = converted;
+        ConvertedForm {
+            number: number(written),
+            entry,
+            size: size(written),
+        }
     }
 }
 
 // No number of a refusal: the lent workspace is too small.
 const FEW_WORDS: u8 = 255;
 
-pub fn run_for(answer: Answer) -> RunForm
-    ensures { result ≡ run_for answer }
+fn run_refusal_for(refusal: RunRefusal) -> u8
+    ensures { result ≡ run_refusal_for refusal }
 {
-    match answer {
-        Answer::Written(run) => RunForm {
-            number: 0,
-            next: run.next,
-            size: run.size,
-        },
-        Answer::Refused(number) => RunForm {
-            number: number,
-            next: 0,
-            size: 0,
-        },
-        Answer::FewWords => RunForm {
-            number: FEW_WORDS,
-            next: 0,
-            size: 0,
-        },
+    match refusal {
+        RunRefusal::Refused(refusal) => refusal.number(),
+        RunRefusal::FewWords => FEW_WORDS,
+    }
+}
+
+impl From<Result<Run, RunRefusal>> for RunForm {
+    ghost use Rattle.nafthurm.specs.Forms.{run_for};
+
+    ghost from_gives = { λ answer made. made ≡ run_for answer };
+
+    fn from(answer: Result<Run, RunRefusal>) -> RunForm {
+        match answer {
+            Ok(run) => RunForm {
+                number: 0,
+                next: run.next,
+                size: run.size,
+            },
+            Err(refusal) => RunForm {
+                number: run_refusal_for(refusal),
+                next: 0,
+                size: 0,
+            },
+        }
     }
 }
 
 // The kind and the vias as in the entry of a sheet.
-pub fn route_for(outcome: Outcome) -> RouteForm
-    ensures { result ≡ route_for outcome }
-{
-    let entry = entry_for(0, outcome);
-    RouteForm {
-        number: outcome.number(),
-        kind: entry.kind,
-        via: [entry.via, entry.second],
+impl From<Outcome> for RouteForm {
+    ghost use Rattle.nafthurm.specs.Forms.{route_for};
+
+    ghost from_gives = { λ outcome made. made ≡ route_for outcome };
+
+    fn from(outcome: Outcome) -> RouteForm {
+        let entry = entry_for(0, outcome);
+        RouteForm {
+            number: outcome.number(),
+            kind: entry.kind,
+            via: [entry.via, entry.second],
+        }
     }
 }
 
@@ -289,31 +358,34 @@ fn length_for(outcome: Outcome) -> u16
     }
 }
 
-pub fn planned_for(outcome: Outcome) -> PlannedForm
-    ensures { result ≡ planned_for outcome }
-{
-    PlannedForm {
-        route: route_for(outcome),
-        length: length_for(outcome),
+impl From<Outcome> for PlannedForm {
+    ghost use Rattle.nafthurm.specs.Forms.{planned_for};
+
+    ghost from_gives = { λ outcome made. made ≡ planned_for outcome };
+
+    fn from(outcome: Outcome) -> PlannedForm {
+        PlannedForm {
+            route: outcome.into(),
+            length: length_for(outcome),
+        }
     }
 }
 
-// The route that a form says; it says no length.
+// The route that a form says; it says no length. Of a form with a number that refusal, of one that no cause has the first: `packet_in` makes one packet of
+// all of them.
 pub fn outcome_in(destination: u16, form: RouteForm) -> Outcome
     ensures { result ≡ outcome_in destination form }
 {
     if form.number != 0 {
-        return Outcome::Refused(form.number);
+        return Outcome::refused(form.number);
     }
-    let vias = form.via;
-    let via = vias[0];
-    let second = vias[1];
+    let [via, second] = form.via;
     outcome_by(
         Entry {
             dest: destination,
             kind: form.kind,
-            via: via,
-            second: second,
+            via,
+            second,
         },
         0,
     )
@@ -332,38 +404,5 @@ pub fn packet_in(source: u16, destination: u16, outcome: Outcome) -> Packet
             };
             Packet::with(source, source, [leg; MOST_LEGS], 255, 0)
         }
-    }
-}
-
-fn leg_for(leg: Leg) -> LegForm
-    ensures { result ≡ leg_for leg }
-{
-    let mode = leg.mode;
-    match mode {
-        Mode::Adaptive => LegForm {
-            target: leg.target,
-            mode: 0,
-        },
-        Mode::Deterministic => LegForm {
-            target: leg.target,
-            mode: 1,
-        },
-    }
-}
-
-// A packet that was made here, and not lent.
-pub fn made_for(packet: Packet) -> PacketForm
-    ensures { result ≡ made_for packet }
-{
-    let legs = packet.legs;
-    let first = leg_for(legs[0]);
-    let second = leg_for(legs[1]);
-    let third = leg_for(legs[2]);
-    PacketForm {
-        source: packet.source,
-        node: packet.node,
-        legs: [first, second, third],
-        count: packet.count,
-        mark: packet.mark,
     }
 }

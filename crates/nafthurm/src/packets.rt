@@ -1,6 +1,6 @@
 // Packets: the new packet of a route, the step, the walk, and a hop taken back.
 ghost use Rattle.std.specs.Prelude.{◌≡◌};
-ghost use Rattle.theory.specs.Packet.{step, walk};
+ghost use Rattle.theory.specs.Packet.{step, walk, walk_number};
 ghost use Rattle.theory.specs.Back.{back};
 ghost use Rattle.machine.specs.Torus.{torus};
 ghost use Rattle.legs.specs.Backward.{backward};
@@ -9,29 +9,32 @@ ghost use Rattle.packet.specs.Answers.{told, told_walk};
 ghost use Rattle.nafthurm.specs.Forms.{shape_of, packet_of, stepped_for, walked_for, outcome_in, packet_in, made_for};
 
 use crate::forms::{
-    PacketForm, RouteForm, ShapeForm, SteppedForm, WalkedForm, made_for, outcome_in, packet_in,
-    packet_of, shape_of, stepped_for, walked_for,
+    PacketForm, RouteForm, ShapeForm, SteppedForm, WalkedForm, outcome_in, packet_in, stepped_for,
+    walked_for,
 };
+use packet::Packet;
+use sheet::output::number;
 
 #[unsafe(no_mangle)]
 pub extern "C" fn nafthurm_new_packet(source: u16, destination: u16, route: RouteForm) -> PacketForm
     ensures { result ≡ made_for (packet_in source destination (outcome_in destination route)) }
 {
-    made_for(packet_in(source, destination, outcome_in(destination, route)))
+    packet_in(source, destination, outcome_in(destination, route)).into()
 }
 
 #[unsafe(no_mangle)]
 pub extern "C" fn nafthurm_packet_check(shape: ShapeForm, packet: PacketForm) -> u8
     ensures { result ≡ packet_error (shape_of shape) (packet_of packet) }
 {
-    packet_of(packet).check(shape_of(shape))
+    number(Packet::from(packet).check(shape.into()))
 }
 
 #[unsafe(no_mangle)]
 pub extern "C" fn nafthurm_step(shape: ShapeForm, packet: PacketForm, direction: u8) -> SteppedForm
-    ensures { result ≡ stepped_for packet (told (step (torus (shape_of shape)) (stored (shape_of shape)) (packet_of packet) direction)) }
+    ensures value { result ≡ stepped_for packet (told (step (torus (shape_of shape)) (stored (shape_of shape)) (packet_of packet) direction)) }
+    ensures number { result.number ≡ (step (torus (shape_of shape)) (stored (shape_of shape)) (packet_of packet) direction).number }
 {
-    stepped_for(packet, packet_of(packet).step(shape_of(shape), direction))
+    stepped_for(packet, Packet::from(packet).step(shape.into(), direction))
 }
 
 #[unsafe(no_mangle)]
@@ -40,9 +43,10 @@ pub extern "C" fn nafthurm_walk(
     packet: PacketForm,
     directions: &[u8],
 ) -> WalkedForm
-    ensures { result ≡ walked_for packet (told_walk (walk (torus (shape_of shape)) (stored (shape_of shape)) (packet_of packet) directions.now)) }
+    ensures value { result ≡ walked_for packet (told_walk (walk (torus (shape_of shape)) (stored (shape_of shape)) (packet_of packet) directions.now)) }
+    ensures number { result.number ≡ walk_number (walk (torus (shape_of shape)) (stored (shape_of shape)) (packet_of packet) directions.now).ending }
 {
-    walked_for(packet, packet_of(packet).walk(shape_of(shape), directions))
+    walked_for(packet, Packet::from(packet).walk(shape.into(), directions))
 }
 
 #[unsafe(no_mangle)]
@@ -51,10 +55,11 @@ pub extern "C" fn nafthurm_take_back(
     packet: PacketForm,
     direction: u8,
 ) -> SteppedForm
-    ensures { result ≡ stepped_for packet (told (back (torus (shape_of shape)) (backward (shape_of shape)) (kept (shape_of shape)) (packet_of packet) direction)) }
+    ensures value { result ≡ stepped_for packet (told (back (torus (shape_of shape)) (backward (shape_of shape)) (kept (shape_of shape)) (packet_of packet) direction)) }
+    ensures number { result.number ≡ (back (torus (shape_of shape)) (backward (shape_of shape)) (kept (shape_of shape)) (packet_of packet) direction).number }
 {
     stepped_for(
         packet,
-        packet_of(packet).take_back(shape_of(shape), direction),
+        Packet::from(packet).take_back(shape.into(), direction),
     )
 }

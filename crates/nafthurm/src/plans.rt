@@ -7,27 +7,28 @@ ghost use Rattle.plan.specs.Writing.{write_error};
 ghost use Rattle.dead.specs.Dead.{node_answer, link_answer};
 ghost use Rattle.nafthurm.specs.Forms.{shape_for, weights_for, written_for};
 
-use crate::forms::{ShapeForm, WeightsForm, WrittenForm, shape_for, weights_for, written_for};
+use crate::forms::{ShapeForm, WeightsForm, WrittenForm};
+use sheet::output::number;
 
 #[unsafe(no_mangle)]
 pub extern "C" fn nafthurm_plan_check(plan: &[u8]) -> u8
     ensures { result ≡ plan_error large plan.now }
 {
-    plan::check(plan)
+    number(plan::check(plan))
 }
 
 #[unsafe(no_mangle)]
 pub extern "C" fn nafthurm_plan_shape(plan: &[u8]) -> ShapeForm
     ensures { result ≡ shape_for (shape_answer large plan.now) }
 {
-    shape_for(plan::shape_of(plan))
+    plan::shape_of(plan).into()
 }
 
 #[unsafe(no_mangle)]
 pub extern "C" fn nafthurm_plan_weights(plan: &[u8]) -> WeightsForm
     ensures { result ≡ weights_for (weights_answer large plan.now) }
 {
-    weights_for(plan::weights_of(plan))
+    plan::weights_of(plan).into()
 }
 
 #[unsafe(no_mangle)]
@@ -47,7 +48,8 @@ pub extern "C" fn nafthurm_dead_link(plan: &[u8], node: u16, direction: u8) -> b
 #[unsafe(no_mangle)]
 pub extern "C" fn nafthurm_plan_write_back(plan: &[u8], out: &mut [u8]) -> WrittenForm
     ensures value { result ≡ written_for (written (write_error large plan.now out.old) plan.now) }
+    ensures number { result.number ≡ write_error large plan.now out.old }
     ensures out_after { out.new ≡ out_after (write_error large plan.now out.old) plan.now out.old }
 {
-    written_for(plan::write_back(plan, out))
+    plan::write_back(plan, out).into()
 }

@@ -4,7 +4,7 @@ ghost use Rattle.sheet.specs.Output.{written, out_after};
 ghost use Rattle.routes.specs.Checks.{sheet_error};
 ghost use Rattle.route_value.specs.Writing.{rewritten, back_error};
 ghost use Rattle.plan.specs.Checks.{large};
-ghost use Rattle.choice.specs.Outcome.{told};
+ghost use Rattle.choice.specs.Outcome.{told, told_number};
 ghost use Rattle.choice.specs.Pair.{far_in};
 ghost use Rattle.routes.specs.Layout.{source};
 ghost use Rattle.routes.specs.Lookup.{part_start, part_length};
@@ -12,19 +12,18 @@ ghost use Rattle.routes.specs.Says.{says};
 ghost use Rattle.conversion.specs.Converting.{converted, convert_error, lost_entry};
 ghost use Rattle.nafthurm.specs.Forms.{written_for, converted_for, route_for, part_for};
 
-use crate::forms::{
-    ConvertedForm, PartForm, RouteForm, WrittenForm, converted_for, route_for, written_for,
-};
+use crate::forms::{ConvertedForm, PartForm, RouteForm, WrittenForm};
 use conversion::convert;
 use route_value::write_back;
 use routes::lookup::entry_part;
 use routes::route::route;
+use sheet::output::number;
 
 #[unsafe(no_mangle)]
 pub extern "C" fn nafthurm_sheet_check(plan: &[u8], sheet: &[u8]) -> u8
     ensures { result ≡ sheet_error large plan.now sheet.now }
 {
-    routes::check(plan, sheet)
+    number(routes::check(plan, sheet))
 }
 
 #[unsafe(no_mangle)]
@@ -34,17 +33,19 @@ pub extern "C" fn nafthurm_sheet_write_back(
     out: &mut [u8],
 ) -> WrittenForm
     ensures value { result ≡ written_for (written (back_error large plan.now sheet.now out.old) (rewritten sheet.now)) }
+    ensures number { result.number ≡ back_error large plan.now sheet.now out.old }
     ensures out_after { out.new ≡ out_after (back_error large plan.now sheet.now out.old) (rewritten sheet.now) out.old }
 {
-    written_for(write_back(plan, sheet, out))
+    write_back(plan, sheet, out).into()
 }
 
 #[unsafe(no_mangle)]
 pub extern "C" fn nafthurm_convert(plan: &[u8], sheet: &[u8], out: &mut [u8]) -> ConvertedForm
     ensures value { result ≡ converted_for (written (convert_error large plan.now sheet.now out.old) (converted sheet.now)) (lost_entry large plan.now sheet.now) }
+    ensures number { result.number ≡ convert_error large plan.now sheet.now out.old }
     ensures out_after { out.new ≡ out_after (convert_error large plan.now sheet.now out.old) (converted sheet.now) out.old }
 {
-    converted_for(convert(plan, sheet, out))
+    convert(plan, sheet, out).into()
 }
 
 // The part that routes::lookup gives, as numbers: C cannot be given a part by reference.
@@ -61,7 +62,8 @@ pub extern "C" fn nafthurm_lookup(plan: &[u8], sheet: &[u8], destination: u16) -
 
 #[unsafe(no_mangle)]
 pub extern "C" fn nafthurm_lookup_route(plan: &[u8], sheet: &[u8], destination: u16) -> RouteForm
-    ensures { result ≡ route_for (told (far_in plan.now) (source sheet.now) (says large plan.now sheet.now destination)) }
+    ensures value { result ≡ route_for (told (far_in plan.now) (source sheet.now) (says large plan.now sheet.now destination)) }
+    ensures number { result.number ≡ told_number (says large plan.now sheet.now destination) }
 {
-    route_for(route(plan, sheet, destination))
+    route(plan, sheet, destination).into()
 }

@@ -26,10 +26,10 @@ use Rattle.choice.specs.Pair.{far_in}
 use Rattle.legs.specs.Between.{between}
 use Rattle.legs.proofs.Dims.{all_of, of_all}
 use Rattle.legs.proofs.Box.{box}
+use Rattle.rows.specs.declared.product.Places.{Places}
 use Rattle.rows.specs.Rows.{in_rows, in_set, in_product}
 use Rattle.rows.specs.Product.{Are}
 use Rattle.sets.specs.Clear.{clear_in}
-use Rattle.masks.specs.declared.span.Box.{Box}
 use Rattle.masks.specs.Span.{box_of}
 use Rattle.masks.specs.Masks.{gather_at, Ended, Masked}
 use Rattle.masks.proofs.Spans.{box_inside}
@@ -45,7 +45,7 @@ use Rattle.notes.proofs.ShortStep.{one_note, two_note}
 
 -- The box of two nodes has just the nodes on the shortest ways between them.
 pub is_box :
-    (p : List ℕ) (s : Shape) (S D : ℕ) (a t : Coords) → plan_error large p ≡ 0 → s ≡ shape_of p → IsAt p S a → IsAt p D t → (b : Box) → b ≡ box_of s a t →
+    (p : List ℕ) (s : Shape) (S D : ℕ) (a t : Coords) → plan_error large p ≡ 0 → s ≡ shape_of p → IsAt p S a → IsAt p D t → (b : Places) → b ≡ box_of s a t →
     IsBox p S D b.x b.y b.z
 is_box p s S D a t h e from to b q v l = (λ i. way.1 (all_of f (sym product ∙ i)), λ w. product ∙ of_all f (way.0 w))
   where
@@ -63,7 +63,7 @@ is_box p s S D a t h e from to b q v l = (λ i. way.1 (all_of f (sym product ∙
 
     product : in_product b.x b.y b.z (coords_of (shape_of p) v) ≡ (f X && (f Y && f Z))
     product =
-        ap (λ (k : Box). in_product k.x k.y k.z (coords_of (shape_of p) v)) made
+        ap (λ (k : Places). in_product k.x k.y k.z (coords_of (shape_of p) v)) made
         ∙ box_inside (shape_of p) ok (coords_of (shape_of p) S) (coords_of (shape_of p) D) (coords_of (shape_of p) v) (inside (shape_of p) ok S from.node) (inside (shape_of p) ok D to.node) (inside (shape_of p) ok v l)
 
 pub length_is_law :
@@ -97,7 +97,7 @@ gathered_at p s D t table masks h to m from full g = let k = small_at p D t h to
 -- ---- the set of the nodes on the shortest ways
 pub between_made :
     (p : List ℕ) (m : Mode) (s : Shape) (S D : ℕ) (a t : Coords) (near : List ℕ) (n : ℕ) (ends run : List ℕ) (at : ℕ) → Between p m s S D a t near n ends run at →
-    (b : Box) → b ≡ box_of s a t → (set new : List ℕ) → Are (clear_in b.x b.y b.z ends near n) set → Put at set 256 run new → BetweenMade p m S D at run new
+    (b : Places) → b ≡ box_of s a t → (set new : List ℕ) → Are (clear_in b.x b.y b.z ends near n) set → Put at set 256 run new → BetweenMade p m S D at run new
 between_made p m s S D a t near n ends run at g b eb set new are put =
     let box = is_box p s S D a t g.of_plan.plan g.of_plan.shape g.source g.target b eb in
     record {
@@ -109,7 +109,7 @@ between_made p m s S D a t near n ends run at g b eb set new are put =
 
 -- ---- the lowest via in it
 module _ (p : List ℕ) (s : Shape) (S D : ℕ) (a t : Coords) (h : plan_error large p ≡ 0) (es : s ≡ shape_of p) (from : IsAt p S a) (end : IsAt p D t) (fa to : List ℕ) (at : ℕ)
-    (out : FromSet p Adaptive S fa) (back : ToBetween p Adaptive S D to at) (room : at + 256 ≤ length to) (b : Box) (eb : b ≡ box_of s a t)
+    (out : FromSet p Adaptive S fa) (back : ToBetween p Adaptive S D to at) (room : at + 256 ≤ length to) (b : Places) (eb : b ≡ box_of s a t)
     (via : ℕ) (first : FirstOf (node_count s) (is_via s b.x b.y b.z fa to at) via) where
   pub lowest_here : LowestVia p Adaptive Adaptive S D via
   lowest_here = box_lowest p s Adaptive Adaptive S D b.x b.y b.z fa to at es h room via first (is_box p s S D a t h es from end b eb) out back
@@ -158,7 +158,7 @@ module _ (p : List ℕ) (w : Weights) (s : Shape) (words : List ℕ) (count S D 
   pub masks_behind : (new last : List ℕ) → BetweenMade p Deterministic S D 256 run new → Elsewhere 512 512 new last → ToBetween p Adaptive S D last 0
   masks_behind new last made rest v l e = other_set (shape_of p) (shape_ok p k.plan) 512 512 0 new last rest (inl (omega arith)) v l ∙ masks_front new made v l e
 
-  pub masks_short : (new : List ℕ) → BetweenMade p Deterministic S D 256 run new → (b : Box) → b ≡ box_of s a t → Short p s S D b.x b.y b.z fa fd new 0
+  pub masks_short : (new : List ℕ) → BetweenMade p Deterministic S D 256 run new → (b : Places) → b ≡ box_of s a t → Short p s S D b.x b.y b.z fa fd new 0
   masks_short new made b eb = record {
     plan = k.plan;
     shape = k.shape;
@@ -179,7 +179,7 @@ module _ (p : List ℕ) (w : Weights) (s : Shape) (words : List ℕ) (count S D 
   masks_faring new at both = record { plan = k.plan; weights = g.weights; shape = k.shape; source = g.source; target = g.ends.node; adaptive = g.out; deterministic = g.straight; both = both; blocked = g.blocked.straight }
 
 -- ---- by the sets to all nodes
-module _ (p : List ℕ) (w : Weights) (s : Shape) (work : List ℕ) (S D : ℕ) (a t : Coords) (fa fd : List ℕ) (straight : Bool) (g : BySets p w s work S D a t fa fd straight) (b : Box) (eb : b ≡ box_of s a t) where
+module _ (p : List ℕ) (w : Weights) (s : Shape) (work : List ℕ) (S D : ℕ) (a t : Coords) (fa fd : List ℕ) (straight : Bool) (g : BySets p w s work S D a t fa fd straight) (b : Places) (eb : b ≡ box_of s a t) where
   module _ (via : ℕ) (first : FirstOf (node_count s) (is_via s b.x b.y b.z fa work (512 * D)) via) where
     pub sets_near : via < 4096 → NoteTo p S D via
     sets_near = here_near p s S D a t g.plan g.shape g.source g.target fa work (512 * D) g.adaptive (λ v l _. g.both.adaptive v l) (omega (arith, g.both.room)) b eb via first
@@ -215,7 +215,7 @@ module _ (p : List ℕ) (w : Weights) (s : Shape) (words : List ℕ) (count : �
   pub losses_between : (run : List ℕ) → 1024 ≤ length run → Between p Adaptive s S D a t near n masks run 0
   losses_between run room = record { words = words; count = count; of_plan = g.of_plan; standing = g.standing; source = g.source; target = g.target; ended = ended; room = omega arith }
 
-  module _ (run new : List ℕ) (room : 1024 ≤ length run) (made : BetweenMade p Adaptive S D 0 run new) (b : Box) (eb : b ≡ box_of s a t)
+  module _ (run new : List ℕ) (room : 1024 ≤ length run) (made : BetweenMade p Adaptive S D 0 run new) (b : Places) (eb : b ≡ box_of s a t)
       (via : ℕ) (first : FirstOf (node_count s) (is_via s b.x b.y b.z fa new 0) via) where
     long : 1024 ≤ length new
     long = omega (arith, made.rest.long)

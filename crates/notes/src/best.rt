@@ -2,9 +2,9 @@
 ghost use Rattle.std.specs.Prelude.{◌≡◌, List, ℕ};
 ghost use Rattle.notes.specs.Known.{note_of, NoteTo, Faring};
 
+use machine::leg::ByMode;
 use search::best::{UNCLEAR, best_via};
-use shape::{Coords, Shape};
-use weights::Weights;
+use weights::Ends;
 use weights::distance::distance_at;
 
 // By the least number, and the distance to the node.
@@ -22,21 +22,12 @@ fn note_of(number: u32, length: u16) -> u32
     4096 * (value - least) + number % 8192 / 2
 }
 
-// `fa`, `fd`: the nodes with a clear leg from the source, adaptive and deterministic. `to`: both sets to the node, from place `at` on.
-pub fn best_note(
-    weights: Weights,
-    shape: Shape,
-    a: Coords,
-    t: Coords,
-    fa: &[u16; 256],
-    fd: &[u16; 256],
-    to: &[u16],
-    at: usize,
-) -> u32
-    ensures { (p : List ℕ) (S D : ℕ) → Faring p weights shape S D a t fa.now fd.now to.now at → NoteTo p S D result }
+// `from`: the nodes with a clear leg from the source. `to`: both sets to the node, from place `at` on.
+pub fn best_note(ends: Ends, from: ByMode<&[u16; 256]>, to: &[u16], at: usize) -> u32
+    ensures { (p : List ℕ) (S D : ℕ) → Faring p ends.weights ends.shape S D ends.a ends.t from.entry.adaptive.now from.entry.deterministic.now to.now at → NoteTo p S D result }
 {
     note_of(
-        best_via(weights, shape, a, t, fa, fd, to, at),
-        distance_at(weights, shape, a, t),
+        best_via(ends, from, to, at),
+        distance_at(ends.weights, ends.shape, ends.a, ends.t),
     )
 }

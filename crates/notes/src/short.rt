@@ -1,53 +1,56 @@
 // The note of a node where neither leg to it is clear at once, and no via on the shortest ways has two clear adaptive legs: the lowest via there with one
 // deterministic leg, then with two.
-ghost use Rattle.std.specs.Prelude.{◌≡◌, List, ℕ, ◌<◌};
+ghost use Rattle.std.specs.Prelude.{◌≡◌, List, ℕ, ◌<◌, unwrap_or, IfSome};
 ghost use Rattle.search.specs.Number.{unclear};
 ghost use Rattle.notes.specs.Known.{lower, via_note, NoteTo, Short};
 
+use machine::leg::ByMode;
+use rows::product::Places;
 use search::best::UNCLEAR;
 use search::lowest::{has_rows, lowest};
 use shape::Shape;
 
-fn lower_of(first: u16, second: u16) -> u16
-    ensures { result ≡ lower first second }
+// The lower of two vias, either of which may be none.
+fn lower_of(first: Option<u16>, second: Option<u16>) -> Option<u16>
+    requires { IfSome first (λ v. v < 4096) × IfSome second (λ v. v < 4096) }
+    ensures node { IfSome result (λ v. v < 4096) }
+    ensures value { unwrap_or result 4096 ≡ lower (unwrap_or first 4096) (unwrap_or second 4096) }
 {
-    if first <= second { first } else { second }
+    let (Some(v), Some(w)) = (first, second) else {
+        return first.or(second);
+    };
+    Some(v.min(w))
 }
 
-// `via`: 4096 where there is none. `dets`: how many of its legs are deterministic.
+// `dets`: how many of its legs are deterministic.
 fn via_note(via: u16, dets: u8) -> u32
+    requires { via < 4096 }
     ensures { result ≡ via_note via dets }
 {
-    if via < 4096 {
-        return 4096 * (dets as u32) + (via as u32);
-    }
-    UNCLEAR
+    4096 * (dets as u32) + (via as u32)
 }
 
-// `bx`, `by`, `bz`: the places between the two ends. `fa`, `fd`: the nodes with a clear leg from the source, adaptive and deterministic. `to`: both sets to the
-// node, from place `at` on.
+// The note is a number, `UNCLEAR` where there is none: `planner` keeps 4,096 of them in fixed memory. `places`: those between the two ends. `from`: the nodes with a clear leg from the source. `to`: both sets to the node, from place `at` on.
 pub fn short_note(
     shape: Shape,
-    bx: u16,
-    by: u16,
-    bz: u16,
-    fa: &[u16; 256],
-    fd: &[u16; 256],
+    places: Places,
+    from: ByMode<&[u16; 256]>,
     to: &[u16],
     at: usize,
 ) -> u32
-    ensures { (p : List ℕ) (S D : ℕ) → Short p shape S D bx by bz fa.now fd.now to.now at → result < unclear → NoteTo p S D result }
+    ensures { (p : List ℕ) (S D : ℕ) → Short p shape S D places.x places.y places.z from.entry.adaptive.now from.entry.deterministic.now to.now at → result < unclear → NoteTo p S D result }
 {
     if !has_rows(to.len(), at, 512) {
         return UNCLEAR;
     }
     let behind = at + 256;
-    let first = lowest(shape, bx, by, bz, fa, to, behind);
-    let second = lowest(shape, bx, by, bz, fd, to, at);
-    let one = lower_of(first, second);
-    if one < 4096 {
-        return via_note(one, 1);
+    let first = lowest(shape, places, from.adaptive, to, behind);
+    let second = lowest(shape, places, from.deterministic, to, at);
+    if let Some(via) = lower_of(first, second) {
+        return via_note(via, 1);
     }
-    let third = lowest(shape, bx, by, bz, fd, to, behind);
-    via_note(third, 2)
+    match lowest(shape, places, from.deterministic, to, behind) {
+        Some(via) => via_note(via, 2),
+        None => UNCLEAR,
+    }
 }

@@ -1,56 +1,70 @@
-// The number of each cause for which a call declines, in document 01's words and order; specs/Numbers.antt has the same names.
+// The causes for which a call declines, in document 01's words and order, each with its number; specs/Numbers.antt has the same names.
 #![tactic(auto)]
 
-// Plan sheet under 9 bytes, of version 2 under 12.
-pub const PLAN_SHORT: u8 = 1;
+ghost use Rattle.std.specs.Prelude.{◌≡◌};
+ghost use Rattle.numbers.specs.Refusals.{number};
 
-// Plan version neither 1 nor 2.
-pub const PLAN_VERSION_UNKNOWN: u8 = 2;
+#[derive(Clone, Copy, PartialEq, Eq)]
+pub enum Refusal {
+    // Plan sheet under 9 bytes, of version 2 under 12.
+    PlanShort = 1,
 
-// Fault count above 256.
-pub const MANY_FAULTS: u8 = 3;
+    // Plan version neither 1 nor 2.
+    PlanVersionUnknown = 2,
 
-// Length field not the bytes that follow, or not 6 + 3 × count, of version 2 not 9 + 3 × count.
-pub const WRONG_LENGTH: u8 = 4;
+    // Fault count above 256.
+    ManyFaults = 3,
 
-// An extent outside 1 to 16.
-pub const EXTENT_OUTSIDE: u8 = 5;
+    // Length field not the bytes that follow, or not 6 + 3 × count, of version 2 not 9 + 3 × count.
+    WrongLength = 4,
 
-// Wrap on an extent below 3, or a spare wrap bit set.
-pub const WRONG_WRAP: u8 = 6;
+    // An extent outside 1 to 16.
+    ExtentOutside = 5,
 
-// A fault's node, kind or link does not exist.
-pub const NO_SUCH_FAULT: u8 = 7;
+    // Wrap on an extent below 3, or a spare wrap bit set.
+    WrongWrap = 6,
 
-// A fault not above the one before.
-pub const FAULT_NOT_ABOVE: u8 = 8;
+    // A fault's node, kind or link does not exist.
+    NoSuchFault = 7,
 
-// A node number outside the plan.
-pub const NODE_OUTSIDE: u8 = 9;
+    // A fault not above the one before.
+    FaultNotAbove = 8,
 
-// A dead source or destination.
-pub const DEAD_END: u8 = 10;
+    // A node number outside the plan.
+    NodeOutside = 9,
 
-// No clear choice.
-pub const NO_CLEAR_CHOICE: u8 = 11;
+    // A dead source or destination.
+    DeadEnd = 10,
 
-// Output shorter than the sheet.
-pub const OUTPUT_SHORT: u8 = 12;
+    // No clear choice.
+    NoClearChoice = 11,
 
-// Route sheet not of the layout, a node outside the plan, or a via equal to an end.
-pub const WRONG_ROUTE_SHEET: u8 = 13;
+    // Output shorter than the sheet.
+    OutputShort = 12,
 
-// Packet naming a node outside the shape, or with over three legs; or a mark further than just past the last leg.
-pub const WRONG_PACKET: u8 = 14;
+    // Route sheet not of the layout, a node outside the plan, or a via equal to an end.
+    WrongRouteSheet = 13,
 
-// Direction not allowed, or above 5.
-pub const NOT_ALLOWED: u8 = 15;
+    // Packet naming a node outside the shape, or with over three legs; or a mark further than just past the last leg.
+    WrongPacket = 14,
 
-// A weight outside 1 to 8.
-pub const WEIGHT_OUTSIDE: u8 = 16;
+    // Direction not allowed, or above 5.
+    NotAllowed = 15,
 
-// An entry that cannot be kept.
-pub const ENTRY_NOT_KEPT: u8 = 17;
+    // A weight outside 1 to 8.
+    WeightOutside = 16,
 
-// No allowed walk from the packet's source ends at this packet by that hop, a direction above 5 included.
-pub const NOT_BACK: u8 = 18;
+    // An entry that cannot be kept.
+    EntryNotKept = 17,
+
+    // No allowed walk from the packet's source ends at this packet by that hop, a direction above 5 included.
+    NotBack = 18,
+}
+
+impl Refusal {
+    pub fn number(self) -> u8
+        ensures { result ≡ number self }
+    {
+        self as u8
+    }
+}

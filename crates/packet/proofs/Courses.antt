@@ -1,12 +1,14 @@
 -- What a walk carries stays what its packet says.
-use Prim.Native.Nat.{ℕ, ◌+◌, ◌-◌, ◌%◌, ◌≤◌, ◌<◌}
+use Prim.Native.Nat.{ℕ, ◌+◌, ◌-◌, ◌%◌, ◌<◌}
 use native.Mathlib.Omega.{arith}
 use mathlib.Core.Path.{◌≡◌, refl, sym, ap, ◌∙◌}
 use mathlib.Core.Bool.{Bool, true, false, cond}
 use mathlib.Core.List.{List}
 use lib.Dec.{leb}
-use borrow.Author.Tests.{le-leb, lt-leb, leb-false}
+use borrow.Author.Tests.{le-ltb, lt-ltb, le-leb, lt-leb, leb-false}
+use Rattle.std.specs.Prelude.{unwrap_or}
 use Rattle.theory.specs.Machine.{allows}
+use Rattle.theory.proofs.Cases.{by_le}
 use Rattle.shape.specs.declared.shape.Shape.{Shape}
 use Rattle.shape.specs.declared.shape.Coords.{Coords}
 use Rattle.shape.specs.Shape.{shape_error}
@@ -26,18 +28,21 @@ use Rattle.machine.proofs.HopsLeft.{standing_is, ways_allow, ways_moved}
 use Rattle.packet.specs.declared.packet.Packet.{Packet}
 use Rattle.packet.specs.declared.course.Course.{Course}
 use Rattle.packet.specs.Packet.{no_leg, put}
-use Rattle.packet.specs.Steps.{front_of, front_or, settled, moved, Fine}
+use Rattle.packet.specs.Steps.{front_of, front_if, front_or, settled, moved, Fine}
 use Rattle.packet.specs.Course.{packet_of, end_of, course_of, ways_of, On}
 use Rattle.packet.proofs.Drops.{legs_left, settled_same, fine_moved, fine_front, allows_front}
 
 -- ---- the front leg
-pub front_none : (q : Packet) → q.count ≤ q.mark → no_leg ≡ front_or q
+pub front_unwrap : (q : Packet) → unwrap_or (front_if q) no_leg ≡ front_or q
 unfolding front_or
-front_none q h = rw (le-leb q.count q.mark h)
+front_unwrap q =
+    by_le q.count q.mark
+    (λ h. rw (le-ltb q.mark q.count h, le-leb q.count q.mark h))
+    (λ h. rw (lt-ltb q.mark q.count h, lt-leb q.count q.mark h))
 
-pub front_some : (q : Packet) → q.mark < q.count → front_of q ≡ front_or q
+front_of_some : (q : Packet) → q.mark < q.count → front_of q ≡ front_or q
 unfolding front_or
-front_some q h = rw (lt-leb q.count q.mark h)
+front_of_some q h = rw (lt-leb q.count q.mark h)
 
 -- Its target is a node, also of the leg of zeros.
 front_node : (s : Shape) (q : Packet) → Fine s q → (front_or q).target < node_count s
@@ -131,7 +136,7 @@ module _ (s : Shape) (q : Packet) (c : Course) (ws : List ℕ) (on : On s q c ws
     there = inside s sound target (front_node s q on.fine)
 
     front_is : front_of q ≡ front_or q
-    front_is = front_some q some
+    front_is = front_of_some q some
 
     -- The directions allowed.
     by_mode : allowed_in c.mode ws d ≡ allowed_by rule (front_or q).mode s q.node target d

@@ -1,21 +1,27 @@
 -- Drops as the code makes them, one at a time.
-use Prim.Native.Nat.{ℕ, zero, suc, ◌+◌, ◌-◌, ◌<◌, ◌≤◌}
+use Prim.Native.Nat.{ℕ, zero, suc, ◌+◌, ◌<◌, ◌≤◌}
 use native.Mathlib.Omega.{arith}
 use native.Mathlib.Numerals.{add-one}
 use mathlib.Core.Path.{◌≡◌, refl, sym, ap, ◌∙◌}
 use mathlib.Core.Bool.{Bool, true, false, cond, ◌||◌}
-use mathlib.Core.List.{List}
-use lib.ListN.{drop}
+use mathlib.Core.List.{List, [], ◌∷◌}
+use lib.ListN.{length, get_or, take, drop}
+use lib.Seq.{drop-cons}
+use Rattle.std.specs.List.{list_any}
 use lib.Dec.{ltb, leb, eqb}
 use borrow.Author.Tests.{eqb-true, eqb-false, lt-ltb, le-ltb, ltb-true}
 use Rattle.numbers.specs.Numbers.{wrong_packet}
+use Rattle.std.specs.Prelude.{Option, Some, None, Ok, Err, MatchOption}
+use Rattle.numbers.specs.declared.Refusal.{Refusal}
+use Rattle.numbers.specs.Refusals.{number, answer}
+use Rattle.numbers.proofs.Refusals.{answer-0, answer-number}
 use Rattle.theory.specs.Machine.{dropped, allows}
 use Rattle.theory.specs.Marks.{settle, hop}
 use Rattle.theory.proofs.Bools.{and_true}
 use Rattle.theory.proofs.Cases.{by_le}
-use Rattle.theory.proofs.Checks.{then_cond}
+use Rattle.theory.proofs.Checks.{declines, then_cond}
 use Rattle.theory.proofs.Drops.{Settled, dropped_settled}
-use Rattle.theory.proofs.Marks.{here, drop_settle, settle_within, settle_none, settle_next}
+use Rattle.theory.proofs.Marks.{drop_settle, settle_within, settle_none, settle_next}
 use Rattle.shape.specs.declared.shape.Shape.{Shape}
 use Rattle.machine.specs.declared.leg.Leg.{Leg}
 use Rattle.shape.specs.Shape.{shape_error}
@@ -24,8 +30,8 @@ use Rattle.machine.specs.Hop.{rule}
 use Rattle.machine.specs.Torus.{allowed_by, torus}
 use Rattle.machine.proofs.ByCoords.{neighbour_below}
 use Rattle.packet.specs.declared.packet.Packet.{Packet}
-use Rattle.packet.specs.Packet.{most_legs, route_of, put, outside, bad_packet, packet_error, kept}
-use Rattle.packet.specs.Steps.{leg_at, front_of, ends_here, settled, Fine, moved}
+use Rattle.packet.specs.Packet.{most_legs, no_leg, legs_from, route_of, put, outside, bad_packet, packet_error, kept}
+use Rattle.packet.specs.Steps.{front_of, front_if, ends_here, settled, Fine, moved}
 use Rattle.packet.proofs.Stored.{route_past, length_route, leg_of_law, leg_node}
 
 abbrev tg : Leg → ℕ
@@ -34,6 +40,23 @@ tg l = l.target
 -- The legs left.
 abbrev pub legs_left : Packet → List Leg
 legs_left q = drop q.mark (route_of q)
+
+-- ---- the current leg
+pub front_none : (q : Packet) → front_if q ≡ None → q.count ≤ q.mark
+front_none q e = by_le q.count q.mark (λ h. h) (λ h. let none = rw (lt-ltb q.mark q.count h) at e in absurd (grind arith))
+
+pub front_some : (q : Packet) (l : Leg) → front_if q ≡ Some l → (q.mark < q.count) × (l ≡ front_of q)
+front_some q l e =
+    by_le q.count q.mark
+    (λ h. let some = rw (le-ltb q.mark q.count h) at e in absurd (grind arith))
+    (λ h. let some = rw (lt-ltb q.mark q.count h) at e in (h, grind arith))
+
+-- A cause has a number.
+pub some_number : (e : Refusal) → number e ≡ 0 → ⊥
+some_number e h =
+    let same : answer 0 (tt {0}) ≡ Err e = rw (← h) (answer-number e (tt {0})) in
+    let done : answer 0 (tt {0}) ≡ Ok (tt {0}) = answer-0 (tt {0}) in
+    absurd (grind arith)
 
 -- ---- the packet with the drops stored
 abbrev settled_mark : Packet → ℕ
@@ -68,13 +91,12 @@ pub record Dropping (from q : Packet) : Type 0 where
 pub dropping : (q : Packet) → q.count ≤ most_legs → Dropping q q
 dropping q h = record { few = h; same = refl }
 
-pub here_past : (q : Packet) → q.count ≤ q.mark → false ≡ ends_here q
+pub ends_front : (q : Packet) (o : Option Leg) (r : Bool) → o ≡ front_if q → MatchOption o (r ≡ false) (λ l. r ≡ eqb l.target q.node) → r ≡ ends_here q
 unfolding ends_here
-here_past q h = rw (le-ltb q.mark q.count h)
-
-pub here_leg : (q : Packet) (l : Leg) → q.mark < q.count → l ≡ front_of q → eqb l.target q.node ≡ ends_here q
-unfolding ends_here
-here_leg q l h e = rw (lt-ltb q.mark q.count h, e)
+ends_front q o r e m =
+    by_le q.count q.mark
+    (λ h. let none : o ≡ None = e ∙ rw (le-ltb q.mark q.count h) in rw (le-ltb q.mark q.count h) (rw none at m))
+    (λ h. let some : o ≡ Some (front_of q) = e ∙ rw (lt-ltb q.mark q.count h) in rw (lt-ltb q.mark q.count h) (rw some at m))
 
 pub record Ends (q : Packet) : Type 0 where
   pub left : q.mark < q.count
@@ -137,50 +159,42 @@ pub allows_none : (s : Shape) (q : Packet) (d : ℕ) → q.count ≤ q.mark → 
 unfolding allows
 allows_none s q d h = rw (route_past q.legs 0 q.mark q.count h)
 
--- ---- 14 as the code tests it: the legs from number k on are judged, from the last one on
-pub record Judging (nodes : ℕ) (q : Packet) (bad : Bool) (k : ℕ) : Type 0 where
-  pub within : k ≤ q.count
-  pub is : bad ≡ outside nodes (drop k (route_of q))
+-- ---- the checks as the code makes them
+legs_taken : (a : List Leg) (k n : ℕ) → k + n ≤ length a → legs_from a k n ≡ take n (drop k a)
+unfolding legs_from
+legs_taken a k zero h = refl
+legs_taken a k (suc n) h = rw (drop-cons a k no_leg (omega arith)) (ap (λ ls. get_or a k no_leg ∷ ls) (legs_taken a (suc k) n (omega arith)))
 
-pub judging : (nodes : ℕ) (q : Packet) (k : ℕ) → k ≡ q.count → Judging nodes q false k
+outside_any : (nodes : ℕ) (ls : List Leg) → list_any (λ l. leb nodes l.target) ls ≡ outside nodes ls
 unfolding outside
-judging nodes q k e = record { within = omega arith; is = rw (e, route_past q.legs 0 q.count q.count (omega arith)) }
+outside_any nodes [] = refl
+outside_any nodes (l ∷ ls) = ap (λ b. leb nodes l.target || b) (outside_any nodes ls)
 
-outside_leg : (nodes : ℕ) (q : Packet) (k : ℕ) → k < q.count → outside nodes (drop k (route_of q)) ≡ (leb nodes (leg_at q k).target || outside nodes (drop (suc k) (route_of q)))
-unfolding outside
-outside_leg nodes q k h =
-    let w = leg_of_law q k h in
-    rw (w.1, (here tg 0 (route_of q) k (leg_at q k) w.0 w.1).next)
+pub any_outside : (nodes : ℕ) (q : Packet) (b : Bool) → q.count ≤ length q.legs → b ≡ list_any (λ l. leb nodes l.target) (take q.count q.legs) → b ≡ outside nodes (route_of q)
+any_outside nodes q b h e = e ∙ outside_any nodes (take q.count q.legs) ∙ ap (outside nodes) (sym (legs_taken q.legs 0 q.count (omega arith)))
 
-pub judging_on :
-    (nodes : ℕ) (q : Packet) (bad : Bool) (k : ℕ) (l : Leg) (b : Bool) →
-    Judging nodes q bad k →
-    0 < k →
-    l ≡ leg_at q (k - 1) →
-    b ≡ (leb nodes l.target || bad) →
-    Judging nodes q b (k - 1)
-judging_on nodes q bad zero l b j h el eb = absurd (omega arith)
-judging_on nodes q bad (suc k) l b j h el eb =
-    let w = j.within in
-    let less : k ≡ suc k - 1 = omega arith in
-    rw (← less) (record { within = omega arith; is = rw (eb, el, ← less, j.is) (sym (outside_leg nodes q k (omega arith))) })
+pub error_shape : (s : Shape) (q : Packet) (e : Refusal) → number e ≡ shape_error s → number e ≡ packet_error s q
+unfolding packet_error
+error_shape s q e h = rw (← h) (sym (declines (number e) _ (some_number e)))
 
-pub judging_all : (nodes : ℕ) (q : Packet) (bad : Bool) (k : ℕ) → Judging nodes q bad k → k ≤ 0 → bad ≡ outside nodes (route_of q)
-judging_all nodes q bad k j h = let e : k ≡ 0 = omega arith in j.is ∙ ap (λ n. outside nodes (drop n (route_of q))) e
+pub error_many : (s : Shape) (q : Packet) → 0 ≡ shape_error s → most_legs < q.count → wrong_packet ≡ packet_error s q
+unfolding packet_error bad_packet
+error_many s q h k = rw (← h, lt-ltb most_legs q.count k)
 
 pub error_rest :
-    (s : Shape) (q : Packet) (nodes r : ℕ) (legs named out : Bool) →
-    shape_error s ≡ 0 →
+    (s : Shape) (q : Packet) (nodes : ℕ) (legs named out bad : Bool) →
+    0 ≡ shape_error s →
     q.count ≤ most_legs →
     nodes ≡ node_count s →
     legs ≡ outside nodes (route_of q) →
     named ≡ (leb nodes q.node || legs) →
     out ≡ (leb nodes q.source || named) →
-    r ≡ cond (ltb q.count q.mark || out) wrong_packet 0 →
-    r ≡ packet_error s q
+    bad ≡ (ltb q.count q.mark || out) →
+    cond bad wrong_packet 0 ≡ packet_error s q
 unfolding packet_error bad_packet
-error_rest s q nodes r legs named out h k e el en eo er =
-    er ∙ rw (eo, en, el, e, h, le-ltb most_legs q.count k) (sym (then_cond (ltb q.count q.mark || (leb (node_count s) q.source || (leb (node_count s) q.node || outside (node_count s) (route_of q)))) _ 0))
+error_rest s q nodes legs named out bad h k e el en eo eb =
+    rw (eb, eo, en, el, e, ← h, le-ltb most_legs q.count k)
+    (sym (then_cond (ltb q.count q.mark || (leb (node_count s) q.source || (leb (node_count s) q.node || outside (node_count s) (route_of q)))) _ 0))
 
 -- ---- the hop as the code makes it
 pub hop_is : (s : Shape) (q : Packet) (d : ℕ) → settled (moved s (settled q) d) ≡ hop (torus s) (kept s) q d

@@ -1,5 +1,5 @@
 -- The step and the walk's loop.
-use Prim.Native.Nat.{ℕ, zero, suc, ◌+◌, ◌-◌, ◌%◌, ◌≤◌, ◌<◌}
+use Prim.Native.Nat.{ℕ, suc, ◌+◌, ◌-◌, ◌%◌, ◌≤◌, ◌<◌}
 use mathlib.Core.Bool.{Bool, true, false}
 use mathlib.Core.List.{List, [], ◌∷◌}
 use mathlib.Core.Path.{◌≡◌, refl, sym, ap, ◌∙◌}
@@ -9,6 +9,10 @@ use lib.ListN.{length, get_or, drop, drop_of_length-le}
 use lib.Seq.{drop-cons}
 use lib.Dec.{leb}
 use borrow.Author.Tests.{ne_eqb, le-leb, lt-leb, leb-false}
+use Rattle.std.specs.Prelude.{Some, None, Ok, Err}
+use Rattle.numbers.specs.declared.Refusal.{Refusal}
+use Rattle.numbers.specs.Refusals.{number}
+use Rattle.numbers.proofs.Refusals.{refusal-number}
 use Rattle.theory.specs.Machine.{allows}
 use Rattle.theory.proofs.Cases.{by_le}
 use Rattle.theory.specs.Packet as T
@@ -24,18 +28,14 @@ use Rattle.machine.specs.Torus.{torus}
 use Rattle.machine.specs.Ways.{allowed_in, taken}
 use Rattle.packet.specs.declared.packet.Packet.{Packet}
 use Rattle.packet.specs.declared.course.Course.{Course}
-use Rattle.packet.specs.declared.stepper.Answer.{Answer}
-use Rattle.packet.specs.declared.stepper.Answer.TheVariants.{Done}
-use Rattle.packet.specs.declared.stepper.Stepped.{Stepped}
 use Rattle.packet.specs.declared.stepper.Ending.{Ending}
 use Rattle.packet.specs.declared.stepper.Ending.TheVariants.{Arrived, NotAllowed, UsedUp}
-use Rattle.packet.specs.declared.stepper.Walked.{Walked}
 use Rattle.packet.specs.Packet.{put, packet_error, kept, stored}
-use Rattle.packet.specs.Answers.{answered, ended_as, told, told_walk}
-use Rattle.packet.specs.Steps.{front_of, settled, moved, Fine}
-use Rattle.packet.specs.Course.{packet_of, end_of, course_of, ways_of, On, kept_of}
+use Rattle.packet.specs.Answers.{ended_as, told_walk}
+use Rattle.packet.specs.Steps.{front_of, front_if, settled, moved, Fine, Gives}
+use Rattle.packet.specs.Course.{packet_of, end_of, course_of, ways_of, On, kept_of, walked}
 use Rattle.packet.proofs.Stored.{route_past, leg_of_law, fine_error}
-use Rattle.packet.proofs.Drops.{legs_left, settled_legs, settled_again, hop_is, fine_settled, fine_moved, allows_none}
+use Rattle.packet.proofs.Drops.{some_number, front_none, front_some, legs_left, settled_legs, settled_again, hop_is, fine_settled, fine_moved, allows_none}
 use Rattle.packet.proofs.Courses.{ends_allow, ends_moved, packet_on, on_allows, some_hops, hop_stays, hop_ends}
 
 -- The directions allowed of the packet with its drops stored.
@@ -48,17 +48,9 @@ unfolding settled
 may_go_law s q d = ap (λ ls. allows (torus s) q.node ls d) (settled_legs q)
 
 -- ---- the step
-abbrev pub stepped : Packet → Answer → Stepped
-stepped q a = record { packet = q; answer = a }
-
-pub refused_as : (e : ℕ) → (e ≡ 0 → ⊥) → Answer.Refused e ≡ answered e
-unfolding answered
-refused_as zero ne = absurd (ne refl)
-refused_as (suc e) ne = refl
-
-pub step_refused : (s : Shape) (q : Packet) (d e : ℕ) → e ≡ packet_error s q → (e ≡ 0 → ⊥) → stepped q (Answer.Refused e) ≡ told (T.step (torus s) (stored s) q d)
-unfolding told T.step
-step_refused s q d e h ne = rw (← h, ne_eqb e 0 ne, refused_as e ne)
+pub step_refused : (s : Shape) (q : Packet) (d : ℕ) (e : Refusal) → number e ≡ packet_error s q → Gives q (T.step (torus s) (stored s) q d) (Err e)
+unfolding T.step
+step_refused s q d e h = rw (← h, ne_eqb (number e) 0 (some_number e)) (record { packet = refl; number = refl })
 
 -- A packet that no check declines, with its drops stored.
 pub ready_fine : (s : Shape) (q : Packet) → Fine s q → (ready : Packet) → ready ≡ settled q → Fine s ready
@@ -68,38 +60,43 @@ module _ (s : Shape) (q : Packet) (f : Fine s q) (ready : Packet) (er : ready �
   judged : (b : Bool) → goes_to s ready d ≡ b → T.may_go (torus s) (stored s) q d ≡ b
   judged b h = sym (may_go_law s q d) ∙ ap (λ r. goes_to s r d) (sym er) ∙ h
 
-  stays : goes_to s ready d ≡ false → stepped q (Answer.Refused 15) ≡ told (T.step (torus s) (stored s) q d)
-  unfolding told answered T.step T.tried
-  stays h = rw (fine_error s q f, judged false h)
+  stays : goes_to s ready d ≡ false → Gives q (T.step (torus s) (stored s) q d) (Err Refusal.NotAllowed)
+  unfolding T.step T.tried
+  stays h = rw (fine_error s q f, judged false h) (record { packet = refl; number = refl })
 
-  pub step_arrived : ready.count ≤ ready.mark → stepped q (Answer.Refused 15) ≡ told (T.step (torus s) (stored s) q d)
-  step_arrived e = stays (allows_none s ready d e)
+  pub step_arrived : front_if ready ≡ None → Gives q (T.step (torus s) (stored s) q d) (Err Refusal.NotAllowed)
+  step_arrived e = stays (allows_none s ready d (front_none ready e))
 
   -- The code's test, from the coordinates of its leg's ends.
   module _
-      (some : ready.mark < ready.count) (front : Leg) (ef : front ≡ front_of ready) (at to : Coords) (ea : at ≡ coords_by s ready.node) (et : to ≡ coords_by s front.target)
+      (front : Leg) (is : front_if ready ≡ Some front) (at to : Coords) (ea : at ≡ coords_by s ready.node) (et : to ≡ coords_by s front.target)
       (b : Bool) (eb : b ≡ allowed_at rule front.mode s at to d) where
-    by_ends : goes_to s ready d ≡ b
-    by_ends = sym (eb ∙ rw ef (ends_allow s ready (ready_fine s q f ready er) some at to ea (et ∙ rw ef) d))
+    left : ready.mark < ready.count
+    left = (front_some ready front is).0
 
-    pub step_declined : b ≡ false → stepped q (Answer.Refused 15) ≡ told (T.step (torus s) (stored s) q d)
+    ef : front ≡ front_of ready
+    ef = (front_some ready front is).1
+
+    by_ends : goes_to s ready d ≡ b
+    by_ends = sym (eb ∙ rw ef (ends_allow s ready (ready_fine s q f ready er) left at to ea (et ∙ rw ef) d))
+
+    pub step_declined : b ≡ false → Gives q (T.step (torus s) (stored s) q d) (Err Refusal.NotAllowed)
     step_declined h = stays (by_ends ∙ h)
 
     pub step_hopped :
         b ≡ true → (place : Coords) (n : ℕ) (next : Packet) → place ≡ moved_at s at d → n ≡ number_of s place % 65536 →
-        next ≡ settled (put ready n ready.mark) → stepped next Done ≡ told (T.step (torus s) (stored s) q d)
-    unfolding told answered T.step T.tried
+        next ≡ settled (put ready n ready.mark) → Gives q (T.step (torus s) (stored s) q d) (Ok next)
+    unfolding T.step T.tried
     step_hopped h place n next ep en ex =
-        let is : next ≡ hop (torus s) (kept s) q d = ex ∙ rw (ends_moved s ready (ready_fine s q f ready er) some at to ea (et ∙ rw ef) d n place ep en, er) (hop_is s q d) in
-        rw (fine_error s q f, judged b by_ends ∙ h, is)
+        let at_hop : next ≡ hop (torus s) (kept s) q d = ex ∙ rw (ends_moved s ready (ready_fine s q f ready er) left at to ea (et ∙ rw ef) d n place ep en, er) (hop_is s q d) in
+        rw (fine_error s q f, judged b by_ends ∙ h, at_hop) (record { packet = refl; number = refl })
 
 -- ---- the walk
-abbrev pub walked : Packet → ℕ → Ending → Walked
-walked q k e = record { packet = q; hops = k; ending = e }
-
-pub walk_refused : (s : Shape) (q : Packet) (ds : List ℕ) (e : ℕ) → e ≡ packet_error s q → (e ≡ 0 → ⊥) → walked q 0 (Ending.Refused e) ≡ told_walk (T.walk (torus s) (stored s) q ds)
+pub walk_refused :
+    (s : Shape) (q : Packet) (ds : List ℕ) (e : Refusal) → number e ≡ packet_error s q → let w = T.walk (torus s) (stored s) q ds in
+    (walked q 0 (Ending.Refused e) ≡ told_walk w) × ((number e ≡ T.walk_number w.ending) × (0 ≤ length ds))
 unfolding told_walk T.walk
-walk_refused s q ds e h ne = rw (← h, ne_eqb e 0 ne)
+walk_refused s q ds e h = rw (← h, ne_eqb (number e) 0 (some_number e), refusal-number e) (refl, (refl, omega arith))
 
 pub walk_is : (s : Shape) (q : Packet) (ds : List ℕ) → Fine s q → T.walk (torus s) (stored s) q ds ≡ T.goes (torus s) (stored s) q ds
 unfolding T.walk

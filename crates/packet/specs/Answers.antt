@@ -1,33 +1,22 @@
--- The answers' enums, read as this paper's numbers and values.
-use Rattle.std.specs.Prelude.{ℕ, zero, suc}
+-- The answers, read as this paper's numbers and values.
+use Rattle.std.specs.Prelude.{ℕ}
+use Rattle.numbers.specs.Refusals.{number, refusal, answer}
 use Rattle.theory.specs.Packet as T
 use Rattle.packet.specs.declared.packet.Packet.{Packet}
-use Rattle.packet.specs.declared.stepper.Answer.{Answer}
-use Rattle.packet.specs.declared.stepper.Answer.TheVariants.{Done}
 use Rattle.packet.specs.declared.stepper.Stepped.{Stepped}
 use Rattle.packet.specs.declared.stepper.Ending.{Ending}
 use Rattle.packet.specs.declared.stepper.Ending.TheVariants.{Arrived, NotAllowed, UsedUp}
 use Rattle.packet.specs.declared.stepper.Walked.{Walked}
 
--- The number of a step, or of a hop taken back: 0 where it is done.
-abbrev pub answer_number : Answer → ℕ
-answer_number Answer.Done = 0
-answer_number (Answer.Refused e) = e
-
--- A number as such an answer.
-unfoldable pub answered : ℕ → Answer
-answered zero = Done
-answered (suc e) = Answer.Refused (suc e)
-
 unfoldable pub told : T.Stepped Packet → Stepped
-told w = record { packet = w.packet; answer = answered w.number }
+told w = record { packet = w.packet; answer = answer w.number tt }
 
 -- How a walk ended, read as the paper's ending, and so its number.
 abbrev pub ending_of : Ending → T.Ending
 ending_of Ending.Arrived = T.Arrived
 ending_of Ending.NotAllowed = T.NotAllowed
 ending_of Ending.UsedUp = T.UsedUp
-ending_of (Ending.Refused e) = T.Declined e
+ending_of (Ending.Refused e) = T.Declined (number e)
 
 abbrev pub ending_number : Ending → ℕ
 ending_number e = T.walk_number (ending_of e)
@@ -37,7 +26,7 @@ abbrev pub ended_as : T.Ending → Ending
 ended_as T.Arrived = Arrived
 ended_as T.NotAllowed = NotAllowed
 ended_as T.UsedUp = UsedUp
-ended_as (T.Declined e) = Ending.Refused e
+ended_as (T.Declined e) = Ending.Refused (refusal e)
 
 unfoldable pub told_walk : T.Walked Packet → Walked
 told_walk w = record { packet = w.packet; hops = w.hops; ending = ended_as w.ending }

@@ -7,6 +7,8 @@ use Rattle.machine.specs.Ways.{ways_at, standing_at}
 use Rattle.packet.specs.declared.packet.Packet.{Packet}
 use Rattle.packet.specs.declared.course.Course.{Course}
 use Rattle.packet.specs.declared.course.Start.{Start}
+use Rattle.packet.specs.declared.stepper.Ending.{Ending}
+use Rattle.packet.specs.declared.stepper.Walked.{Walked}
 use Rattle.packet.specs.Packet.{put}
 use Rattle.packet.specs.Steps.{front_or, Fine}
 
@@ -41,3 +43,6 @@ pub record On (s : Shape) (q : Packet) (c : Course) (ws : List ℕ) : Type 0 whe
 -- The packet of a walk after some hops: as it was lent, drops not stored, while there are none.
 unfoldable pub kept_of : Packet → ℕ → Packet → Packet
 kept_of lent hops q = cond (eqb hops 0) lent q
+
+abbrev pub walked : Packet → ℕ → Ending → Walked
+walked q k e = record { packet = q; hops = k; ending = e }

@@ -37,10 +37,9 @@ impl Start {
     pub fn course(self) -> Course
         ensures { result ≡ course_in self }
     {
-        let mode = self.mode;
         Course {
             mark: self.mark,
-            mode: mode,
+            mode: self.mode,
             hops: self.hops,
             to: Coords {
                 x: self.x,
@@ -56,13 +55,10 @@ fn front_or(packet: Packet) -> Leg
     requires { packet.count ≤ most_legs }
     ensures { result ≡ front_or packet }
 {
-    if packet.count <= packet.mark {
-        return Leg {
-            target: 0,
-            mode: Mode::Adaptive,
-        };
-    }
-    packet.front()
+    packet.front().unwrap_or(Leg {
+        target: 0,
+        mode: Mode::Adaptive,
+    })
 }
 
 impl Course {
@@ -73,18 +69,17 @@ impl Course {
     {
         let ready = packet.drop_all();
         let front = front_or(ready);
-        let mode = front.mode;
         let at = coords_of(shape, ready.node);
         let to = coords_of(shape, front.target);
-        let ways = ways(mode, shape, at, to);
+        let ways = ways(front.mode, shape, at, to);
         Start {
             mark: ready.mark,
-            mode: mode,
+            mode: front.mode,
             hops: hops_at(shape, at, to),
             x: to.x,
             y: to.y,
             z: to.z,
-            ways: ways,
+            ways,
         }
     }
 
@@ -92,14 +87,12 @@ impl Course {
     pub fn end(self, shape: Shape, lent: Packet) -> Packet
         ensures { result ≡ end_of shape lent self }
     {
-        let to = self.to;
-        lent.put(number_at(shape, to), self.mark)
+        lent.put(number_at(shape, self.to), self.mark)
     }
 
     pub fn packet(self, shape: Shape, lent: Packet, ways: &Ways) -> Packet
         ensures { result ≡ packet_of shape lent self ways.now }
     {
-        let to = self.to;
-        lent.put(number_at(shape, standing(shape, ways, to)), self.mark)
+        lent.put(number_at(shape, standing(shape, ways, self.to)), self.mark)
     }
 }

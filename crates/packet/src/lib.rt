@@ -9,4 +9,4 @@ mod taking_back;
 
 pub use packet::{Legs, MOST_LEGS, Packet};
 pub use route::Route;
-pub use stepper::{Answer, Ending, Stepped, Walked};
+pub use stepper::{Ending, Stepped, Walked};

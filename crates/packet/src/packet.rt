@@ -1,14 +1,14 @@
 // A packet: its source and whole route, each leg a target and a mode, its present node, and a mark on the current leg.
 ghost use Rattle.std.specs.Prelude.{◌≡◌, ◌≤◌, ◌<◌};
 ghost use Rattle.packet.specs.Packet.{most_legs, route_of, packet_with, put, outside, packet_error};
-ghost use Rattle.packet.specs.Steps.{leg_at, front_of, ends_here, settled};
+ghost use Rattle.numbers.specs.Refusals.{answer_number};
+ghost use Rattle.packet.specs.Steps.{leg_at, front_if, ends_here, settled};
 
-use logic::{either, pick};
+use logic::either;
 use machine::leg::Leg;
 use machine::number::node_count;
-use numbers::WRONG_PACKET;
+use numbers::Refusal;
 use shape::Shape;
-use shape::shape::shape_error;
 
 // The legs of a route, at most three.
 pub const MOST_LEGS: usize = 3;
@@ -31,11 +31,11 @@ impl Packet {
         ensures { result ≡ packet_with source node legs count mark }
     {
         Packet {
-            source: source,
-            node: node,
-            legs: legs,
-            count: count,
-            mark: mark,
+            source,
+            node,
+            legs,
+            count,
+            mark,
         }
     }
 
@@ -43,29 +43,26 @@ impl Packet {
     pub(crate) fn put(self, node: u16, mark: u8) -> Packet
         ensures { result ≡ put self node mark }
     {
-        let legs = self.legs;
-        Packet {
-            source: self.source,
-            node: node,
-            legs: legs,
-            count: self.count,
-            mark: mark,
-        }
+        Packet { node, mark, ..self }
     }
 
-    pub(crate) fn leg(self, i: usize) -> Leg
+    pub(crate) fn leg(self, i: u8) -> Leg
         requires { i < most_legs }
         ensures { result ≡ leg_at self i }
     {
-        let legs = self.legs;
-        legs[i]
+        self.legs[i as usize]
     }
 
-    pub(crate) fn front(self) -> Leg
-        requires { self.mark < most_legs }
-        ensures { result ≡ front_of self }
+    // The current leg, if one is left.
+    pub(crate) fn front(self) -> Option<Leg>
+        requires { self.count ≤ most_legs }
+        ensures { result ≡ front_if self }
     {
-        self.leg(self.mark as usize)
+        if self.mark < self.count {
+            Some(self.leg(self.mark))
+        } else {
+            None
+        }
     }
 
     // A leg is left, and the current leg's target is the present node.
@@ -73,11 +70,7 @@ impl Packet {
         requires { self.count ≤ most_legs }
         ensures { result ≡ ends_here self }
     {
-        if self.count <= self.mark {
-            return false;
-        }
-        let leg = self.front();
-        leg.target == self.node
+        self.front().is_some_and(|leg| leg.target == self.node)
     }
 
     // The packet with the drops stored.
@@ -87,7 +80,7 @@ impl Packet {
     {
         let mut next = self;
         while next.ends_here() {
-            next.mark = next.mark + 1;
+            next.mark += 1;
         }
         next
     }
@@ -97,31 +90,25 @@ impl Packet {
         requires { self.count ≤ most_legs }
         ensures { result ≡ outside nodes (route_of self) }
     {
-        let count = self.count as usize;
-        let mut bad = false;
-        let mut left = count;
-        while 0 < left {
-            left = left - 1;
-            let leg = self.leg(left);
-            bad = either(nodes <= leg.target as u32, bad);
-        }
-        bad
+        self.legs[..self.count as usize]
+            .iter()
+            .any(|leg| nodes <= leg.target as u32)
     }
 
-    // Check 5, 6, then 14; 0 where none declines.
-    pub fn check(self, shape: Shape) -> u8
-        ensures { result ≡ packet_error shape self }
+    // Check 5, 6, then 14.
+    pub fn check(self, shape: Shape) -> Result<(), Refusal>
+        ensures { answer_number result ≡ packet_error shape self }
     {
-        let error = shape_error(shape);
-        if error != 0 {
-            return error;
-        }
+        shape.check()?;
         if MOST_LEGS < self.count as usize {
-            return WRONG_PACKET;
+            return Err(Refusal::WrongPacket);
         }
         let nodes = node_count(shape);
         let named = either(nodes <= self.node as u32, self.leg_outside(nodes));
         let outside = either(nodes <= self.source as u32, named);
-        pick(either(self.count < self.mark, outside), WRONG_PACKET, 0)
+        if either(self.count < self.mark, outside) {
+            return Err(Refusal::WrongPacket);
+        }
+        Ok(())
     }
 }

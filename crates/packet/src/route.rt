@@ -18,10 +18,7 @@ pub enum Route {
 fn leg_to(target: u16, mode: Mode) -> Leg
     ensures { result ≡ leg target mode }
 {
-    Leg {
-        target: target,
-        mode: mode,
-    }
+    Leg { target, mode }
 }
 
 // The packet at the source with its mark on the first leg, which may end there.

@@ -1,42 +1,26 @@
 // The step and the walk.
 ghost use Rattle.std.specs.Prelude.{◌≡◌, ◌≤◌, length};
+ghost use Rattle.numbers.specs.Refusals.{answer_number};
 ghost use Rattle.theory.specs.Packet.{walk_number, step, walk, goes};
 ghost use Rattle.machine.specs.Torus.{torus};
 ghost use Rattle.packet.specs.Packet.{stored};
-ghost use Rattle.packet.specs.Answers.{answer_number, ending_number, told, told_walk};
-ghost use Rattle.packet.specs.Steps.{Fine};
-ghost use Rattle.packet.specs.Course.{packet_of, kept_of};
+ghost use Rattle.packet.specs.Answers.{ending_number, told, told_walk};
+ghost use Rattle.packet.specs.Steps.{Fine, stepped, Gives};
+ghost use Rattle.packet.specs.Course.{packet_of, kept_of, walked};
 
 use crate::course::Course;
 use crate::packet::Packet;
 use machine::hop::{allowed_at, moved_at, number_at};
 use machine::number::coords_of;
 use machine::ways::{Ways, take};
-use numbers::NOT_ALLOWED;
+use numbers::Refusal;
 use shape::Shape;
 
-// What a step, or taking a hop back, answers: done, or the number of the refusal.
-#[derive(Clone, Copy)]
-pub enum Answer {
-    Done,
-    Refused(u8),
-}
-
-impl Answer {
-    pub fn number(self) -> u8
-        ensures { result ≡ answer_number self }
-    {
-        match self {
-            Answer::Done => 0,
-            Answer::Refused(number) => number,
-        }
-    }
-}
-
+// What a step, or taking a hop back, answers: the packet after it; or the packet as it was, and why.
 #[derive(Clone, Copy)]
 pub struct Stepped {
     pub packet: Packet,
-    pub answer: Answer,
+    pub answer: Result<(), Refusal>,
 }
 
 // How a walk ends: arrived; a direction not allowed; bytes used up; or refused by its checks.
@@ -45,7 +29,7 @@ pub enum Ending {
     Arrived,
     NotAllowed,
     UsedUp,
-    Refused(u8),
+    Refused(Refusal),
 }
 
 impl Ending {
@@ -54,9 +38,9 @@ impl Ending {
     {
         match self {
             Ending::Arrived => 0,
-            Ending::NotAllowed => NOT_ALLOWED,
+            Ending::NotAllowed => Refusal::NotAllowed.number(),
             Ending::UsedUp => 0,
-            Ending::Refused(number) => number,
+            Ending::Refused(refusal) => refusal.number(),
         }
     }
 }
@@ -78,6 +62,24 @@ fn kept(lent: Packet, shape: Shape, hops: usize, course: Course, ways: &Ways) ->
     course.packet(shape, lent, ways)
 }
 
+// What a walk hands back after some hops.
+fn ended(
+    lent: Packet,
+    shape: Shape,
+    hops: usize,
+    course: Course,
+    ways: &Ways,
+    ending: Ending,
+) -> Walked
+    ensures { result ≡ walked (kept_of lent hops (packet_of shape lent course ways.now)) hops ending }
+{
+    Walked {
+        packet: kept(lent, shape, hops, course, ways),
+        hops,
+        ending,
+    }
+}
+
 // One hop a byte, until the packet has arrived, a direction is not allowed or the bytes are used up.
 fn walk_on(lent: Packet, shape: Shape, dirs: &[u8]) -> Walked
     requires { Fine shape lent }
@@ -87,25 +89,14 @@ fn walk_on(lent: Packet, shape: Shape, dirs: &[u8]) -> Walked
     let start = Course::of(lent, shape);
     let mut way = start.course();
     let mut ways = start.ways;
-    let mut hops: usize = 0;
-    while hops < dirs.len() {
+    for (hops, &dir) in dirs.iter().enumerate() {
         if count <= way.mark {
-            return Walked {
-                packet: kept(lent, shape, hops, way, &ways),
-                hops: hops,
-                ending: Ending::Arrived,
-            };
+            return ended(lent, shape, hops, way, &ways, Ending::Arrived);
         }
-        let mode = way.mode;
-        if !take(&mut ways, mode, dirs[hops]) {
-            return Walked {
-                packet: kept(lent, shape, hops, way, &ways),
-                hops: hops,
-                ending: Ending::NotAllowed,
-            };
+        if !take(&mut ways, way.mode, dir) {
+            return ended(lent, shape, hops, way, &ways, Ending::NotAllowed);
         }
-        hops = hops + 1;
-        way.hops = way.hops - 1;
+        way.hops -= 1;
         if way.hops == 0 {
             let next = Course::of(way.end(shape, lent), shape);
             way = next.course();
@@ -113,54 +104,51 @@ fn walk_on(lent: Packet, shape: Shape, dirs: &[u8]) -> Walked
         }
     }
     if count <= way.mark {
-        return Walked {
-            packet: kept(lent, shape, hops, way, &ways),
-            hops: hops,
-            ending: Ending::Arrived,
-        };
+        return ended(lent, shape, dirs.len(), way, &ways, Ending::Arrived);
     }
-    Walked {
-        packet: kept(lent, shape, hops, way, &ways),
-        hops: hops,
-        ending: Ending::UsedUp,
-    }
+    ended(lent, shape, dirs.len(), way, &ways, Ending::UsedUp)
 }
 
 impl Packet {
+    // The packet after a call that gives another; or, where it declines, the packet as it was.
+    pub(crate) fn stepped(self, next: Result<Packet, Refusal>) -> Stepped
+        ensures { result ≡ stepped self next }
+    {
+        match next {
+            Ok(packet) => Stepped {
+                packet,
+                answer: Ok(()),
+            },
+            Err(refusal) => Stepped {
+                packet: self,
+                answer: Err(refusal),
+            },
+        }
+    }
+
+    fn hop(self, shape: Shape, dir: u8) -> Result<Packet, Refusal>
+        ensures { Gives self (step (torus shape) (stored shape) self dir) result }
+    {
+        self.check(shape)?;
+        let ready = self.drop_all();
+        let Some(front) = ready.front() else {
+            return Err(Refusal::NotAllowed);
+        };
+        let at = coords_of(shape, ready.node);
+        let to = coords_of(shape, front.target);
+        if !allowed_at(front.mode, shape, at, to, dir) {
+            return Err(Refusal::NotAllowed);
+        }
+        let moved = ready.put(number_at(shape, moved_at(shape, at, dir)), ready.mark);
+        Ok(moved.drop_all())
+    }
+
     // The packet after one allowed hop; or the packet as it was, with 5, 6, 14 or 15.
     pub fn step(self, shape: Shape, dir: u8) -> Stepped
         ensures value { result ≡ told (step (torus shape) (stored shape) self dir) }
         ensures answer_value { answer_number result.answer ≡ (step (torus shape) (stored shape) self dir).number }
     {
-        let error = self.check(shape);
-        if error != 0 {
-            return Stepped {
-                packet: self,
-                answer: Answer::Refused(error),
-            };
-        }
-        let ready = self.drop_all();
-        if ready.count <= ready.mark {
-            return Stepped {
-                packet: self,
-                answer: Answer::Refused(NOT_ALLOWED),
-            };
-        }
-        let front = ready.front();
-        let mode = front.mode;
-        let at = coords_of(shape, ready.node);
-        let to = coords_of(shape, front.target);
-        if !allowed_at(mode, shape, at, to, dir) {
-            return Stepped {
-                packet: self,
-                answer: Answer::Refused(NOT_ALLOWED),
-            };
-        }
-        let moved = ready.put(number_at(shape, moved_at(shape, at, dir)), ready.mark);
-        Stepped {
-            packet: moved.drop_all(),
-            answer: Answer::Done,
-        }
+        self.stepped(self.hop(shape, dir))
     }
 
     // A walk over the lent directions, one hop a byte: the packet, the hops taken and the ending.
@@ -169,14 +157,13 @@ impl Packet {
         ensures ending_value { ending_number result.ending ≡ walk_number (walk (torus shape) (stored shape) self dirs.now).ending }
         ensures hops_in_bounds { result.hops ≤ length dirs.now }
     {
-        let error = self.check(shape);
-        if error != 0 {
-            return Walked {
+        match self.check(shape) {
+            Ok(()) => walk_on(self, shape, dirs),
+            Err(refusal) => Walked {
                 packet: self,
                 hops: 0,
-                ending: Ending::Refused(error),
-            };
+                ending: Ending::Refused(refusal),
+            },
         }
-        walk_on(self, shape, dirs)
     }
 }

@@ -1,62 +1,77 @@
 // Taking a hop back.
 ghost use Rattle.std.specs.Prelude.{◌≡◌, ◌≤◌, ◌<◌};
+ghost use Rattle.numbers.specs.Refusals.{answer_number};
 ghost use Rattle.theory.specs.Back.{back};
 ghost use Rattle.machine.specs.Torus.{torus};
 ghost use Rattle.legs.specs.Backward.{backward};
 ghost use Rattle.packet.specs.Packet.{most_legs, kept};
-ghost use Rattle.packet.specs.Answers.{told, answer_number};
-ghost use Rattle.packet.specs.Steps.{Fine};
+ghost use Rattle.packet.specs.Answers.{told};
+ghost use Rattle.packet.specs.Steps.{Fine, Gives};
 ghost use Rattle.packet.specs.LastHop.{begin_at, last_of, came_on};
 
 use crate::packet::Packet;
-use crate::stepper::{Answer, Stepped};
+use crate::stepper::Stepped;
 use legs::crossed::can_cross;
-use logic::pick;
 use machine::hop::{moved_at, number_at, opposite};
 use machine::number::coords_of;
-use numbers::NOT_BACK;
+use numbers::Refusal;
 use shape::{Coords, Shape};
 
 impl Packet {
     // Where leg number i of the route begins: at the source, or where the leg before it ends.
-    fn begin(self, i: usize) -> u16
+    fn begin(self, i: u8) -> u16
         requires { (i ≤ self.count) × (self.count ≤ most_legs) }
         ensures { result ≡ begin_at self i }
     {
         if i == 0 {
             return self.source;
         }
-        let leg = self.leg(i - 1);
-        leg.target
+        self.leg(i - 1).target
     }
 
-    // One more than the number of the leg that the last hop was made on; 0 where there is none. The current leg, unless it begins at the present node; then the
-    // nearest before it that does not.
-    fn last_leg(self) -> u8
+    // The number of the leg that the last hop was made on, if there is one: the current leg, unless it begins at the present node; then the nearest before it
+    // that does not.
+    fn last_leg(self) -> Option<u8>
         requires { (self.mark ≤ self.count) × (self.count ≤ most_legs) }
-        ensures value { result ≡ last_of self self.mark }
-        ensures upper_bound { result ≤ 4 }
+        ensures { result ≡ last_of self self.mark }
     {
-        let mut i = self.mark as usize;
-        while 0 < i {
+        for i in (0..=self.mark).rev() {
             if self.begin(i) != self.node {
-                return i as u8 + 1;
+                return Some(i);
             }
-            i = i - 1;
         }
-        pick(self.begin(0) == self.node, 0, 1)
+        None
     }
 
     // The last hop was made from `from`, in direction dir, on leg number i.
-    fn came_on(self, shape: Shape, from: Coords, dir: u8, i: usize) -> bool
+    fn came_on(self, shape: Shape, from: Coords, dir: u8, i: u8) -> bool
         requires { (Fine shape self) × (i < self.count) }
         ensures { result ≡ came_on shape self from dir i }
     {
         let leg = self.leg(i);
-        let mode = leg.mode;
         let start = coords_of(shape, self.begin(i));
         let to = coords_of(shape, leg.target);
-        can_cross(mode, shape, from, dir, start, to)
+        can_cross(leg.mode, shape, from, dir, start, to)
+    }
+
+    fn hop_back(self, shape: Shape, dir: u8) -> Result<Packet, Refusal>
+        ensures { Gives self (back (torus shape) (backward shape) (kept shape) self dir) result }
+    {
+        self.check(shape)?;
+        if self.ends_here() {
+            return Err(Refusal::NotBack);
+        }
+        let Some(last) = self.last_leg() else {
+            return Err(Refusal::NotBack);
+        };
+        if self.count <= last {
+            return Err(Refusal::NotBack);
+        }
+        let from = moved_at(shape, coords_of(shape, self.node), opposite(dir));
+        if !self.came_on(shape, from, dir, last) {
+            return Err(Refusal::NotBack);
+        }
+        Ok(self.put(number_at(shape, from), last))
     }
 
     // The packet before its last hop, which was made in direction dir; or the packet as it was, with 5, 6, 14 or 18.
@@ -64,42 +79,6 @@ impl Packet {
         ensures value { result ≡ told (back (torus shape) (backward shape) (kept shape) self dir) }
         ensures answer_value { answer_number result.answer ≡ (back (torus shape) (backward shape) (kept shape) self dir).number }
     {
-        let error = self.check(shape);
-        if error != 0 {
-            return Stepped {
-                packet: self,
-                answer: Answer::Refused(error),
-            };
-        }
-        if self.ends_here() {
-            return Stepped {
-                packet: self,
-                answer: Answer::Refused(NOT_BACK),
-            };
-        }
-        let last = self.last_leg();
-        if last == 0 {
-            return Stepped {
-                packet: self,
-                answer: Answer::Refused(NOT_BACK),
-            };
-        }
-        if self.count < last {
-            return Stepped {
-                packet: self,
-                answer: Answer::Refused(NOT_BACK),
-            };
-        }
-        let from = moved_at(shape, coords_of(shape, self.node), opposite(dir));
-        if !self.came_on(shape, from, dir, last as usize - 1) {
-            return Stepped {
-                packet: self,
-                answer: Answer::Refused(NOT_BACK),
-            };
-        }
-        Stepped {
-            packet: self.put(number_at(shape, from), last - 1),
-            answer: Answer::Done,
-        }
+        self.stepped(self.hop_back(shape, dir))
     }
 }

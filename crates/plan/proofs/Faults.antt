@@ -4,7 +4,8 @@ use native.Mathlib.Omega.{arith}
 use mathlib.Core.Path.{◌≡◌, refl, sym, ap, ◌∙◌}
 use mathlib.Core.Bool.{Bool, true, false, ◌&&◌, ◌||◌}
 use mathlib.Core.List.{List, ◌∷◌}
-use borrow.Author.Tests.{lt-ltb, le-ltb}
+use lib.Dec.{ltb}
+use Rattle.std.specs.Prelude.{Option, Some, None}
 use Rattle.numbers.specs.Numbers.{no_such_fault, fault_not_above}
 use Rattle.sheet.specs.Bytes.{list_from}
 use Rattle.sheet.proofs.Records.{from_cons, from_none}
@@ -12,6 +13,7 @@ use Rattle.shape.specs.declared.shape.Shape.{Shape}
 use Rattle.plan.specs.declared.layout.Fault.{Fault}
 use Rattle.plan.specs.Layout.{fault_count, fault_at, faults_of}
 use Rattle.plan.specs.Checks.{Rules, fault_good, fault_key, faults_error}
+use Rattle.plan.specs.Steps.{least_after}
 
 -- The node is asked for once more where the link is.
 pub asked_twice : (a b c l : Bool) → (a && (b || (c && (a && l)))) ≡ (a && (b || (c && l)))
@@ -32,46 +34,39 @@ module _ (R : Rules) (last : ℕ) (m : Shape) where
     unfolding faults_error
     missing h = rw h
 
-    no_rise : good f ≡ true → fault_key f < least → checked least (f ∷ fs) ≡ fault_not_above
+    no_rise : good f ≡ true → ltb (fault_key f) least ≡ true → checked least (f ∷ fs) ≡ fault_not_above
     unfolding faults_error
-    no_rise h k = rw (h, lt-ltb (fault_key f) least k)
+    no_rise h k = rw (h, k)
 
-    passed : good f ≡ true → least ≤ fault_key f → checked least (f ∷ fs) ≡ checked (fault_key f + 1) fs
+    passed : good f ≡ true → ltb (fault_key f) least ≡ false → checked least (f ∷ fs) ≡ checked (fault_key f + 1) fs
     unfolding faults_error
-    passed h k = rw (h, le-ltb (fault_key f) least k)
+    passed h k = rw (h, k)
 
   -- The loop: with i of n faults passed, checks 7 and 8 of all are those of the faults left.
-  pub record Checking (s : List ℕ) (n least i : ℕ) : Type 0 where
+  pub record Checking (s : List ℕ) (n : ℕ) (before : Option Fault) (i : ℕ) : Type 0 where
     pub count : n ≡ fault_count s
-    pub within : i ≤ n
-    pub small : least ≤ 16777216
-    pub rest : checked 0 (faults_of s) ≡ checked least (list_from (fault_at s) i (n - i))
+    pub rest : checked 0 (faults_of s) ≡ checked (least_after before) (list_from (fault_at s) i (n - i))
 
   module _ (s : List ℕ) (n : ℕ) where
-    pub begin : n ≡ fault_count s → Checking s n 0 0
+    pub begin : n ≡ fault_count s → Checking s n None 0
     unfolding faults_of
-    begin e = record { count = e; within = omega arith; small = omega arith; rest = let z : n - 0 ≡ fault_count s = omega arith in rw z }
+    begin e = record { count = e; rest = let z : n - 0 ≡ fault_count s = omega arith in rw z }
 
-    module _ (least i : ℕ) (g : Checking s n least i) where
+    module _ (before : Option Fault) (i : ℕ) (g : Checking s n before i) where
       pub ended : n ≤ i → 0 ≡ checked 0 (faults_of s)
       unfolding faults_error
-      ended h = sym (g.rest ∙ ap (checked least) (from_none (fault_at s) i n h))
+      ended h = sym (g.rest ∙ ap (checked (least_after before)) (from_none (fault_at s) i n h))
 
       module _ (f : Fault) (e : f ≡ fault_at s i) (h : i < n) where
-        turn : checked 0 (faults_of s) ≡ checked least (f ∷ list_from (fault_at s) (i + 1) (n - (i + 1)))
-        turn = g.rest ∙ ap (checked least) (from_cons (fault_at s) i n h) ∙ rw e
+        turn : checked 0 (faults_of s) ≡ checked (least_after before) (f ∷ list_from (fault_at s) (i + 1) (n - (i + 1)))
+        turn = g.rest ∙ ap (checked (least_after before)) (from_cons (fault_at s) i n h) ∙ rw e
 
         pub refused : good f ≡ false → no_such_fault ≡ checked 0 (faults_of s)
-        refused x = sym (turn ∙ missing least f _ x)
+        refused x = sym (turn ∙ missing (least_after before) f _ x)
 
-        module _ (x : good f ≡ true) (k : ℕ) (q : k ≡ fault_key f) where
-          pub refused_order : k < least → fault_not_above ≡ checked 0 (faults_of s)
-          refused_order l = sym (turn ∙ no_rise least f _ x (omega arith))
+        module _ (x : good f ≡ true) where
+          pub refused_order : ltb (fault_key f) (least_after before) ≡ true → fault_not_above ≡ checked 0 (faults_of s)
+          refused_order l = sym (turn ∙ no_rise (least_after before) f _ x l)
 
-          pub onward : least ≤ k → k < 16777216 → Checking s n (k + 1) (i + 1)
-          onward l b = record {
-            count = g.count;
-            within = omega arith;
-            small = omega arith;
-            rest = turn ∙ passed least f _ x (omega arith) ∙ rw (sym q);
-          }
+          pub onward : ltb (fault_key f) (least_after before) ≡ false → Checking s n (Some f) (i + 1)
+          onward l = record { count = g.count; rest = turn ∙ passed (least_after before) f _ x l }

@@ -1,4 +1,5 @@
 pub mod Faults
+pub mod Order
 pub mod Weights
 pub mod Plans
 pub mod Most

@@ -1,38 +1,40 @@
-// Checks 1 to 8 of a plan with 16 between 6 and 7, in order; 0 where none declines.
-ghost use Rattle.std.specs.Prelude.{◌≡◌, ◌<◌};
+// Checks 1 to 8 of a plan with 16 between 6 and 7, in order.
+ghost use Rattle.std.specs.Prelude.{◌≡◌, ltb};
+ghost use Rattle.numbers.specs.Refusals.{answer_number};
 ghost use Rattle.plan.specs.Layout.{layout_in, faults_of};
 ghost use Rattle.plan.specs.Checks.{large, torus_plans, fault_good, fault_exists, fault_key, faults_error, plan_error};
-ghost use Rattle.plan.specs.Steps.{head_error};
+ghost use Rattle.plan.specs.Steps.{head_error, least_after};
 
 use crate::kinds;
 use crate::layout::{
     Fault, LAST_KIND, MOST_FAULTS, count_in, fault_in, head_size, is_known, shape_in, size_after,
     weights_in,
 };
-use logic::{both, either, pick};
+use logic::{both, either};
 use machine::node::{has_link, is_node};
-use numbers::{
-    FAULT_NOT_ABOVE, MANY_FAULTS, NO_SUCH_FAULT, PLAN_SHORT, PLAN_VERSION_UNKNOWN, WRONG_LENGTH,
-};
+use numbers::Refusal;
 use shape::Shape;
-use shape::shape::shape_error;
 use sheet::head::{length_is, version_in};
-use weights::weights::weight_error;
 
 // Checks 1 to 4.
-fn head_error(sheet: &[u8]) -> u8
-    ensures { result ≡ head_error sheet.now }
+fn check_head(sheet: &[u8]) -> Result<(), Refusal>
+    ensures { answer_number result ≡ head_error sheet.now }
 {
     let version = version_in(sheet);
     let count = count_in(sheet);
-    let wrong = pick(
-        length_is(sheet, size_after(version, count)),
-        0,
-        WRONG_LENGTH,
-    );
-    let many = pick(MOST_FAULTS < count, MANY_FAULTS, wrong);
-    let known = pick(is_known(version), many, PLAN_VERSION_UNKNOWN);
-    pick(sheet.len() < head_size(version), PLAN_SHORT, known)
+    if sheet.len() < head_size(version) {
+        return Err(Refusal::PlanShort);
+    }
+    if !is_known(version) {
+        return Err(Refusal::PlanVersionUnknown);
+    }
+    if MOST_FAULTS < count {
+        return Err(Refusal::ManyFaults);
+    }
+    if !length_is(sheet, size_after(version, count)) {
+        return Err(Refusal::WrongLength);
+    }
+    Ok(())
 }
 
 fn fault_exists(shape: Shape, f: Fault) -> bool
@@ -49,51 +51,41 @@ fn fault_good(shape: Shape, f: Fault) -> bool
     both(f.kind <= LAST_KIND, fault_exists(shape, f))
 }
 
-fn fault_key(f: Fault) -> u32
-    ensures value { result ≡ fault_key f }
-    ensures upper_bound { result < 16777216 }
+// Whether a fault is not above the one before it.
+fn not_above(f: Fault, before: Option<Fault>) -> bool
+    ensures { result ≡ ltb (fault_key f) (least_after before) }
 {
-    (f.node as u32) * 256 + (f.kind as u32)
+    match before {
+        Some(b) => f <= b,
+        None => false,
+    }
 }
 
 // Checks 7 and 8.
-fn faults_error(sheet: &[u8], shape: Shape) -> u8
-    ensures { result ≡ faults_error torus_plans (layout_in sheet.now).last_kind shape 0 (faults_of sheet.now) }
+fn check_faults(sheet: &[u8], shape: Shape) -> Result<(), Refusal>
+    ensures { answer_number result ≡ faults_error torus_plans (layout_in sheet.now).last_kind shape 0 (faults_of sheet.now) }
 {
-    let count = count_in(sheet);
-    let mut least: u32 = 0;
-    let mut i: u16 = 0;
-    while i < count {
+    let mut before = None;
+    for i in 0..count_in(sheet) {
         let f = fault_in(sheet, i);
         if !fault_good(shape, f) {
-            return NO_SUCH_FAULT;
+            return Err(Refusal::NoSuchFault);
         }
-        let key = fault_key(f);
-        if key < least {
-            return FAULT_NOT_ABOVE;
+        if not_above(f, before) {
+            return Err(Refusal::FaultNotAbove);
         }
-        least = key + 1;
-        i = i + 1;
+        before = Some(f);
     }
-    0
+    Ok(())
 }
 
-// The number of the first check that declines the sheet; 0 where none does.
-pub fn check(sheet: &[u8]) -> u8
-    ensures { result ≡ plan_error large sheet.now }
+// The first check that declines the sheet.
+pub fn check(sheet: &[u8]) -> Result<(), Refusal>
+    ensures { answer_number result ≡ plan_error large sheet.now }
 {
-    let head = head_error(sheet);
-    if head != 0 {
-        return head;
-    }
+    check_head(sheet)?;
     let shape = shape_in(sheet);
-    let error = shape_error(shape);
-    if error != 0 {
-        return error;
-    }
-    let weight = weight_error(weights_in(sheet));
-    if weight != 0 {
-        return weight;
-    }
-    faults_error(sheet, shape)
+    shape.check()?;
+    weights_in(sheet).check()?;
+    check_faults(sheet, shape)
 }

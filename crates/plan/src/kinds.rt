@@ -1,4 +1,4 @@
-// The kinds of a fault: 0, 1, 2 name a link, 3 the node.
+// The kinds of a fault: 0, 1, 2 name a link, 3 the node. A kind is any byte, since a fault is read before it is judged (`faults_error`).
 ghost use Rattle.std.specs.Prelude.{◌≡◌, ◌≤◌};
 ghost use Rattle.plan.specs.Kinds.{link_kind, node_kind, kind_dir};
 
@@ -19,11 +19,9 @@ pub fn dir(kind: u8) -> u8
     ensures value { result ≡ kind_dir kind }
     ensures upper_bound { result ≤ 4 }
 {
-    if kind == 0 {
-        0
-    } else if kind == 1 {
-        2
-    } else {
-        4
+    match kind {
+        0 => 0,
+        1 => 2,
+        _ => 4,
     }
 }

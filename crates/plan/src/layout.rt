@@ -8,7 +8,8 @@ use sheet::head::version_in;
 use sheet::{byte_at, word_at};
 use weights::Weights;
 
-#[derive(Clone, Copy)]
+// In the order in which a plan lists them: by node, then kind. The kind is a byte as lent: it is read before it is judged, and `plan_value::write` answers any.
+#[derive(Clone, Copy, PartialEq, Eq, PartialOrd, Ord)]
 pub struct Fault {
     pub node: u16,
     pub kind: u8,

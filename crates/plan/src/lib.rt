@@ -9,5 +9,5 @@ mod writing;
 
 pub use checks::check;
 pub use layout::Fault;
-pub use reading::{Answer, shape_of, weights_of};
+pub use reading::{shape_of, weights_of};
 pub use writing::write_back;

@@ -1,4 +1,3 @@
-pub mod Readings
 pub mod Forms
 pub mod Writings
 pub mod Rewriting

@@ -1,22 +1,23 @@
 -- The sheet of a plan, and what is read from it.
-use Prim.Native.Nat.{ℕ, ◌+◌, ◌*◌, ◌-◌, ◌<◌}
+use Prim.Native.Nat.{ℕ, suc, ◌+◌, ◌*◌, ◌-◌, ◌<◌}
 use native.Mathlib.Omega.{arith}
 use mathlib.Core.Path.{◌≡◌, refl, sym, ap, ◌∙◌}
-use mathlib.Core.Bool.{Bool, true, false, cond}
+use mathlib.Core.Bool.{Bool, true, false}
 use mathlib.Core.List.{List, ◌∷◌, ◌++◌}
 use lib.ListN.{length, get_or, take, length-append}
+use lib.Seq.{get_or-take}
+use lib.Dec.{ltb}
 use borrow.Author.Tests.{lt-ltb, le-ltb}
 use Rattle.numbers.specs.Numbers.{plan_version_unknown, many_faults}
-use Rattle.theory.proofs.Cases.{test}
 use Rattle.sheet.specs.Bytes.{word, word_bytes, list_from}
 use Rattle.sheet.specs.Head.{version, front_bytes}
 use Rattle.sheet.specs.Records.{records_bytes}
-use Rattle.sheet.proofs.Records.{word_of, from_length, from_at}
+use Rattle.sheet.proofs.Records.{word_of, from_length, from_at, from_same}
 use Rattle.sheet.proofs.Forms.{records_length, records_read}
-use Rattle.sheet.specs.declared.output.Written.TheVariants.{Refused}
-use Rattle.sheet.specs.Output.{room_error, written, out_after}
-use Rattle.sheet.proofs.Outputs.{unread, refused}
+use Rattle.sheet.specs.Output.{room_error}
+use Rattle.sheet.proofs.Outputs.{unread}
 use Rattle.plan_value.specs.declared.reading.Plan.{Plan}
+use Rattle.plan.specs.declared.layout.Fault.{Fault}
 use Rattle.plan.specs.Layout.{layout_of, layout_in, fault_form, size_after, shape_of, weights_by, weights_of, fault_count, fault_at, faults_of}
 use Rattle.plan.specs.Checks.{Limits, most_faults, Rules, plan_error_by}
 use Rattle.plan.proofs.Weights.{head_size_law, by_weights}
@@ -24,10 +25,6 @@ use Rattle.plan_value.specs.Reading.{no_fault, fault_array, plan_of}
 use Rattle.plan_value.specs.Writing.{plan_faults, weight_bytes, head_bytes, sheet_of}
 use Rattle.plan_value.specs.Value.{FaultFits, Fits, held_weights, cleared}
 use Rattle.plan_value.proofs.Forms.{lawful}
-
-some_number : (known : Bool) (n : ℕ) → n ≡ cond known many_faults plan_version_unknown → n ≡ 0 → ⊥
-some_number true n e z = omega arith
-some_number false n e z = omega arith
 
 -- ---- the head
 -- With k weight bytes, and what follows it.
@@ -73,24 +70,30 @@ module _ (p : Plan) where
   unfolding fault_count version layout_of sheet_of head_bytes weight_bytes
   head_count h = by_weights (λ k. word (head_with k p ++ records_bytes fault_form (plan_faults p)) (9 + k - 2) ≡ p.count) p.version (word_of p.count h) (word_of p.count h)
 
-  -- A plan of over 256 faults is declined with 3, of a version that there is none of with 2.
-  module _ (R : Rules) (L : Limits) (h : most_faults < p.count) (b : p.count < 65536) where
-    many : plan_error_by R L (sheet_of p) ≡ cond (layout_of p.version).known many_faults plan_version_unknown
+  -- A plan of a version that there is none of is declined with 2, and one of over 256 faults with 3.
+  module _ (R : Rules) (L : Limits) (o : List ℕ) where
+    abbrev s : List ℕ
+    s = sheet_of p
+
+    abbrev Declined : ℕ → Type 0
+    Declined n = room_error (plan_error_by R L s) s o ≡ n
+
+    long : ltb (length s) (layout_in s).head_size ≡ false
+    long = le-ltb (length s) (layout_in s).head_size (omega (arith, sheet_length, ap (λ l. l.head_size) head_layout))
+
+    same_known : (known : Bool) → known ≡ (layout_of p.version).known → (layout_in s).known ≡ known
+    same_known known e = ap (λ l. l.known) head_layout ∙ sym e
+
+    declined : (n : ℕ) → plan_error_by R L s ≡ suc n → Declined (suc n)
+    declined n e = unread (plan_error_by R L s) s o (λ z. omega (arith, e, z)) ∙ e
+
+    pub unknown_version : (known : Bool) → known ≡ (layout_of p.version).known → known ≡ false → Declined plan_version_unknown
     unfolding plan_error_by
-    many =
-        let s = sheet_of p in
-        let long = le-ltb (length s) (layout_in s).head_size (omega (arith, sheet_length, ap (λ l. l.head_size) head_layout)) in
-        let over = lt-ltb most_faults (fault_count s) (omega (arith, head_count b)) in
-        let same : (layout_in s).known ≡ (layout_of p.version).known = ap (λ l. l.known) head_layout in
-        test (layout_of p.version).known (λ e. rw (long, same ∙ e, over, e)) (λ e. rw (long, same ∙ e, e))
+    unknown_version known e none = declined 1 (rw (long, same_known known e ∙ none))
 
-    too_many : (o : List ℕ) → room_error (plan_error_by R L (sheet_of p)) (sheet_of p) o ≡ cond (layout_of p.version).known many_faults plan_version_unknown
-    too_many o = unread (plan_error_by R L (sheet_of p)) (sheet_of p) o (λ z. some_number (layout_of p.version).known _ refl (sym many ∙ z)) ∙ many
-
-    pub many_refused :
-        (known : Bool) → known ≡ (layout_of p.version).known → (n : ℕ) → n ≡ cond known many_faults plan_version_unknown → (o : List ℕ) →
-        (Refused n ≡ written (room_error (plan_error_by R L (sheet_of p)) (sheet_of p) o) (sheet_of p)) × (o ≡ out_after (room_error (plan_error_by R L (sheet_of p)) (sheet_of p) o) (sheet_of p) o)
-    many_refused known e n q o = refused _ n (sheet_of p) o (too_many o ∙ sym (q ∙ rw e)) (some_number known n q)
+    pub too_many : (known : Bool) → known ≡ (layout_of p.version).known → known ≡ true → most_faults < p.count → p.count < 65536 → Declined many_faults
+    unfolding plan_error_by
+    too_many known e some h b = declined 2 (rw (long, same_known known e ∙ some, lt-ltb most_faults (fault_count s) (omega (arith, head_count b))))
 
 -- ---- the faults
 module _ (p : Plan) (h : Fits p) where
@@ -108,6 +111,10 @@ module _ (p : Plan) (h : Fits p) where
   pub plan_read : plan_of (sheet_of p) ≡ cleared p
   unfolding plan_of fault_array cleared
   plan_read = rw (head_weights p, head_shape p, head_count p h.count, faults_read, head_version p)
+
+-- The first n faults of an array, one by one.
+pub taken : (l : List Fault) (n : ℕ) → list_from (λ k. get_or (take n l) k no_fault) 0 n ≡ list_from (λ k. get_or l k no_fault) 0 n
+taken l n = from_same _ _ n 0 (λ k a b. get_or-take n l k no_fault (omega arith))
 
 -- What is made record by record behind its head is the sheet.
 pub whole : (p : Plan) (head t : List ℕ) → take (layout_of p.version).head_size head ≡ head_bytes p → t ≡ take (layout_of p.version).head_size head ++ records_bytes fault_form (list_from (λ k. get_or p.faults k no_fault) 0 p.count) → t ≡ sheet_of p

@@ -55,13 +55,9 @@ pub fn encoded(plan: Plan) -> [u8; 780]
     ensures { take ((layout_of plan.version).head_size + 3 * plan.count) result ≡ sheet_of plan }
 {
     let size = head_size(plan.version);
-    let count = plan.count as usize;
-    let faults = plan.faults;
     let mut bytes = head(plan);
-    let mut i: usize = 0;
-    while i < count {
-        put_fault(size, &mut bytes, i, faults[i]);
-        i = i + 1;
+    for (i, f) in plan.faults[..plan.count as usize].iter().enumerate() {
+        put_fault(size, &mut bytes, i, *f);
     }
     bytes
 }

@@ -5,5 +5,5 @@ mod encode;
 mod reading;
 mod writing;
 
-pub use reading::{Plan, Reading, read};
+pub use reading::{Plan, read};
 pub use writing::write;

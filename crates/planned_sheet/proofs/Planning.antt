@@ -7,6 +7,7 @@ use mathlib.Core.List.{List, [], ◌∷◌}
 use mathlib.Core.Option.{Option, none, some}
 use lib.ListN.{length, take}
 use borrow.Author.Tests.{eq-eqb, ne_eqb}
+use Rattle.std.specs.Prelude.{Ok}
 use Rattle.numbers.specs.Numbers.{node_outside, dead_end, no_clear_choice}
 use Rattle.theory.specs.Checks.{declined, ◌then◌}
 use Rattle.theory.proofs.Cases.{test, by_order}
@@ -17,7 +18,6 @@ use Rattle.machine.specs.Number.{node_count}
 use Rattle.machine.specs.Node.{is_node}
 use Rattle.machine.specs.Torus.{leg}
 use Rattle.machine.proofs.Nodes.{node_of}
-use Rattle.plan.specs.declared.reading.Answer.TheVariants.{Accepted}
 use Rattle.plan.specs.Layout.{shape_of, faults_of}
 use Rattle.plan.specs.Checks.{Limits, plan_error}
 use Rattle.dead.specs.Dead.{dead_node}
@@ -204,7 +204,7 @@ module _ (L : Limits) (p : List ℕ) (S : ℕ) (s : Source L p S) where
   pub sheet_read :
       (o : List ℕ) → length (planned_sheet L p S) ≤ length o →
       let w = take (length (planned_sheet L p S)) (out_after (room_error (source_error L p S) (planned_sheet L p S) o) (planned_sheet L p S) o) in
-      reading (sheet_error L p w) w ≡ record { answer = Accepted; routes = routes_with S (entries_from L p S 0 (node_count (shape_of p))) }
+      reading (sheet_error L p w) w ≡ Ok (routes_with S (entries_from L p S 0 (node_count (shape_of p))))
   unfolding planned_sheet
   sheet_read o l = good_written_read L p S all s.plan routes_good_law (source_error L p S) o (no_error L p S s) l
 

@@ -7,16 +7,18 @@ use mathlib.Core.Bool.{Bool, true, false, true≢false}
 use mathlib.Core.List.{List}
 use lib.ListN.{length, get_or}
 use lib.Dec.{eqb}
-use borrow.Author.Tests.{eq-eqb, eqb-true, eqb-false, lt-ltb, le-ltb}
-use Rattle.numbers.specs.Numbers.{dead_end, no_clear_choice}
+use borrow.Author.Tests.{eq-eqb, eqb-true, eqb-false}
+use Rattle.std.specs.Prelude.{Option, Some}
+use Rattle.numbers.specs.declared.Refusal.TheVariants.{DeadEnd}
 use Rattle.theory.specs.Machine.{sum_by}
-use Rattle.theory.proofs.Cases.{test, by_le}
+use Rattle.theory.proofs.Cases.{test}
 use Rattle.shape.specs.declared.shape.Shape.{Shape}
 use Rattle.shape.specs.declared.shape.Coords.{Coords}
 use Rattle.machine.specs.declared.leg.Mode.TheVariants.{Adaptive, Deterministic}
 use Rattle.machine.specs.Node.{is_node}
 use Rattle.machine.specs.Number.{node_count}
 use Rattle.weights.specs.declared.weights.Weights.{Weights}
+use Rattle.weights.specs.declared.ends.Ends.{Ends}
 use Rattle.weights.specs.Steps.{distance_word}
 use Rattle.plan.specs.Layout.{shape_of, weights_of, faults_of}
 use Rattle.plan.specs.Checks.{large, plan_error}
@@ -28,17 +30,18 @@ use Rattle.choice.specs.declared.outcome.Outcome.{Outcome}
 use Rattle.choice.specs.Outcome.{told, told_as}
 use Rattle.choice.specs.Pair.{far_in, pair}
 use Rattle.rows.specs.Rows.{in_rows}
-use Rattle.masks.specs.declared.span.Box.{Box}
+use Rattle.rows.specs.declared.product.Places.{Places}
 use Rattle.masks.specs.Span.{box_of}
 use Rattle.losses.proofs.DeadTarget.{dead_target}
 use Rattle.search.specs.Number.{unclear}
 use Rattle.notes.specs.Known as Notes
 use Rattle.notes.specs.Known.{is_clear, IsAt, ToBetween, BothTo, NearLosses, NoteTo}
-use Rattle.first_clear.specs.Known.{route_told, is_given, via_route, Noted, NotedBetween, TwoTo, Apart, Pairing, Nearing, FarSets, FarLost}
+use Rattle.first_clear.specs.Known.{route_told, via_route, Near, Noted, NotedBetween, TwoTo, Apart, Pairing, Nearing, FarSets, FarLost}
 use Rattle.first_clear.proofs.Own.{by_own}
+use Rattle.first_clear.proofs.Steps.{given_near, via_low}
 use Rattle.notes.proofs.Knowing.{shape_ok, nodes_few}
 use Rattle.notes.proofs.Destination.{is_box, length_is_law, has_is, small_at}
-use Rattle.planner.specs.Known.{Work, Ready, Sifting, Last}
+use Rattle.planner.specs.Known.{Work, Ready}
 use Rattle.planned_sheet.proofs.Planning.{Source, pair_dead, pair_alive}
 use Rattle.planned_sheet.proofs.Unlisted.{pair_direct}
 
@@ -47,12 +50,9 @@ pub dead_byte : (p dead : List ℕ) → plan_error large p ≡ 0 → ((n : ℕ) 
 unfolding is_plan
 dead_byte p dead h nodes n = nodes n ∙ rw (eq-eqb (plan_error large p) 0 h)
 
-module _ (p : List ℕ) (s : Shape) (words : List ℕ) (count : ℕ) (dead ta td work : List ℕ) (S : ℕ) (a : Coords) (fa fd : List ℕ) (g : Ready p s words count dead ta td work S a fa fd) (D : ℕ) (t : Coords) (to : IsAt p D t) where
+module _ {p : List ℕ} {s : Shape} {words : List ℕ} {count : ℕ} {dead ta td work : List ℕ} {S : ℕ} {a : Coords} {fa fd : List ℕ} (g : Ready p s words count dead ta td work S a fa fd) {D : ℕ} {t : Coords} (to : IsAt p D t) where
   abbrev h : plan_error large p ≡ 0
   h = g.prepared.of_plan.plan
-
-  pub sifting_at : Sifting p s words count ta S D a t
-  sifting_at = record { of_plan = g.prepared.of_plan; masks = g.prepared.adaptive; source = g.source; target = to }
 
   pub source_is : Source large p S
   source_is = record { plan = h; node = is_node_law (shape_of p) S (record { sound = shape_ok p h; below = g.source.node }); alive = g.alive }
@@ -66,8 +66,8 @@ module _ (p : List ℕ) (s : Shape) (words : List ℕ) (count : ℕ) (dead ta td
   dead_is : get_or dead D 0 ≡ bit_of (dead_node (faults_of p) D)
   dead_is = dead_byte p dead h g.prepared.nodes D
 
-  pub dead_told : (get_or dead D 0 ≡ 0 → ⊥) → Outcome.Refused dead_end ≡ told (far_in p) S (pair large p S D)
-  unfolding told told_as
+  pub dead_told : (get_or dead D 0 ≡ 0 → ⊥) → Outcome.Refused DeadEnd ≡ told (far_in p) S (pair large p S D)
+  unfolding told
   dead_told ne =
       test (dead_node (faults_of p) D)
       (λ d. rw (pair_dead large p S source_is D target_is d) refl)
@@ -80,9 +80,9 @@ module _ (p : List ℕ) (s : Shape) (words : List ℕ) (count : ℕ) (dead ta td
       (λ d. e ∙ sym (ap (told (far_in p) S) (pair_alive large p S source_is D target_is d)))
 
   -- The direct adaptive leg is clear, or not.
-  pub direct_told : (w : Weights) → w ≡ weights_of p → (b : Bool) → b ≡ in_rows fa 0 t → b ≡ true → (len : ℕ) → len ≡ distance_word w s a t → Outcome.Given (Route.Direct Adaptive) len ≡ told (far_in p) S (pair large p S D)
+  pub direct_told : {w : Weights} → w ≡ weights_of p → (b : Bool) → b ≡ in_rows fa 0 t → b ≡ true → (len : ℕ) → len ≡ distance_word w s a t → Outcome.Given (Route.Direct Adaptive) len ≡ told (far_in p) S (pair large p S D)
   unfolding told told_as sum_by
-  direct_told w ew b e y len q =
+  direct_told {w} ew b e y len q =
       let c = sym (has_is p Adaptive fa S D t g.adaptive to b e) ∙ y in
       let d = length_is_law p w s S D a t len h ew g.prepared.of_plan.shape g.source to q in
       rw (pair_direct p S source_is D target_is c) (ap (Outcome.Given (Route.Direct Adaptive)) (omega arith))
@@ -139,7 +139,7 @@ module _ (p : List ℕ) (s : Shape) (words : List ℕ) (count : ℕ) (dead ta td
       (λ d. absurd (dead_apart ne d))
 
   pub pairing :
-      is_clear p Adaptive S D ≡ false → (b : Box) → b ≡ box_of s a t → (set : List ℕ) (from : ℕ) → from + 256 ≤ length set → ToBetween p Adaptive S D set from →
+      is_clear p Adaptive S D ≡ false → (b : Places) → b ≡ box_of s a t → (set : List ℕ) (from : ℕ) → from + 256 ≤ length set → ToBetween p Adaptive S D set from →
       (notes : List ℕ) → NotedBetween p S D notes → 4096 ≤ get_or notes D 0 → Pairing p s S D b.x b.y b.z set from notes
   pairing direct b eb set from room back notes noted over = record {
     plan = h;
@@ -160,12 +160,10 @@ module _ (p : List ℕ) (s : Shape) (words : List ℕ) (count : ℕ) (dead ta td
   pub between_in : (set : List ℕ) (from : ℕ) → BothTo p D set from → ToBetween p Adaptive S D set from
   between_in set from both v l _ = both.adaptive v l
 
-  module _ (w : Weights) (ew : w ≡ weights_of p) (direct : is_clear p Adaptive S D ≡ false) (straight : Bool) (es : straight ≡ in_rows fd 0 t) where
-    one : straight ≡ is_clear p Deterministic S D
-    one = has_is p Deterministic fd S D t g.deterministic to straight es
-
-    pub note_losses : (near : List ℕ) (n : ℕ) → NearLosses p S D words count near n → Notes.ByLosses p w s words count near n ta td S D a t fa fd straight
-    note_losses near n some = record {
+  -- ---- its note and its route, where the direct adaptive leg is not clear
+  module _ {w : Weights} (ew : w ≡ weights_of p) (direct : is_clear p Adaptive S D ≡ false) {ends : Ends} (ee : ends ≡ record { weights = w; shape = s; a = a; t = t }) where
+    pub note_losses : (straight : Bool) → straight ≡ in_rows fd 0 t → (near : List ℕ) → NearLosses p S D words count near (length near) → Notes.ByLosses p ends.weights ends.shape words count near (length near) ta td S D ends.a ends.t fa fd straight
+    note_losses straight es near some = rw ee (record {
       of_plan = g.prepared.of_plan;
       weights = ew;
       standing = some;
@@ -176,11 +174,11 @@ module _ (p : List ℕ) (s : Shape) (words : List ℕ) (count : ℕ) (dead ta td
       adaptive = g.adaptive;
       deterministic = g.deterministic;
       direct = direct;
-      one = one;
-    }
+      one = has_is p Deterministic fd S D t g.deterministic to straight es;
+    })
 
-    pub note_sets : Work p work → (length work ≡ 0 → ⊥) → Notes.BySets p w s work S D a t fa fd straight
-    note_sets sets ne = record {
+    pub note_sets : (straight : Bool) → straight ≡ in_rows fd 0 t → Work p work → (length work ≡ 0 → ⊥) → Notes.BySets p ends.weights ends.shape work S D ends.a ends.t fa fd straight
+    note_sets straight es sets ne = rw ee (record {
       plan = h;
       weights = ew;
       shape = g.prepared.of_plan.shape;
@@ -190,82 +188,55 @@ module _ (p : List ℕ) (s : Shape) (words : List ℕ) (count : ℕ) (dead ta td
       deterministic = g.deterministic;
       both = sets_to sets ne;
       direct = direct;
-      one = one;
-    }
+      one = has_is p Deterministic fd S D t g.deterministic to straight es;
+    })
 
-    -- ---- its route, by the notes
-    module _ (note : ℕ) (own : NoteTo p S D note) where
-      apart : (len : ℕ) → len ≡ distance_word w s a t → Apart p s S D len
-      apart len el = record {
-        plan = h;
-        shape = g.prepared.of_plan.shape;
-        source = g.source.node;
-        target = to.node;
-        distance = length_is_law p w s S D a t len h ew g.prepared.of_plan.shape g.source to el;
+    -- The last step, by the losses and by the sets.
+    module _ (blocked : is_clear p Deterministic S D ≡ false) (notes : List ℕ) (note : ℕ) (own : note ≡ get_or notes D 0) where
+      pub far_lost : Noted p S notes → FarLost p ends.weights ends.shape words count ta td S D ends.a ends.t fa note notes
+      far_lost noted = rw ee (record {
+        of_plan = g.prepared.of_plan;
+        weights = ew;
+        masks = g.prepared.adaptive;
+        others = g.prepared.deterministic;
+        source = g.source;
+        target = to;
+        adaptive = g.adaptive;
         direct = direct;
-      }
+        blocked = blocked;
+        own = own;
+        noted = noted;
+      })
 
-      pub nearing : (len : ℕ) → len ≡ distance_word w s a t → 4096 ≤ note → (n : ℕ) → TwoTo p S D n → Nearing p s S D len fa straight note n
-      nearing len el over n two = record { apart = apart len el; one = one; out = g.adaptive; own = own; over = over; two = two }
+      pub far_sets : Noted p S notes → Work p work → (length work ≡ 0 → ⊥) → FarSets p ends.weights ends.shape work S D ends.a ends.t fa note notes
+      far_sets noted sets ne = rw ee (record {
+        plan = h;
+        weights = ew;
+        shape = g.prepared.of_plan.shape;
+        source = g.source;
+        target = to;
+        adaptive = g.adaptive;
+        both = sets_to sets ne;
+        direct = direct;
+        blocked = blocked;
+        own = own;
+        noted = noted;
+      })
 
-      pub via_told : (len : ℕ) → len ≡ distance_word w s a t → (o : Outcome) → o ≡ via_route note len → (b : Bool) → b ≡ is_given o → b ≡ true → o ≡ route_told p S D
-      unfolding via_route
-      via_told len el o eo b eb y =
-          by_le 4096 note
-          (λ k. let z : via_route note len ≡ Outcome.Refused no_clear_choice = rw (le-ltb note 4096 k) refl in absurd (true≢false (sym (sym eb ∙ y) ∙ ap is_given (eo ∙ z))))
-          (λ k. eo ∙ rw (lt-ltb note 4096 k) (by_own p s S D len (apart len el) note own k))
-
-      pub not_via : (len : ℕ) (o : Outcome) → o ≡ via_route note len → (b : Bool) → b ≡ is_given o → b ≡ false → 4096 ≤ note
-      unfolding via_route
-      not_via len o eo b eb n =
-          by_le 4096 note (λ k. k)
-          (λ k. let z : via_route note len ≡ Outcome.Given (Route.Via note Adaptive Adaptive) len = rw (lt-ltb note 4096 k) refl in absurd (true≢false (sym (ap is_given (eo ∙ z)) ∙ sym eb ∙ n)))
-
-    pub last : Work p work → (notes : List ℕ) → Noted p S notes → (note : ℕ) → note ≡ get_or notes D 0 → is_clear p Deterministic S D ≡ false → Last p w s words count ta td work S D a t fa notes note
-    last sets notes noted note own blocked = record {
-      of_plan = g.prepared.of_plan;
-      weights = ew;
-      masks = g.prepared.adaptive;
-      others = g.prepared.deterministic;
-      sets = sets;
-      source = g.source;
-      target = to;
-      adaptive = g.adaptive;
+  -- ---- its route, by its note
+  module _ {w : Weights} (ew : w ≡ weights_of p) (direct : is_clear p Adaptive S D ≡ false) (note : ℕ) (own : NoteTo p S D note) (len : ℕ) (el : len ≡ distance_word w s a t) where
+    apart : Apart p s S D len
+    apart = record {
+      plan = h;
+      shape = g.prepared.of_plan.shape;
+      source = g.source.node;
+      target = to.node;
+      distance = length_is_law p w s S D a t len h ew g.prepared.of_plan.shape g.source to el;
       direct = direct;
-      blocked = blocked;
-      own = own;
-      noted = noted;
     }
 
--- The last step, by the losses and by the sets.
-module _ (p : List ℕ) (w : Weights) (s : Shape) (words : List ℕ) (count : ℕ) (ta td work : List ℕ) (S D : ℕ) (a t : Coords) (fa notes : List ℕ) (note : ℕ)
-    (g : Last p w s words count ta td work S D a t fa notes note) where
-  pub far_lost : FarLost p w s words count ta td S D a t fa note notes
-  far_lost = record {
-    of_plan = g.of_plan;
-    weights = g.weights;
-    masks = g.masks;
-    others = g.others;
-    source = g.source;
-    target = g.target;
-    adaptive = g.adaptive;
-    direct = g.direct;
-    blocked = g.blocked;
-    own = g.own;
-    noted = g.noted;
-  }
+    pub nearing : (straight : Bool) → straight ≡ in_rows fd 0 t → 4096 ≤ note → (n : ℕ) → TwoTo p S D n → Nearing p s S D len fa straight note n
+    nearing straight es over n two = record { apart = apart; one = has_is p Deterministic fd S D t g.deterministic to straight es; out = g.adaptive; own = own; over = over; two = two }
 
-  pub far_sets : (length work ≡ 0 → ⊥) → FarSets p w s work S D a t fa note notes
-  far_sets ne = record {
-    plan = g.of_plan.plan;
-    weights = g.weights;
-    shape = g.of_plan.shape;
-    source = g.source;
-    target = g.target;
-    adaptive = g.adaptive;
-    both = ⊎_elim (λ z. absurd (ne z)) (λ f. f.each D g.target.node) g.sets;
-    direct = g.direct;
-    blocked = g.blocked;
-    own = g.own;
-    noted = g.noted;
-  }
+    pub via_near : (r : Option Outcome) → r ≡ via_route note len → (o : Outcome) → r ≡ Some o → Near p S D (Some o)
+    via_near r e o is = let k = via_low note len r e o is in given_near p S D o (k.1 ∙ by_own p s S D len apart note own k.0)

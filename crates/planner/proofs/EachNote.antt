@@ -99,7 +99,7 @@ bit_none x = bit_past 0 0 x (omega arith) (omega arith)
 place_y : (y z y' z' : ℕ) → y + 16 * z ≡ y' + 16 * z' → y < 16 → y' < 16 → (y ≡ y') × (z ≡ z')
 place_y y z y' z' e h h' = let up : z ≤ z' = omega arith in let down : z' ≤ z = omega arith in (omega arith, omega arith)
 
-module _ (p : List ℕ) (s : Shape) (words : List ℕ) (count : ℕ) (dead ta td work : List ℕ) (S : ℕ) (a : Coords) (fa fd : List ℕ) (ready : Ready p s words count dead ta td work S a fa fd) where
+module _ {p : List ℕ} {s : Shape} {words : List ℕ} {count : ℕ} {dead ta td work : List ℕ} {S : ℕ} {a : Coords} {fa fd : List ℕ} (ready : Ready p s words count dead ta td work S a fa fd) where
   accepted : plan_error large p ≡ 0
   accepted = ready.prepared.of_plan.plan
 

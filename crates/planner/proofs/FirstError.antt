@@ -1,13 +1,12 @@
 -- The first check that declines: of a pair, a source, a run.
 use Prim.Native.Nat.{ℕ, zero, suc}
-use native.Mathlib.Omega.{arith}
 use mathlib.Core.Path.{◌≡◌, refl, sym, ◌∙◌}
-use mathlib.Core.Bool.{Bool, true, false, not, cond, ◌&&◌, ◌||◌}
+use mathlib.Core.Bool.{Bool, true, false, not, ◌&&◌, ◌||◌}
 use mathlib.Core.List.{List}
 use lib.Dec.{eqb}
-use borrow.Author.Tests.{ne_eqb}
 use Rattle.numbers.specs.Numbers.{node_outside, dead_end}
 use Rattle.theory.specs.Checks.{declined, ◌then◌}
+use Rattle.theory.proofs.Checks.{declines}
 use Rattle.shape.specs.declared.shape.Shape.{Shape}
 use Rattle.machine.specs.Node.{is_node}
 use Rattle.plan.specs.Layout.{shape_of, faults_of}
@@ -19,12 +18,34 @@ use Rattle.planned_sheet.specs.Sheet.{source_error}
 use Rattle.planner.specs.Run.{run_error}
 use Rattle.planner.specs.Steps.{first_error}
 
-pub first_error_law : (e : ℕ) (known dead : Bool) (x y r : ℕ) → x ≡ cond dead dead_end 0 → y ≡ cond known x node_outside → r ≡ cond (not (eqb e 0)) e y → r ≡ first_error e known dead
+-- The checks of the ends by themselves.
+pub unknown : (known dead : Bool) → known ≡ false → node_outside ≡ first_error 0 known dead
 unfolding first_error
-first_error_law zero true true x y r ex ey er = er ∙ ey ∙ ex
-first_error_law zero true false x y r ex ey er = er ∙ ey ∙ ex
-first_error_law zero false dead x y r ex ey er = er ∙ ey
-first_error_law (suc e) known dead x y r ex ey er = er ∙ rw (ne_eqb (suc e) 0 (λ z. omega arith))
+unknown known dead e = rw e refl
+
+pub lifeless : (known dead : Bool) → known ≡ true → dead ≡ true → dead_end ≡ first_error 0 known dead
+unfolding first_error
+lifeless known dead e d = rw (e, d) refl
+
+pub sound_ends : (known dead : Bool) → known ≡ true → dead ≡ false → 0 ≡ first_error 0 known dead
+unfolding first_error
+sound_ends known dead e d = rw (e, d) refl
+
+-- A plan that a check declines.
+pub plan_declined : (e n : ℕ) (x : ℕ) → (n ≡ 0 → ⊥) → n ≡ e → n ≡ (e then x)
+plan_declined e n x ne h = h ∙ sym (declines e x (λ z. ne (h ∙ z)))
+
+pub source_declined : (p : List ℕ) (S n : ℕ) → (n ≡ 0 → ⊥) → n ≡ plan_error large p → n ≡ source_error large p S
+unfolding source_error
+source_declined p S n ne h = plan_declined _ n _ ne h
+
+pub pair_declined : (p : List ℕ) (S D n : ℕ) → (n ≡ 0 → ⊥) → n ≡ plan_error large p → n ≡ pair_error large p S D
+unfolding pair_error
+pair_declined p S D n ne h = plan_declined _ n _ ne h
+
+pub run_declined : (p : List ℕ) (from n : ℕ) → (n ≡ 0 → ⊥) → n ≡ plan_error large p → n ≡ run_error p from
+unfolding run_error
+run_declined p from n ne h = plan_declined _ n _ ne h
 
 module _ (p : List ℕ) (s : Shape) (es : s ≡ shape_of p) (e : ℕ) (ee : e ≡ plan_error large p) (known dead : Bool) (r : ℕ) (er : r ≡ first_error e known dead) where
   -- A node is answered to be dead of an accepted plan alone.

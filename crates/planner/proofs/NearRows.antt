@@ -1,10 +1,11 @@
 -- The losses that can lie on the shortest ways to the destinations of a row.
-use Prim.Native.Nat.{ℕ, ◌+◌, ◌*◌, ◌/◌, ◌≤◌, ◌<◌, min}
+use Prim.Native.Nat.{ℕ, zero, suc, ◌+◌, ◌*◌, ◌/◌, ◌≤◌, ◌<◌, min}
 use native.Mathlib.Omega.{arith}
 use mathlib.Core.Path.{◌≡◌, refl, sym, ap, ◌∙◌}
-use mathlib.Core.Bool.{Bool, true, false, true≢false}
+use mathlib.Core.Bool.{Bool, true, false, ◌||◌, true≢false}
 use mathlib.Core.List.{List}
-use lib.ListN.{length, get_or}
+use lib.ListN.{length, take, get_or}
+use lib.Seq.{get_or-take, length-take-le}
 use Rattle.theory.proofs.Bools.{and_true}
 use Rattle.theory.proofs.Cases.{test, by_le}
 use Rattle.sheet.specs.Bytes.{list_from}
@@ -20,10 +21,10 @@ use Rattle.machine.proofs.Numbers.{inside}
 use Rattle.plan.specs.Layout.{shape_of}
 use Rattle.rows.specs.Bits.{bit}
 use Rattle.rows.specs.Rows.{in_product}
-use Rattle.masks.specs.declared.span.Box.{Box}
+use Rattle.rows.specs.declared.product.Places.{Places}
 use Rattle.masks.specs.Span.{box_of}
 use Rattle.masks.specs.Masks.{end_at, ends_at, Ended}
-use Rattle.losses.specs.Loss.{loss_meets, on_leg}
+use Rattle.losses.specs.Loss.{some_below, loss_meets, on_leg}
 use Rattle.losses.proofs.Modes.{more_met}
 use Rattle.sets.specs.Sift.{reaches, Sifted}
 use Rattle.sets.proofs.Sets.{loss_bit}
@@ -54,7 +55,7 @@ module _ (p : List ℕ) (s : Shape) (words : List ℕ) (count : ℕ) (k : OfPlan
   ok = shape_ok p k.plan
 
   -- The losses sifted for the row of t.
-  module _ (D : ℕ) (t : Coords) (to : IsAt p D t) (masks : List ℕ) (full : Ended Adaptive false s t masks) (b : Box) (eb : b ≡ box_of s a t) (old kept : List ℕ) (found : ℕ) (long : length old ≡ 256)
+  module _ (D : ℕ) (t : Coords) (to : IsAt p D t) (masks : List ℕ) (full : Ended Adaptive false s t masks) (b : Places) (eb : b ≡ box_of s a t) (old kept : List ℕ) (found : ℕ) (long : length old ≡ 256)
       (sifted : Sifted b.y b.z masks words (min count 256) old kept found) where
     module _ (E : ℕ) (l : E < node_count (shape_of p)) (y : (coords_of (shape_of p) E).y ≡ t.y) (z : (coords_of (shape_of p) E).z ≡ t.z) where
       abbrev e : Coords
@@ -84,8 +85,8 @@ module _ (p : List ℕ) (s : Shape) (words : List ℕ) (count : ℕ) (k : OfPlan
         at_row =
             let parts = in_parts _ _ _ c ((is_box p s S E a e k.plan k.shape from (record { node = l; at = refl }) (box_of s a e) refl v h).1 w) in
             let same = box_row s a e t y z in (
-              ap (λ (q : Box). bit q.y c.y) eb ∙ ap (λ (q : ℕ). bit q c.y) (sym same.0) ∙ parts.0,
-              ap (λ (q : Box). bit q.z c.z) eb ∙ ap (λ (q : ℕ). bit q c.z) (sym same.1) ∙ parts.1,
+              ap (λ (q : Places). bit q.y c.y) eb ∙ ap (λ (q : ℕ). bit q c.y) (sym same.0) ∙ parts.0,
+              ap (λ (q : Places). bit q.z c.z) eb ∙ ap (λ (q : ℕ). bit q c.z) (sym same.1) ∙ parts.1,
             )
 
         adaptive_missed : (x : ℕ) → reaches b.y b.z masks x ≡ false → loss_meets rule Adaptive (shape_of p) x c e ≡ false
@@ -109,14 +110,37 @@ module _ (p : List ℕ) (s : Shape) (words : List ℕ) (count : ℕ) (k : OfPlan
 
     pub sifted_row : (work : List ℕ) → NearRow p work S words count kept found (t.y + 16 * t.z)
     sifted_row work = record {
-      long = sifted.long ∙ long;
+      few = omega (arith, sifted.few, k.losses.few);
       each = λ none E l e.
           let at = small_at p D t k.plan to in
           let there = small_at p E _ k.plan (record { node = l; at = refl }) in
           row_near E l (omega (arith, e, at.1, there.1)) (omega (arith, e, at.1, there.1));
     }
 
-pub near_row_law :
-    (p work : List ℕ) (S : ℕ) (words : List ℕ) (count : ℕ) (near : List ℕ) (n row : ℕ) → NearRow p work S words count near n row → (D : ℕ) (t : Coords) → IsAt p D t → t.y + 16 * t.z ≡ row → length work ≡ 0 →
-    NearLosses p S D words count near n
-near_row_law p work S words count near n row g D t to e z = g.each z D to.node (ap (λ (c : Coords). c.y + 16 * c.z) (sym to.at) ∙ e)
+-- With sets to all nodes no losses are needed.
+pub none_near : (p work : List ℕ) (S : ℕ) (words : List ℕ) (count : ℕ) (near : List ℕ) (row : ℕ) → (length work ≡ 0 → ⊥) → NearRow p work S words count near 0 row
+none_near p work S words count near row ne = record { few = omega arith; each = λ z. absurd (ne z) }
+
+-- The same of a slice of just these losses.
+below_same : (n : ℕ) (f g : ℕ → Bool) → ((i : ℕ) → i < n → f i ≡ g i) → some_below n f ≡ some_below n g
+unfolding some_below
+below_same zero f g e = refl
+below_same (suc n) f g e = ap (λ x. x || some_below n f) (e n (omega arith)) ∙ ap (λ x. g n || x) (below_same n f g (λ i l. e i (omega arith)))
+
+module _ (p work : List ℕ) (S : ℕ) (words : List ℕ) (count : ℕ) (near : List ℕ) (n row : ℕ) where
+  pub row_taken : n ≤ length near → NearRow p work S words count near n row → NearRow p work S words count (take n near) (length (take n near)) row
+  unfolding on_leg
+  row_taken room g =
+      let long : length (take n near) ≡ n = length-take-le n near room in
+      rw long (record {
+        few = g.few;
+        each = λ none D l e.
+            let at = g.each none D l e in
+            record {
+              few = at.few;
+              same = λ m v h w. below_same n _ _ (λ i b. ap (λ x. loss_meets rule m (shape_of p) x (coords_of (shape_of p) v) (coords_of (shape_of p) D)) (get_or-take n near i 0 b)) ∙ at.same m v h w;
+            };
+      })
+
+  pub near_row_law : NearRow p work S words count near n row → (D : ℕ) (t : Coords) → IsAt p D t → t.y + 16 * t.z ≡ row → length work ≡ 0 → NearLosses p S D words count near n
+  near_row_law g D t to e z = g.each z D to.node (ap (λ (c : Coords). c.y + 16 * c.z) (sym to.at) ∙ e)

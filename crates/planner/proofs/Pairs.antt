@@ -1,14 +1,17 @@
 -- Planning a pair: its checks, and the answer.
-use Prim.Native.Nat.{ℕ, zero, suc, ◌+◌, ◌*◌, ◌/◌, ◌%◌, ◌≤◌, ◌<◌, min}
+use Prim.Native.Nat.{ℕ, zero, suc, ◌+◌, ◌*◌, ◌/◌, ◌%◌, ◌≤◌, ◌<◌}
 use native.Mathlib.Omega.{arith}
 use mathlib.Core.Path.{◌≡◌, refl, sym, ap, ◌∙◌}
 use mathlib.Core.Logic.{inl, inr}
 use mathlib.Core.Bool.{Bool, true, false, not, ◌&&◌, ◌||◌}
 use mathlib.Core.List.{List}
 use lib.ListN.{length, get_or}
-use borrow.Author.Tests.{lt-ltb}
 use Rattle.theory.proofs.Cases.{test}
-use Rattle.numbers.specs.Numbers.{node_outside, dead_end}
+use Rattle.std.proofs.Math.Option.{Option, none, some}
+use Rattle.numbers.specs.Numbers.{node_outside, dead_end, no_clear_choice}
+use Rattle.numbers.specs.declared.Refusal.{Refusal}
+use Rattle.numbers.specs.Refusals.{number}
+use Rattle.sheet.proofs.Outputs.{of_number}
 use Rattle.theory.specs.Checks.{declined, ◌then◌}
 use Rattle.shape.specs.declared.shape.Shape.{Shape}
 use Rattle.shape.specs.declared.shape.Coords.{Coords}
@@ -27,8 +30,10 @@ use Rattle.plan.specs.Layout.{shape_of, weights_of, faults_of}
 use Rattle.plan.specs.Checks.{large, plan_error}
 use Rattle.dead.specs.Dead.{dead_node}
 use Rattle.choice.specs.declared.outcome.Outcome.{Outcome}
-use Rattle.choice.specs.Answer.{answered}
-use Rattle.choice.specs.Outcome.{told, told_as}
+use Rattle.choice.specs.Answer.{Answer, Refused, answered}
+use Rattle.choice.specs.Choice.{Choice}
+use Rattle.choice.specs.Outcome.{told, told_as, outcome_number}
+use Rattle.choice.proofs.Told.{refused-told}
 use Rattle.choice.specs.Pair.{sound_in, far_in, route_in, pair_error, chosen, pair}
 use Rattle.choice.proofs.AtTorus.{far_lengths, direct_first}
 use Rattle.losses.specs.Loss.{on_leg}
@@ -37,16 +42,16 @@ use Rattle.losses.proofs.AtPlan.{clear_is}
 use Rattle.rows.specs.Bits.{bit}
 use Rattle.rows.specs.Rows.{in_rows, in_set, in_product}
 use Rattle.rows.specs.Product.{node_at, Less, product}
-use Rattle.masks.specs.declared.span.Box.{Box}
+use Rattle.rows.specs.declared.product.Places.{Places}
 use Rattle.masks.specs.Span.{box_of}
 use Rattle.masks.specs.Masks.{Ended}
 use Rattle.search.specs.FirstVia.{is_via, FirstOf}
 use Rattle.notes.specs.Known.{is_clear, OfPlan, IsAt, FromSet, NoteTo, Between, BetweenMade}
-use Rattle.first_clear.specs.Known.{route_told, via_route, Noted, NotedBetween, TwoTo, Apart, FarLost}
+use Rattle.first_clear.specs.Known.{route_told, Noted, NotedBetween, TwoTo, Apart}
 use Rattle.notes.proofs.Knowing.{shape_ok, row_small}
 use Rattle.notes.proofs.Destination.{is_box, length_is_law, small_at, all_near, here_near}
 use Rattle.first_clear.proofs.Own.{by_own}
-use Rattle.planner.specs.Known.{Ready, NotesMade, TwosMade, Twos, Ends, Beside}
+use Rattle.planner.specs.Known.{NotesMade, TwosMade, Twos, Ends, Beside}
 
 -- ---- the checks of a pair
 -- None of them declines.
@@ -71,47 +76,75 @@ accepted p S D h =
     record { plan = k.0; source = k.1; target = k.2; alive = k.3 }
 
 -- ---- the answer
-pub refused_pair : (p : List ℕ) (S D e : ℕ) → e ≡ pair_error large p S D → (e ≡ 0 → ⊥) → Outcome.Refused e ≡ told (far_in p) S (pair large p S D)
-unfolding pair answered told told_as
-refused_pair p S D zero q ne = absurd (ne refl)
-refused_pair p S D (suc e) q ne = rw (sym q)
+answered_number : (e : Refusal) (x : Answer) → answered (number e) x ≡ Refused (number e)
+unfolding answered
+answered_number e x = of_number (λ n. answered n x ≡ Refused n) (λ n. refl) e
 
-chosen_pair : (p : List ℕ) (S D : ℕ) → pair_error large p S D ≡ 0 → told (far_in p) S (chosen (route_in p S D)) ≡ told (far_in p) S (pair large p S D)
+declined_pair : (p : List ℕ) (S D : ℕ) (e : Refusal) → number e ≡ pair_error large p S D → pair large p S D ≡ Refused (number e)
+unfolding pair
+declined_pair p S D e q = rw (sym q) (answered_number e (chosen (route_in p S D)))
+
+same_number : (m n : ℕ) → Refused m ≡ Refused n → m ≡ n
+same_number m n e = cc
+
+-- Its number is that of the answer.
+pub refused_pair :
+    (p : List ℕ) (S D : ℕ) (e : Refusal) → number e ≡ pair_error large p S D →
+    record { value : Outcome.Refused e ≡ told (far_in p) S (pair large p S D); number : (n : ℕ) → pair large p S D ≡ Refused n → number e ≡ n }
+refused_pair p S D e q = record {
+  value = rw (declined_pair p S D e q) (refused-told (far_in p) S (number e) e refl);
+  number = λ n r. same_number (number e) n (sym (declined_pair p S D e q) ∙ r);
+}
+
+chosen_pair : (p : List ℕ) (S D : ℕ) → pair_error large p S D ≡ 0 → pair large p S D ≡ chosen (route_in p S D)
 unfolding pair answered
 chosen_pair p S D h = rw h
+
+none_chosen : (c : Option Choice) (n : ℕ) → chosen c ≡ Refused n → n ≡ no_clear_choice
+none_chosen none n e = cc
+none_chosen (some c) n e = let z : ◌≡◌ {A = ℕ} 0 1 = cc in absurd (omega arith)
+
+told_none : (far : ℕ → ℕ → ℕ) (S : ℕ) → outcome_number (told far S (Refused no_clear_choice)) ≡ no_clear_choice
+unfolding told
+told_none far S = refl
 
 -- ---- what is worked out of an accepted pair
 pub node_at_law : (p : List ℕ) (s : Shape) (n : ℕ) (c : Coords) → s ≡ shape_of p → is_node (shape_of p) n ≡ true → c ≡ coords_answer s n → IsAt p n c
 node_at_law p s n c e k q = record { node = (node_of (shape_of p) n k).below; at = q ∙ rw (e, k) }
 
-module _ (p : List ℕ) (s : Shape) (S D e : ℕ) (es : s ≡ shape_of p) (ee : e ≡ pair_error large p S D) (zero : e ≡ 0) where
+module _ (p : List ℕ) (S D : ℕ) (zero : pair_error large p S D ≡ 0) where
   A : Accepted p S D
-  A = accepted p S D (sym ee ∙ zero)
+  A = accepted p S D zero
 
-  pub known : (words : List ℕ) (count : ℕ) → AreLosses p words count → OfPlan p s words count
-  known words count l = record { plan = A.plan; shape = es; losses = l }
+  pub known : (s : Shape) → s ≡ shape_of p → (words : List ℕ) (count : ℕ) → AreLosses p words count → OfPlan p s words count
+  known s es words count l = record { plan = A.plan; shape = es; losses = l }
 
-  pub from_at : (c : Coords) → c ≡ coords_answer s S → IsAt p S c
-  from_at c q = node_at_law p s S c es A.source q
+  pub from_at : (s : Shape) → s ≡ shape_of p → (c : Coords) → c ≡ coords_answer s S → IsAt p S c
+  from_at s es c q = node_at_law p s S c es A.source q
 
-  pub to_at : (c : Coords) → c ≡ coords_answer s D → IsAt p D c
-  to_at c q = node_at_law p s D c es A.target q
+  pub to_at : (s : Shape) → s ≡ shape_of p → (c : Coords) → c ≡ coords_answer s D → IsAt p D c
+  to_at s es c q = node_at_law p s D c es A.target q
 
   pub source_alive : dead_node (faults_of p) S ≡ false
   source_alive = A.alive
 
-  pub paired : (r : Outcome) → r ≡ route_told p S D → r ≡ told (far_in p) S (pair large p S D)
-  paired r q = q ∙ chosen_pair p S D (sym ee ∙ zero)
+  pub paired : (r : Outcome) → r ≡ route_told p S D → record { value : r ≡ told (far_in p) S (pair large p S D); number : (n : ℕ) → pair large p S D ≡ Refused n → outcome_number r ≡ n }
+  paired r q =
+      let value : r ≡ told (far_in p) S (pair large p S D) = q ∙ ap (told (far_in p) S) (sym (chosen_pair p S D zero)) in
+      record {
+        value = value;
+        number = λ n e.
+            let en = none_chosen (route_in p S D) n (sym (chosen_pair p S D zero) ∙ e) in
+            ap outcome_number (value ∙ ap (told (far_in p) S) (e ∙ ap Refused en)) ∙ told_none (far_in p) S ∙ sym en;
+      }
 
 -- ---- the first steps of a pair
-module _ (p : List ℕ) (w : Weights) (ew : w ≡ weights_of p) (s : Shape) (words : List ℕ) (count : ℕ) (k : OfPlan p s words count) (S D : ℕ) (a t : Coords) (from : IsAt p S a) (to : IsAt p D t) where
+module _ {p : List ℕ} {w : Weights} (ew : w ≡ weights_of p) {s : Shape} {words : List ℕ} {count : ℕ} (k : OfPlan p s words count) {S D : ℕ} {a t : Coords} (from : IsAt p S a) (to : IsAt p D t) where
   -- The test of a single leg.
-  pub leg_is : (m : Mode) (b : Bool) → b ≡ not (on_leg rule m s words (min count 256) a t) → b ≡ is_clear p m S D
-  leg_is m b e =
-      let few : min count 256 ≡ count = omega (arith, k.losses.few) in
-      e ∙ rw (few, k.shape, from.at, to.at) (sym (clear_is p k.plan words count k.losses S D from.node to.node m))
+  pub leg_is : (m : Mode) (b : Bool) → b ≡ not (on_leg rule m s words count a t) → b ≡ is_clear p m S D
+  leg_is m b e = e ∙ rw (k.shape, from.at, to.at) (sym (clear_is p k.plan words count k.losses S D from.node to.node m))
 
-  pub direct_told : (b : Bool) → b ≡ not (on_leg rule Adaptive s words (min count 256) a t) → b ≡ true → (len : ℕ) → len ≡ distance_word w s a t → Outcome.Given (Route.Direct Adaptive) len ≡ route_told p S D
+  pub direct_told : (b : Bool) → b ≡ not (on_leg rule Adaptive s words count a t) → b ≡ true → (len : ℕ) → len ≡ distance_word w s a t → Outcome.Given (Route.Direct Adaptive) len ≡ route_told p S D
   unfolding told told_as sum_by
   direct_told b e y len q =
       let c = sym (leg_is Adaptive b e) ∙ y in
@@ -119,9 +152,38 @@ module _ (p : List ℕ) (w : Weights) (ew : w ≡ weights_of p) (s : Shape) (wor
       let d = length_is_law p w s S D a t len k.plan ew k.shape from to q in
       rw route (ap (Outcome.Given (Route.Direct Adaptive)) (omega arith))
 
+  -- ---- the lowest via between the ends
+  pub pair_between : (masks run : List ℕ) → Ended Adaptive false s t masks → 256 ≤ length run → Between p Adaptive s S D a t words count masks run 0
+  pair_between masks run ended room = record {
+    words = words;
+    count = count;
+    of_plan = k;
+    standing = all_near p s words count k S D;
+    source = from;
+    target = to;
+    ended = ended;
+    room = omega arith;
+  }
+
+  pub pair_via :
+      (fa run new : List ℕ) → FromSet p Adaptive S fa → 256 ≤ length run → BetweenMade p Adaptive S D 0 run new → (b : Places) → b ≡ box_of s a t →
+      (via : ℕ) → FirstOf (node_count s) (is_via s b.x b.y b.z fa new 0) via → via < 4096 → is_clear p Adaptive S D ≡ false →
+      (len : ℕ) → len ≡ distance_word w s a t → Outcome.Given (Route.Via via Adaptive Adaptive) len ≡ route_told p S D
+  pair_via fa run new out room made b eb via first low direct len el =
+      let note = here_near p s S D a t k.plan k.shape from to fa new 0 out made.set (omega (arith, made.rest.long)) b eb via first low in
+      let apart : Apart p s S D len = record {
+        plan = k.plan;
+        shape = k.shape;
+        source = from.node;
+        target = to.node;
+        distance = length_is_law p w s S D a t len k.plan ew k.shape from to el;
+        direct = direct;
+      } in
+      by_own p s S D len apart via note low
+
 -- ---- the nodes between the ends of a pair
 pub beside_is :
-    (p : List ℕ) (s : Shape) (S D : ℕ) (a t : Coords) → Ends p s S D a t → (b : Box) → b ≡ box_of s a t → (old new : List ℕ) → length old ≡ 256 → Less (product b.x b.y b.z) old new → Beside p S D new
+    (p : List ℕ) (s : Shape) (S D : ℕ) (a t : Coords) → Ends p s S D a t → (b : Places) → b ≡ box_of s a t → (old new : List ℕ) → length old ≡ 256 → Less (product b.x b.y b.z) old new → Beside p S D new
 unfolding in_set in_rows product
 beside_is p s S D a t g b eb old new long less w l way =
     let c = coords_of (shape_of p) w in
@@ -161,45 +223,10 @@ module _ (p : List ℕ) (S : ℕ) (notes : List ℕ) where
   all_noted fa out made w l = test (in_set (shape_of p) fa 0 w) (λ y. made.direct w l (sym (out w l) ∙ y)) (λ n. made.outside w l n)
 
 -- ---- what the steps of a pair rest on
-module _ (p : List ℕ) (s : Shape) (words : List ℕ) (count : ℕ) (dead ta td work : List ℕ) (S : ℕ) (a : Coords) (fa fd : List ℕ) (g : Ready p s words count dead ta td work S a fa fd) (D : ℕ) (t : Coords) (to : IsAt p D t)
-    (w : Weights) (ew : w ≡ weights_of p) (direct : is_clear p Adaptive S D ≡ false) where
+module _ (p : List ℕ) (S D : ℕ) (here : D < node_count (shape_of p)) (skip notes : List ℕ) (beside : Beside p S D skip) where
   -- Every node between the ends is noted, so D has its two vias.
-  pub pair_two : (skip notes twos : List ℕ) → TwosMade p S skip notes twos → Beside p S D skip → 4096 ≤ get_or notes D 0 → TwoTo p S D (get_or twos D 0)
-  pair_two skip notes twos made beside over = made.each D to.node (beside D to.node (omega (arith, hops_self (shape_of p) D))) (λ v l way. inl (beside v l way)) direct over
+  pub pair_two : (twos : List ℕ) → is_clear p Adaptive S D ≡ false → TwosMade p S skip notes twos → 4096 ≤ get_or notes D 0 → TwoTo p S D (get_or twos D 0)
+  pair_two twos direct made over = made.each D here (beside D here (omega (arith, hops_self (shape_of p) D))) (λ v l way. inl (beside v l way)) direct over
 
-  pub pair_far : (notes : List ℕ) → Noted p S notes → (note : ℕ) → note ≡ get_or notes D 0 → is_clear p Deterministic S D ≡ false → FarLost p w s words count ta td S D a t fa note notes
-  pair_far notes noted note own blocked = record {
-    of_plan = g.prepared.of_plan;
-    weights = ew;
-    masks = g.prepared.adaptive;
-    others = g.prepared.deterministic;
-    source = g.source;
-    target = to;
-    adaptive = g.adaptive;
-    direct = direct;
-    blocked = blocked;
-    own = own;
-    noted = noted;
-  }
-
--- ---- the lowest via between the ends
-module _ (p : List ℕ) (w : Weights) (ew : w ≡ weights_of p) (s : Shape) (words : List ℕ) (count : ℕ) (k : OfPlan p s words count) (S D : ℕ) (a t : Coords) (from : IsAt p S a) (to : IsAt p D t) where
-  pub pair_between : (masks run : List ℕ) → Ended Adaptive false s t masks → 256 ≤ length run → Between p Adaptive s S D a t words count masks run 0
-  pair_between masks run ended room = record { words = words; count = count; of_plan = k; standing = all_near p s words count k S D; source = from; target = to; ended = ended; room = omega arith }
-
-  pub pair_via :
-      (fa run new : List ℕ) → FromSet p Adaptive S fa → 256 ≤ length run → BetweenMade p Adaptive S D 0 run new → (b : Box) → b ≡ box_of s a t →
-      (via : ℕ) → FirstOf (node_count s) (is_via s b.x b.y b.z fa new 0) via → via < 4096 → is_clear p Adaptive S D ≡ false →
-      (len : ℕ) → len ≡ distance_word w s a t → (o : Outcome) → o ≡ via_route via len → o ≡ route_told p S D
-  unfolding via_route
-  pair_via fa run new out room made b eb via first low direct len el o eo =
-      let note = here_near p s S D a t k.plan k.shape from to fa new 0 out made.set (omega (arith, made.rest.long)) b eb via first low in
-      let apart : Apart p s S D len = record {
-        plan = k.plan;
-        shape = k.shape;
-        source = from.node;
-        target = to.node;
-        distance = length_is_law p w s S D a t len k.plan ew k.shape from to el;
-        direct = direct;
-      } in
-      eo ∙ rw (lt-ltb via 4096 low) (by_own p s S D len apart via note low)
+  pub pair_own : NotesMade p S skip notes → NoteTo p S D (get_or notes D 0)
+  pair_own made = own_noted p S notes D here (between_noted p S notes D skip made beside)

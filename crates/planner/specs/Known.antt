@@ -5,8 +5,7 @@ use Rattle.shape.specs.declared.shape.Coords.{Coords}
 use Rattle.machine.specs.declared.leg.Mode.TheVariants.{Adaptive, Deterministic}
 use Rattle.machine.specs.Number.{node_count, coords_of}
 use Rattle.machine.specs.Hop.{hops}
-use Rattle.weights.specs.declared.weights.Weights.{Weights}
-use Rattle.plan.specs.Layout.{shape_of, weights_of, faults_of}
+use Rattle.plan.specs.Layout.{shape_of, faults_of}
 use Rattle.plan.specs.Checks.{large, plan_error}
 use Rattle.dead.specs.Dead.{dead_node, bit_of, node_answer}
 use Rattle.rows.specs.Rows.{in_set}
@@ -14,7 +13,7 @@ use Rattle.masks.specs.Masks.{Masked}
 use Rattle.route_value.specs.Making.{Holds}
 use Rattle.planned_sheet.specs.Sheet.{entries_from}
 use Rattle.notes.specs.Known.{is_clear, OfPlan, IsAt, FromSet, BothTo, NearLosses, NoteTo}
-use Rattle.first_clear.specs.Known.{Noted, TwoTo}
+use Rattle.first_clear.specs.Known.{TwoTo}
 
 -- A run with both sets to each node, 512 rows a node.
 pub record Filled (p work : List ℕ) : Type 0 where
@@ -22,21 +21,14 @@ pub record Filled (p work : List ℕ) : Type 0 where
 
 -- An empty run, or one that has room for them; and where it has them.
 abbrev pub Roomy : List ℕ → List ℕ → Type 0
-Roomy p work = (length work ≡ 0) ⊎ (512 * node_count (shape_of p) ≤ length work)
+Roomy p work = (length work ≡ 0 → ⊥) → 512 * node_count (shape_of p) ≤ length work
 
 abbrev pub Work : List ℕ → List ℕ → Type 0
 Work p work = (length work ≡ 0) ⊎ Filled p work
 
--- What the losses for the row of D, at t, are sifted by: those of the plan, and the masks of all targets.
-pub record Sifting (p : List ℕ) (s : Shape) (words : List ℕ) (count : ℕ) (ta : List ℕ) (S D : ℕ) (a t : Coords) : Type 0 where
-  pub of_plan : OfPlan p s words count
-  pub masks : Masked Adaptive false s ta
-  pub source : IsAt p S a
-  pub target : IsAt p D t
-
 -- The first n of `near` stand for all losses, for every destination of a row, y + 16 × z, where the run `work` is empty.
 pub record NearRow (p work : List ℕ) (S : ℕ) (words : List ℕ) (count : ℕ) (near : List ℕ) (n row : ℕ) : Type 0 where
-  pub long : length near ≡ 256
+  pub few : n ≤ 256
   pub each : length work ≡ 0 → (D : ℕ) → D < node_count (shape_of p) → (coords_of (shape_of p) D).y + 16 * (coords_of (shape_of p) D).z ≡ row → NearLosses p S D words count near n
 
 -- What depends on the plan alone: its shape, losses and dead nodes, the masks of all targets, and a run for the sets to all nodes.
@@ -85,21 +77,6 @@ pub record Ends (p : List ℕ) (s : Shape) (S D : ℕ) (a t : Coords) : Type 0 w
 
 abbrev pub Beside : List ℕ → ℕ → ℕ → List ℕ → Type 0
 Beside p S D rows = (w : ℕ) → w < node_count (shape_of p) → hops (shape_of p) S w + hops (shape_of p) w D ≡ hops (shape_of p) S D → in_set (shape_of p) rows 0 w ≡ false
-
--- The last step to one destination.
-pub record Last (p : List ℕ) (w : Weights) (s : Shape) (words : List ℕ) (count : ℕ) (ta td work : List ℕ) (S D : ℕ) (a t : Coords) (fa notes : List ℕ) (note : ℕ) : Type 0 where
-  pub of_plan : OfPlan p s words count
-  pub weights : w ≡ weights_of p
-  pub masks : Masked Adaptive false s ta
-  pub others : Masked Deterministic false s td
-  pub sets : Work p work
-  pub source : IsAt p S a
-  pub target : IsAt p D t
-  pub adaptive : FromSet p Adaptive S fa
-  pub direct : is_clear p Adaptive S D ≡ false
-  pub blocked : is_clear p Deterministic S D ≡ false
-  pub own : note ≡ get_or notes D 0
-  pub noted : Noted p S notes
 
 -- The entries of the sheet from S are so many; and the bytes hold them, if the run `work` is empty or has the sets to all nodes.
 pub record Listed (p work : List ℕ) (S : ℕ) (bytes : List ℕ) (count : ℕ) : Type 0 where

@@ -1,6 +1,8 @@
 -- Writing the sheets by runs: as many whole ones a call as the lent bytes take.
-use Rattle.std.specs.Prelude.{ℕ, zero, suc, ◌*◌, ◌-◌, ◌≡◌, Bool, true, false, not, cond, ◌&&◌, List, [], ◌∷◌, ◌++◌, length, drop, ltb, eqb}
+use Rattle.std.specs.Prelude.{ℕ, zero, suc, ◌*◌, ◌-◌, ◌≡◌, Bool, true, false, not, cond, ◌&&◌, List, [], ◌∷◌, ◌++◌, length, drop, ltb, eqb, Result, Ok, Err}
 use Rattle.numbers.specs.Numbers.{node_outside, output_short}
+use Rattle.numbers.specs.declared.Refusal.TheVariants.{OutputShort}
+use Rattle.numbers.specs.Refusals.{number, refusal}
 use Rattle.theory.specs.Checks.{declined, ◌then◌}
 use Rattle.machine.specs.Number.{node_count}
 use Rattle.machine.specs.Node.{is_node}
@@ -10,8 +12,8 @@ use Rattle.plan.specs.Reading.{is_plan}
 use Rattle.planned_sheet.specs.Sheet.{source_error, planned_sheet}
 use Rattle.planner.specs.Known.{Filled}
 use Rattle.planner.specs.declared.run.Run.{Run}
-use Rattle.planner.specs.declared.run.Answer.{Answer}
-use Rattle.planner.specs.declared.run.Answer.TheVariants.{Written, Refused, FewWords}
+use Rattle.planner.specs.declared.run.RunRefusal.{RunRefusal}
+use Rattle.planner.specs.declared.run.RunRefusal.TheVariants.{Refused, FewWords}
 
 -- Of the n boards from S on, the sheets of the sound ones, in rising order, that `room` bytes take: up to the first that does not fit.
 unfoldable pub run_sheets : List ℕ → ℕ → ℕ → ℕ → List (List ℕ)
@@ -72,11 +74,24 @@ abbrev pub none_fits : List ℕ → Run → Bool
 none_fits p run = eqb run.size 0 && ltb run.next (boards p)
 
 -- The answer of a run with a workspace of so many words, into so many bytes.
-unfoldable pub run_answer : List ℕ → ℕ → ℕ → ℕ → Answer
+unfoldable pub run_answer : List ℕ → ℕ → ℕ → ℕ → Result Run RunRefusal
 run_answer p from words room =
     cond (eqb (run_error p from) 0)
-    (cond (few_words p words) FewWords (cond (none_fits p (run_of p from room)) (Refused output_short) (Written (run_of p from room))))
-    (Refused (run_error p from))
+    (cond (few_words p words) (Err FewWords) (cond (none_fits p (run_of p from room)) (Err (Refused OutputShort)) (Ok (run_of p from room))))
+    (Err (Refused (refusal (run_error p from))))
+
+-- The number of the refusal; 0 where there is none, or the workspace is too small.
+abbrev pub run_number : {A : Type 0} → Result A RunRefusal → ℕ
+run_number (Ok run) = 0
+run_number (Err (Refused e)) = number e
+run_number (Err FewWords) = 0
+
+-- The number of that answer.
+unfoldable pub answer_of : List ℕ → ℕ → ℕ → ℕ → ℕ
+answer_of p from words room =
+    cond (eqb (run_error p from) 0)
+    (cond (few_words p words) 0 (cond (none_fits p (run_of p from room)) output_short 0))
+    (run_error p from)
 
 -- Whether all these checks pass: only then may the workspace and the lent bytes change.
 unfoldable pub passes : List ℕ → ℕ → ℕ → Bool
@@ -86,8 +101,9 @@ unfoldable pub run_output : List ℕ → ℕ → ℕ → List ℕ → List ℕ
 run_output p from words o = cond (passes p from words) (run_after p from o) o
 
 -- A run from the board `from` on, with the workspace w and the lent bytes o, which answers r and leaves them as v and t.
-pub record RunWritten (p : List ℕ) (from : ℕ) (w o : List ℕ) (r : Answer) (v t : List ℕ) : Type 0 where
+pub record RunWritten (p : List ℕ) (from : ℕ) (w o : List ℕ) (r : Result Run RunRefusal) (v t : List ℕ) : Type 0 where
   pub answer : r ≡ run_answer p from (length w) (length o)
+  pub number : run_number r ≡ answer_of p from (length w) (length o)
   pub output : t ≡ run_output p from (length w) o
   -- What the workspace holds after a run that passes is left open.
   pub kept : passes p from (length w) ≡ false → v ≡ w

@@ -1,92 +1,76 @@
 // What planning answers for one destination.
-ghost use Rattle.std.specs.Prelude.{◌≡◌, List, ℕ, length};
-ghost use Rattle.plan.specs.Layout.{weights_of};
+ghost use Rattle.std.specs.Prelude.{◌≡◌, false, ◌≤◌, get_or};
+ghost use Rattle.machine.specs.declared.leg.Mode.TheVariants.{Adaptive, Deterministic};
 ghost use Rattle.plan.specs.Checks.{large};
 ghost use Rattle.choice.specs.Outcome.{told};
 ghost use Rattle.choice.specs.Pair.{far_in, pair};
-ghost use Rattle.notes.specs.Known.{IsAt};
-ghost use Rattle.first_clear.specs.Known.{route_told, Noted};
-ghost use Rattle.planner.specs.Known.{Work, Ready, Last, Twos};
+ghost use Rattle.notes.specs.Known.{is_clear, NoteTo};
+ghost use Rattle.first_clear.specs.Known.{route_told, Noted, Near, TwoTo};
+ghost use Rattle.planner.specs.Known.{Work, Twos};
 
+use crate::target::Target;
 use choice::Outcome;
 use first_clear::dest::{far_by_losses, far_by_sets};
-use first_clear::near::{is_given, near_outcome, via_outcome};
-use machine::leg::Mode;
-use numbers::DEAD_END;
+use first_clear::near::{near_outcome, via_outcome};
+use machine::leg::{ByMode, Mode};
+use numbers::Refusal;
 use packet::Route;
 use rows::member::has;
-use shape::{Coords, Shape};
-use weights::Weights;
 use weights::distance::distance_at;
 
-// The last step, by the sets to all nodes where the run has them, else by the losses.
-fn far_to(
-    weights: Weights,
-    shape: Shape,
-    words: &[u16; 256],
-    count: usize,
-    ta: &[u16; 4608],
-    td: &[u16; 4608],
-    work: &[u16],
-    a: Coords,
-    fa: &[u16; 256],
-    notes: &[u32; 4096],
-    note: u32,
-    dest: u16,
-    t: Coords,
-) -> Outcome
-    ensures { (p : List ℕ) (S : ℕ) → Last p weights shape words.now count ta.now td.now work.now S dest a t fa.now notes.now note → result ≡ route_told p S dest }
+// The steps on the shortest ways, by the note and the two vias of the destination. The direct adaptive leg is not clear.
+pub fn near_to(target: &Target, note: u32, two: u32) -> Option<Outcome>
+    requires { is_clear target.now.source.now.known.plan.now Adaptive target.now.source.now.node target.now.node ≡ false }
+    ensures { let s = target.now.source.now in let p = s.known.plan.now in NoteTo p s.node target.now.node note → (4096 ≤ note → TwoTo p s.node target.now.node two) → Near p s.node target.now.node result }
 {
-    if work.len() == 0 {
-        return far_by_losses(weights, shape, words, count, ta, td, a, t, fa, note, notes);
+    let source = target.source;
+    let shape = source.known.shape;
+    let length = distance_at(source.known.weights, shape, source.at, target.at);
+    if let Some(outcome) = via_outcome(note, length) {
+        return Some(outcome);
     }
-    far_by_sets(weights, shape, work, dest, a, t, fa, note, notes)
+    let ByMode {
+        adaptive,
+        deterministic,
+    } = source.clear;
+    let straight = has(deterministic, 0, target.at);
+    near_outcome(shape, length, adaptive, straight, note, two)
+}
+
+// The last step, by the sets to all nodes where the run has them, else by the losses. `note`: the destination's. The direct adaptive leg is not clear.
+pub fn far_to(target: &Target, note: u32, notes: &[u32; 4096]) -> Outcome
+    requires direct { is_clear target.now.source.now.known.plan.now Adaptive target.now.source.now.node target.now.node ≡ false }
+    requires own { note ≡ get_or notes.now target.now.node 0 }
+    ensures { let s = target.now.source.now in let p = s.known.plan.now in Work p s.known.work.now → Noted p s.node notes.now → is_clear p Deterministic s.node target.now.node ≡ false → result ≡ route_told p s.node target.now.node }
+{
+    let ends = target.ends();
+    let source = target.source;
+    let known = source.known;
+    let from = source.clear.adaptive;
+    if known.work.is_empty() {
+        return far_by_losses(ends, known.losses, known.targets, from, note, notes);
+    }
+    far_by_sets(ends, known.work, target.node, from, note, notes)
 }
 
 // Directly, dead, by its note, by its two vias, or by the last step.
-pub fn outcome_to(
-    plan: &[u8],
-    weights: Weights,
-    shape: Shape,
-    words: &[u16; 256],
-    count: usize,
-    dead: &[u8; 4096],
-    ta: &[u16; 4608],
-    td: &[u16; 4608],
-    work: &[u16],
-    source: u16,
-    a: Coords,
-    fa: &[u16; 256],
-    fd: &[u16; 256],
-    notes: &[u32; 4096],
-    twos: &[u32; 4096],
-    dest: u16,
-    t: Coords,
-) -> Outcome
-    requires ready { Ready plan.now shape words.now count dead.now ta.now td.now work.now source a fa.now fd.now }
-    requires at { IsAt plan.now dest t }
-    requires weights_value { weights ≡ weights_of plan.now }
-    ensures { Work plan.now work.now → Noted plan.now source notes.now → Twos plan.now source notes.now twos.now → result ≡ told (far_in plan.now) source (pair large plan.now source dest) }
+pub fn outcome_to(target: &Target, notes: &[u32; 4096], twos: &[u32; 4096]) -> Outcome
+    ensures { let s = target.now.source.now in let p = s.known.plan.now in Work p s.known.work.now → Noted p s.node notes.now → Twos p s.node notes.now twos.now → result ≡ told (far_in p) s.node (pair large p s.node target.now.node) }
 {
-    let length = distance_at(weights, shape, a, t);
-    if has(fa, 0, t) {
+    let source = target.source;
+    let known = source.known;
+    let direct = source.clear.adaptive;
+    if has(direct, 0, target.at) {
+        let length = distance_at(known.weights, known.shape, source.at, target.at);
         return Outcome::Given(Route::Direct(Mode::Adaptive), length);
     }
-    let at = dest as usize;
-    if dead[at] != 0 {
-        return Outcome::Refused(DEAD_END);
+    let i = target.node as usize;
+    if known.dead[i] != 0 {
+        return Outcome::Refused(Refusal::DeadEnd);
     }
-    let note = notes[at];
-    let first = via_outcome(note, length);
-    if is_given(first) {
-        return first;
+    let note = notes[i];
+    if let Some(outcome) = near_to(target, note, twos[i]) {
+        return outcome;
     }
-    let straight = has(fd, 0, t);
-    let second = near_outcome(shape, length, fa, straight, note, twos[at]);
-    if is_given(second) {
-        return second;
-    }
-    far_to(
-        weights, shape, words, count, ta, td, work, a, fa, notes, note, dest, t,
-    )
+    far_to(target, note, notes)
 }

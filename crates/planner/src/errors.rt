@@ -1,17 +1,19 @@
-// The first check that declines.
+// The checks of the ends, behind those of the plan.
 ghost use Rattle.std.specs.Prelude.{◌≡◌};
+ghost use Rattle.numbers.specs.Refusals.{answer_number};
 ghost use Rattle.planner.specs.Steps.{first_error};
 
-use logic::pick;
-use numbers::{DEAD_END, NODE_OUTSIDE};
+use numbers::Refusal;
 
-// The number of a plan's checks, then 9 where a node is not known, then 10 where one is dead; 0 where none declines.
-pub fn first_error(error: u8, known: bool, dead: bool) -> u8
-    ensures { result ≡ first_error error known dead }
+// 9 where a node is not known, then 10 where one is dead.
+pub fn check_ends(known: bool, dead: bool) -> Result<(), Refusal>
+    ensures { answer_number result ≡ first_error 0 known dead }
 {
-    pick(
-        error != 0,
-        error,
-        pick(known, pick(dead, DEAD_END, 0), NODE_OUTSIDE),
-    )
+    if !known {
+        return Err(Refusal::NodeOutside);
+    }
+    if dead {
+        return Err(Refusal::DeadEnd);
+    }
+    Ok(())
 }

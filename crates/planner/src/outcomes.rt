@@ -1,53 +1,45 @@
 // What planning answers for every destination of a source.
-ghost use Rattle.std.specs.Prelude.{◌≡◌, false, ℕ, get_or};
-ghost use Rattle.plan.specs.Layout.{faults_of};
+ghost use Rattle.std.specs.Prelude.{◌≡◌, false, ℕ, ◌<◌, get_or};
+ghost use Rattle.machine.specs.Number.{node_count};
+ghost use Rattle.plan.specs.Layout.{shape_of, faults_of};
 ghost use Rattle.plan.specs.Checks.{large};
 ghost use Rattle.dead.specs.Dead.{dead_node};
+ghost use Rattle.choice.specs.Answer.{Refused};
+ghost use Rattle.choice.specs.Outcome.{outcome_number};
+ghost use Rattle.choice.specs.Pair.{pair};
 ghost use Rattle.planned_sheet.specs.Sheet.{source_error};
 ghost use Rattle.notes.specs.Known.{IsAt};
 ghost use Rattle.first_clear.specs.Known.{Noted};
-ghost use Rattle.planner.specs.Known.{Work, Prepared, Ready, Twos};
+ghost use Rattle.planner.specs.Known.{Work, Twos};
 ghost use Rattle.planner.specs.Outcomes.{no_outcome, outcome_at};
 
 use crate::dest::outcome_to;
+use crate::known::Known;
 use crate::noting::notes_from;
 use crate::outside::{At, following};
-use crate::sheets::source_error;
+use crate::sheets::check_source;
+use crate::source::Source;
+use crate::tables::{put_dead, put_table};
+use crate::target::Target;
 use choice::Outcome;
-use dead::dead_nodes;
 use losses::losses;
-use machine::leg::Mode;
+use machine::leg::{ByMode, Mode};
 use machine::node::coords;
-use masks::table::table;
+use masks::end::End;
 use notes::sets_of::from_set;
 use packet::Route;
 use plan::layout::{shape_in, weights_in};
 use search::best::UNCLEAR;
-use shape::{Coords, Shape};
+use shape::Coords;
 
-// Each destination is planned once.
-fn all_outcomes(
-    plan: &[u8],
-    shape: Shape,
-    words: &[u16; 256],
-    count: usize,
-    dead: &[u8; 4096],
-    ta: &[u16; 4608],
-    td: &[u16; 4608],
-    work: &[u16],
-    source: u16,
-    a: Coords,
-    fa: &[u16; 256],
-    fd: &[u16; 256],
-    notes: &[u32; 4096],
-    twos: &[u32; 4096],
-) -> [Outcome; 4096]
-    requires ready { Ready plan.now shape words.now count dead.now ta.now td.now work.now source a fa.now fd.now }
-    requires work { Work plan.now work.now }
-    requires noted { Noted plan.now source notes.now × Twos plan.now source notes.now twos.now }
-    ensures { (d : ℕ) → get_or result d no_outcome ≡ outcome_at large plan.now source d }
+// Each destination is planned once. Not inlined, so that the outcomes are not laid out on the stack once more.
+#[inline(never)]
+fn all_outcomes(source: &Source, notes: &[u32; 4096], twos: &[u32; 4096]) -> [Outcome; 4096]
+    requires work { Work source.now.known.plan.now source.now.known.work.now }
+    requires noted { Noted source.now.known.plan.now source.now.node notes.now × Twos source.now.known.plan.now source.now.node notes.now twos.now }
+    ensures { (d : ℕ) → get_or result d no_outcome ≡ outcome_at large source.now.known.plan.now source.now.node d }
 {
-    let weights = weights_in(plan);
+    let shape = source.known.shape;
     let mut outcomes = [Outcome::Given(Route::Direct(Mode::Adaptive), 0); 4096];
     let mut at = At {
         node: 0,
@@ -55,65 +47,47 @@ fn all_outcomes(
         y: 0,
         z: 0,
     };
+    // By places, and no `for` over numbers: the coordinates of a node are not divided out.
     while at.z < shape.z {
-        let dest = at.node;
-        let t = Coords {
-            x: at.x,
-            y: at.y,
-            z: at.z,
+        let target = Target {
+            source: &*source,
+            node: at.node,
+            at: Coords {
+                x: at.x,
+                y: at.y,
+                z: at.z,
+            },
         };
-        let i = dest as usize;
-        outcomes[i] = outcome_to(
-            plan, weights, shape, words, count, dead, ta, td, work, source, a, fa, fd, notes, twos,
-            dest, t,
-        );
+        let i = at.node as usize;
+        outcomes[i] = outcome_to(&target, notes, twos);
         at = following(shape, at);
     }
     outcomes
 }
 
 // By what is known of the plan: the sets from the source.
-fn outcomes_by(
-    plan: &[u8],
-    shape: Shape,
-    words: &[u16; 256],
-    count: usize,
-    dead: &[u8; 4096],
-    ta: &[u16; 4608],
-    td: &[u16; 4608],
-    work: &[u16],
-    source: u16,
-    a: Coords,
-) -> [Outcome; 4096]
-    requires prepared { Prepared plan.now shape words.now count dead.now ta.now td.now work.now }
-    requires at { IsAt plan.now source a }
-    requires source_value { dead_node (faults_of plan.now) source ≡ false }
-    requires work { Work plan.now work.now }
-    ensures { (d : ℕ) → get_or result d no_outcome ≡ outcome_at large plan.now source d }
+fn outcomes_by(known: &Known, source: u16, a: Coords) -> [Outcome; 4096]
+    requires at { IsAt known.now.plan.now source a }
+    requires source_value { dead_node (faults_of known.now.plan.now) source ≡ false }
+    requires work { Work known.now.plan.now known.now.work.now }
+    ensures { (d : ℕ) → get_or result d no_outcome ≡ outcome_at large known.now.plan.now source d }
 {
-    let fa = from_set(Mode::Adaptive, shape, words, count, a);
-    let fd = from_set(Mode::Deterministic, shape, words, count, a);
+    let adaptive = from_set(Mode::Adaptive, known.shape, known.losses, a);
+    let deterministic = from_set(Mode::Deterministic, known.shape, known.losses, a);
+    let clear = ByMode {
+        adaptive: &adaptive,
+        deterministic: &deterministic,
+    };
+    let source = Source {
+        known: *known,
+        node: source,
+        at: a,
+        clear,
+    };
+    let mut notes = [UNCLEAR; 4096];
     let mut twos = [UNCLEAR; 4096];
-    let notes = notes_from(
-        plan,
-        weights_in(plan),
-        shape,
-        words,
-        count,
-        dead,
-        ta,
-        td,
-        work,
-        source,
-        a,
-        &fa,
-        &fd,
-        &fa,
-        &mut twos,
-    );
-    all_outcomes(
-        plan, shape, words, count, dead, ta, td, work, source, a, &fa, &fd, &notes, &twos,
-    )
+    notes_from(&source, &adaptive, &mut notes, &mut twos);
+    all_outcomes(&source, &notes, &twos)
 }
 
 // From a sound source, by the losses.
@@ -123,31 +97,34 @@ fn outcomes_from(plan: &[u8], source: u16) -> [Outcome; 4096]
 {
     let shape = shape_in(plan);
     let lost = losses(plan);
-    let words = lost.words;
-    let count = lost.count as usize;
-    let dead = dead_nodes(plan);
-    let ta = table(Mode::Adaptive, false, shape);
-    let td = table(Mode::Deterministic, false, shape);
-    let none = [0u16; 0];
-    outcomes_by(
+    let mut dead = [0u8; 4096];
+    put_dead(plan, &mut dead);
+    let mut adaptive = [0u16; 4608];
+    put_table(Mode::Adaptive, End::Target, shape, &mut adaptive);
+    let mut deterministic = [0u16; 4608];
+    put_table(Mode::Deterministic, End::Target, shape, &mut deterministic);
+    let targets = ByMode {
+        adaptive: &adaptive,
+        deterministic: &deterministic,
+    };
+    let known = Known {
         plan,
+        weights: weights_in(plan),
         shape,
-        &words,
-        count,
-        &dead,
-        &ta,
-        &td,
-        &none,
-        source,
-        coords(shape, source),
-    )
+        losses: lost.as_slice(),
+        dead: &dead,
+        targets,
+        work: &[],
+    };
+    outcomes_by(&known, source, coords(shape, source))
 }
 
 // By the destination's number; nothing where a check declines the source, or past the nodes.
 pub fn outcomes(plan: &[u8], source: u16) -> [Outcome; 4096]
-    ensures { (d : ℕ) → get_or result d no_outcome ≡ outcome_at large plan.now source d }
+    ensures value { (d : ℕ) → get_or result d no_outcome ≡ outcome_at large plan.now source d }
+    ensures number { (d n : ℕ) → source_error large plan.now source ≡ 0 → d < node_count (shape_of plan.now) → pair large plan.now source d ≡ Refused n → outcome_number (get_or result d no_outcome) ≡ n }
 {
-    if source_error(plan, source) != 0 {
+    if check_source(plan, source).is_err() {
         return [Outcome::Given(Route::Direct(Mode::Adaptive), 0); 4096];
     }
     outcomes_from(plan, source)

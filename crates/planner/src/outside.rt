@@ -16,7 +16,7 @@ pub struct At {
 }
 
 // The bits that a row does not have.
-fn others(row: u16) -> u16
+pub fn others(row: u16) -> u16
     ensures { (result ≡ 65535 - row) × (row < 65536) }
 {
     65535 - row
@@ -60,7 +60,7 @@ pub fn following(shape: Shape, at: At) -> At
     }
 }
 
-// The first node from `at` on that is not in the set; behind the last one where there is none.
+// The first node from `at` on that is not in the set; behind the last one where there is none: a place and no `None`, since a search goes on from any place.
 pub fn next_outside(shape: Shape, rows: &[u16; 256], at: At) -> At
     requires shape_value { shape_error shape ≡ 0 }
     requires stands { Stands shape at }
@@ -71,6 +71,7 @@ pub fn next_outside(shape: Shape, rows: &[u16; 256], at: At) -> At
     let mut y = at.y;
     let mut z = at.z;
     let mut first = node - x as u16;
+    // By rows and no `for`: y and z go on together, and x begins anew.
     while z < shape.z {
         let r = 16 * z as usize + y as usize;
         let found = next_set(others(rows[r]), x);

@@ -1,29 +1,24 @@
 // The losses that can lie on the shortest ways to the destinations of a row.
-ghost use Rattle.std.specs.Prelude.{◌≡◌, List, ℕ, ◌+◌, ◌*◌, length};
-ghost use Rattle.planner.specs.Known.{Sifting, NearRow};
+ghost use Rattle.std.specs.Prelude.{◌≡◌, ℕ, ◌+◌, ◌*◌, length};
+ghost use Rattle.notes.specs.Known.{IsAt};
+ghost use Rattle.planner.specs.Known.{NearRow};
 
+use crate::source::Source;
 use masks::span::box_of;
 use masks::table::gather;
 use sets::sift::sift;
-use shape::{Coords, Shape};
+use shape::Coords;
 
 // Those of the row of t, at the front of `near`; their number. With sets to all nodes none are needed.
-pub fn sift_row(
-    shape: Shape,
-    words: &[u16; 256],
-    count: usize,
-    ta: &[u16; 4608],
-    work: &[u16],
-    a: Coords,
-    t: Coords,
-    near: &mut [u16; 256],
-) -> usize
-    ensures { (p : List ℕ) (S D : ℕ) → Sifting p shape words.now count ta.now S D a t → length near.old ≡ 256 → NearRow p work.now S words.now count near.new result (t.y + 16 * t.z) }
+pub fn sift_row(source: &Source, t: Coords, near: &mut [u16; 256]) -> usize
+    ensures near_row { let k = source.now.known in (D : ℕ) → IsAt k.plan.now D t → length near.old ≡ 256 → NearRow k.plan.now k.work.now source.now.node k.losses.now (length k.losses.now) near.new result (t.y + 16 * t.z) }
+    ensures near_len { length near.new ≡ length near.old }
 {
-    if work.len() != 0 {
+    let known = source.known;
+    if !known.work.is_empty() {
         return 0;
     }
-    let masks = gather(ta, t);
-    let b = box_of(shape, a, t);
-    sift(b.y, b.z, &masks, words, count, near)
+    let masks = gather(known.targets.adaptive, t);
+    let between = box_of(known.shape, source.at, t);
+    sift(between.y, between.z, &masks, known.losses, near)
 }

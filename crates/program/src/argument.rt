@@ -1,5 +1,5 @@
-// What a program is called with, as the bytes that the system has.
-ghost use Rattle.std.specs.Prelude.{◌≤◌, length};
+// What a program is called with, as the bytes that the system has: `env::args` refuses all where one is not UTF-8.
+ghost use Rattle.std.specs.Prelude.{◌≤◌, length, IfSome};
 
 use std::env::FillError;
 use std::rt::Env;
@@ -7,11 +7,13 @@ use std::rt::Env;
 // The bytes of the longest path, and more.
 pub const PATH_BYTES: usize = 4096;
 
-// Puts the argument at a place, counted from 1, at the start of `bytes`, and answers its length; 0 where there is none, or where it does not fit.
-pub fn read(rt: &impl Env, place: usize, bytes: &mut [u8]) -> usize
-    ensures { result ≤ length bytes.new }
+// Puts the argument at a place, counted from 1, at the start of `bytes`, and answers it; `None` where there is none, where it is empty or does not fit.
+pub fn read<'a>(rt: &impl Env, place: usize, bytes: &'a mut [u8]) -> Option<&'a [u8]>
+    ensures { IfSome result (λ r. length r.now ≤ length bytes.old) }
 {
-    rt.arg(place, bytes).unwrap_or(0)
+    let size = rt.arg(place, bytes).unwrap_or(0);
+    let argument = &bytes[..size];
+    (size != 0).then_some(argument)
 }
 
 // Whether there is an argument at a place.

@@ -6,9 +6,5 @@ ghost use Rattle.program.specs.Count.{plus};
 pub fn sum(a: u32, b: u32) -> u32
     ensures { result ≡ plus a b }
 {
-    if a <= 4294967295 - b {
-        a + b
-    } else {
-        4294967295
-    }
+    a.saturating_add(b)
 }

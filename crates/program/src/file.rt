@@ -1,31 +1,28 @@
 // Files by their names, which are bytes. The library opens a name of UTF-8 alone, so another one is a name that cannot be opened.
+ghost use Rattle.std.specs.Prelude.{◌≤◌, length, IfOk};
+
+use crate::failure::Failure;
+use crate::input::read_full;
 use std::fs::File;
 use std::rt::Files;
-use std::{fs, str};
+use std::str;
 
 // The file to be read.
-pub fn open<R: Files>(rt: &R, name: &[u8]) -> Option<R::File> {
-    let name = str::from_utf8(name).ok()?;
-    File::open(rt, name).ok()
+pub fn open<'a, R: Files>(rt: &R, name: &'a [u8]) -> Result<R::File, Failure<'a>> {
+    str::from_utf8(name)
+        .ok()
+        .and_then(|name| File::open(rt, name).ok())
+        .ok_or(Failure::CannotRead(name))
 }
 
-// The file to be written, without what was in it.
-pub fn create<R: Files>(rt: &R, name: &[u8]) -> Option<R::File> {
-    let name = str::from_utf8(name).ok()?;
-    File::create(rt, name).ok()
-}
-
-// Answers whether it has the other name now.
-pub fn rename(rt: &impl Files, from: &[u8], to: &[u8]) -> bool {
-    match (str::from_utf8(from), str::from_utf8(to)) {
-        (Ok(from), Ok(to)) => fs::rename(rt, from, to).is_ok(),
-        _ => false,
-    }
-}
-
-// Removes it, where that can be done.
-pub fn remove(rt: &impl Files, name: &[u8]) {
-    if let Ok(name) = str::from_utf8(name) {
-        let _ = fs::remove_file(rt, name);
-    }
+// Reads the front of a file into the bytes, and answers how many there are.
+pub fn read_front<'a>(
+    rt: &impl Files,
+    name: &'a [u8],
+    bytes: &mut [u8],
+) -> Result<usize, Failure<'a>>
+    ensures { IfOk result (λ n. n ≤ length bytes.new) }
+{
+    let mut file = open(rt, name)?;
+    Ok(read_full(&mut file, bytes))
 }

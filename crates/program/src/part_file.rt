@@ -1,29 +1,46 @@
 // A job writes to the file OUT.part, which takes the name OUT when all is written and on disk. So OUT is never part of a job, and what an interrupted job
 // left is taken over by the next one for the same OUT.
-use crate::file::{remove, rename};
-use std::fs::OpenFile;
+use crate::failure::Failure;
+use std::fs::{File, OpenFile};
 use std::rt::Files;
-use text::put;
+use std::{fs, str};
 
-// The name of OUT.part, and its length.
-pub fn put_name(out: &[u8], name: &mut [u8]) -> usize {
-    let end = put::bytes(name, 0, out);
-    put::bytes(name, end, b".part")
+// The file, its name and the name that it will have.
+pub struct PartFile<'a, R: Files + AllocGlobal> {
+    pub file: R::File,
+    name: String,
+    out: &'a str,
 }
 
-// Closes the file and gives it the name OUT, where all could be written; else removes it. Answers whether OUT is there.
-pub fn finish<R: Files>(rt: &R, written: bool, file: R::File, name: &[u8], out: &[u8]) -> bool {
-    let on_disk = file.sync_all().is_ok();
-    drop(file);
-    if written && on_disk && rename(rt, name, out) {
-        return true;
+impl<'a, R: Files + AllocGlobal> PartFile<'a, R> {
+    // The file OUT.part to be written, without what was in it.
+    fn create_for(rt: &R, out: &'a [u8]) -> Option<Self> {
+        let out = str::from_utf8(out).ok()?;
+        let name = format!(in rt.alloc(); "{out}.part").ok()?;
+        let file = File::create(rt, name.as_str()).ok()?;
+        Some(PartFile { file, name, out })
     }
-    remove(rt, name);
-    false
-}
 
-// Closes the file and removes it.
-pub fn give_up<R: Files>(rt: &R, file: R::File, name: &[u8]) {
-    drop(file);
-    remove(rt, name);
+    pub fn create(rt: &R, out: &'a [u8]) -> Result<Self, Failure<'a>> {
+        PartFile::create_for(rt, out).ok_or(Failure::CannotWrite(out))
+    }
+
+    // Closes the file and gives it the name OUT; removes it where that cannot be done.
+    pub fn finish(self, rt: &R) -> Result<(), Failure<'a>> {
+        let PartFile { file, name, out } = self;
+        let on_disk = file.sync_all().is_ok();
+        drop(file);
+        if on_disk && fs::rename(rt, name.as_str(), out).is_ok() {
+            return Ok(());
+        }
+        let _ = fs::remove_file(rt, name.as_str());
+        Err(Failure::CannotWrite(out.as_bytes()))
+    }
+
+    // Closes the file and removes it.
+    pub fn give_up(self, rt: &R) {
+        let PartFile { file, name, out: _ } = self;
+        drop(file);
+        let _ = fs::remove_file(rt, name.as_str());
+    }
 }

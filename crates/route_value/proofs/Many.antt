@@ -1,18 +1,17 @@
 -- Routes of over 4,095 entries are declined with 13: past the array's end there is no entry.
-use Prim.Native.Nat.{ℕ, zero, suc, ◌≤◌, ◌<◌}
+use Prim.Native.Nat.{ℕ, ◌≤◌, ◌<◌}
 use native.Mathlib.Omega.{arith}
 use mathlib.Core.Path.{◌≡◌, refl, sym, ap, ◌∙◌}
-use mathlib.Core.Bool.{true, false, cond, not, ◌&&◌, false≢true}
+use mathlib.Core.Bool.{true, false, not, ◌&&◌, false≢true}
 use mathlib.Core.List.{List}
 use lib.ListN.{length, get_or, get_or-eq_default}
 use lib.Dec.{eqb}
-use borrow.Author.Tests.{ne_eqb}
 use Rattle.numbers.specs.Numbers.{wrong_route_sheet}
+use Rattle.theory.specs.Checks.{◌then◌}
 use Rattle.theory.proofs.Bools.{and_true}
 use Rattle.theory.proofs.Cases.{test}
 use Rattle.sheet.specs.Bytes.{list_from}
 use Rattle.sheet.proofs.Records.{from_at}
-use Rattle.sheet.proofs.Outputs.{unread}
 use Rattle.shape.specs.declared.shape.Shape.{Shape}
 use Rattle.machine.specs.Node.{is_node}
 use Rattle.plan.specs.Layout.{shape_of}
@@ -20,10 +19,9 @@ use Rattle.plan.specs.Checks.{Limits, plan_error}
 use Rattle.routes.specs.Layout.{format_of, entries_in, source, entry_count, entry_at, no_entry, most_entries}
 use Rattle.routes.specs.Kinds.{via_kind, vias_kind, plain_kind}
 use Rattle.routes.specs.Checks.{head_good, via_good, entry_good, entries_good, routes_good, good_in, sheet_good, error_in, sheet_error}
-use Rattle.routes.proofs.Sheets.{checked}
 use Rattle.routes.proofs.Rising.{each_good}
 use Rattle.route_value.specs.declared.reading.Routes.{Routes}
-use Rattle.route_value.specs.Writing.{route_entries, sheet_of, write_error}
+use Rattle.route_value.specs.Writing.{route_entries, sheet_of}
 use Rattle.route_value.proofs.Writings.{count_read, entry_read_law, entries_count}
 
 no_entry_bad : (m : Shape) (S : ℕ) → via_good m S no_entry ≡ false
@@ -62,15 +60,9 @@ module _ (r : Routes) (long : length r.entries ≡ most_entries) (many : most_en
       let v = (and_true (is_node m x.dest && not (eqb x.dest S)) (via_good m S x) e).1 in
       false≢true (sym (ap (via_good m S) no_entry_law ∙ no_entry_bad m S) ∙ v)
 
-  pub too_many : (L : Limits) (p o : List ℕ) (e k : ℕ) → e ≡ plan_error L p → k ≡ cond (eqb e 0) wrong_route_sheet e → (write_error L p (sheet_of r) o ≡ k) × (k ≡ 0 → ⊥)
+  pub too_many : (L : Limits) (p : List ℕ) → sheet_error L p (sheet_of r) ≡ (plan_error L p then wrong_route_sheet)
   unfolding sheet_error error_in
-  too_many L p o e k q c =
+  too_many L p =
       let s = sheet_of r in
       let no : sheet_good (shape_of p) s ≡ false = test (sheet_good (shape_of p) s) (λ t. absurd (bad (shape_of p) t)) (λ t. t) in
-      let is : sheet_error L p s ≡ k = checked (plan_error L p) (sheet_good (shape_of p) s) wrong_route_sheet ∙ rw (no, ← q) (sym c) in
-      let some : k ≡ 0 → ⊥ = λ z. never e (sym c ∙ z) in
-      (unread (sheet_error L p s) s o (λ z. some (sym is ∙ z)) ∙ is, some)
-    where
-      never : (e : ℕ) → cond (eqb e 0) wrong_route_sheet e ≡ 0 → ⊥
-      never zero h = omega arith
-      never (suc e) h = let z : suc e ≡ 0 = rw (ne_eqb (suc e) 0 (omega arith)) at h in omega arith
+      rw no

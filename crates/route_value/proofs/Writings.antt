@@ -95,26 +95,13 @@ module _ (S n : ℕ) (entry : ℕ → Entry) (l head bytes : List ℕ) (i : ℕ)
   unfolding sheet_bytes
   front g k = last_entry n entry head bytes i g k ∙ rw (e, head_take l S n (omega arith), from_length entry n 0)
 
-  made : Encoded n entry head bytes i → n ≤ i → bytes ≡ out_after 0 (sheet_bytes S (list_from entry 0 n)) l
+  pub made : Encoded n entry head bytes i → n ≤ i → bytes ≡ out_after 0 (sheet_bytes S (list_from entry 0 n)) l
   unfolding out_after
   made g k =
       let at = entry_place written n in
       let past : drop at bytes ≡ drop at l = g.past ∙ ap (drop at) e ∙ head_past l S n at (omega arith) in
       let long : length (sheet_bytes S (list_from entry 0 n)) ≡ at = sheet_length S (list_from entry 0 n) ∙ ap (entry_place written) (from_length entry n 0) in
       sym (take-append-drop at bytes) ∙ rw (front g k, past, long)
-
--- Of routes, and of a sheet.
-pub whole :
-    (r : Routes) (l head bytes : List ℕ) (i : ℕ) → head ≡ put_head l r.source r.count → entry_place written r.count ≤ length l →
-    Encoded r.count (λ k. get_or r.entries k no_entry) head bytes i → r.count ≤ i → bytes ≡ out_after 0 (sheet_of r) l
-unfolding sheet_of route_entries
-whole r l head bytes i e h g k = made r.source r.count (λ k. get_or r.entries k no_entry) l head bytes i e h g k
-
-pub whole_again :
-    (s : List ℕ) (S n : ℕ) (l head bytes : List ℕ) (i : ℕ) → S ≡ source s → n ≡ entry_count s → head ≡ put_head l S n → entry_place written n ≤ length l →
-    Encoded n (entry_at s) head bytes i → n ≤ i → bytes ≡ out_after 0 (rewritten s) l
-unfolding rewritten entries_of
-whole_again s S n l head bytes i eS en e h g k = rw (← eS, ← en) (made S n (entry_at s) l head bytes i e h g k)
 
 pub front_whole : (r : Routes) (bytes l : List ℕ) → bytes ≡ out_after 0 (sheet_of r) l → take (entry_place written r.count) bytes ≡ sheet_of r
 unfolding out_after

@@ -1,8 +1,8 @@
 -- The code's own steps: a route sheet made in place, entry by entry.
-use Rattle.std.specs.Prelude.{ℕ, ◌+◌, ◌*◌, ◌≤◌, ◌<◌, ◌≡◌, List, [], ◌∷◌, ◌++◌, length, take, drop}
-use Rattle.numbers.specs.Numbers.{wrong_route_sheet}
-use Rattle.sheet.specs.declared.output.Written.{Written}
-use Rattle.sheet.specs.declared.output.Written.TheVariants.{Bytes, Refused}
+use Rattle.std.specs.Prelude.{ℕ, ◌+◌, ◌*◌, ◌≤◌, ◌<◌, ◌≡◌, List, [], ◌∷◌, ◌++◌, length, take, drop, Result, Ok, Err}
+use Rattle.numbers.specs.declared.Refusal.{Refusal}
+use Rattle.numbers.specs.declared.Refusal.TheVariants.{WrongRouteSheet}
+use Rattle.numbers.specs.Refusals.{answer_number}
 use Rattle.sheet.specs.Output.{room_error, written, out_after}
 use Rattle.sheet.specs.Records.{records_bytes}
 use Rattle.routes.specs.declared.layout.Entry.{Entry}
@@ -20,11 +20,12 @@ abbrev pub Added : List ℕ → ℕ → Entry → List ℕ → Type 0
 Added bytes i e after = (es : List Entry) → Holds es bytes → length es ≡ i → i < most_entries → Holds (es ++ (e ∷ [])) after
 
 -- The answer w to putting the sheet of the entries that the bytes hold, and the output t afterwards: a refusal leaves it.
-pub record PutMade (S count : ℕ) (bytes o : List ℕ) (w : Written) (t : List ℕ) : Type 0 where
-  pub many : most_entries < count → (w ≡ Refused wrong_route_sheet) × (t ≡ o)
-  pub short : length bytes < entry_place Layout.written count → (w ≡ Refused wrong_route_sheet) × (t ≡ o)
-  pub refused : (n : ℕ) → w ≡ Refused n → t ≡ o
-  pub fits : (n : ℕ) → w ≡ Bytes n → n ≤ length o
+pub record PutMade (S count : ℕ) (bytes o : List ℕ) (w : Result ℕ Refusal) (t : List ℕ) : Type 0 where
+  pub many : most_entries < count → (w ≡ Err WrongRouteSheet) × (t ≡ o)
+  pub short : length bytes < entry_place Layout.written count → (w ≡ Err WrongRouteSheet) × (t ≡ o)
+  pub refused : (e : Refusal) → w ≡ Err e → t ≡ o
+  pub fits : (n : ℕ) → w ≡ Ok n → n ≤ length o
   pub made :
       (es : List Entry) → Holds es bytes → length es ≡ count → count ≤ most_entries →
       (w ≡ written (room_error 0 (sheet_bytes S es) o) (sheet_bytes S es)) × (t ≡ out_after (room_error 0 (sheet_bytes S es) o) (sheet_bytes S es) o)
+  pub number : (es : List Entry) → Holds es bytes → length es ≡ count → count ≤ most_entries → answer_number w ≡ room_error 0 (sheet_bytes S es) o

@@ -7,5 +7,5 @@ mod reading;
 mod writing;
 
 pub use making::{put_made, set_entry};
-pub use reading::{Reading, Routes, read};
+pub use reading::{Routes, read};
 pub use writing::{write, write_back};

@@ -2,10 +2,10 @@
 ghost use Rattle.route_value.specs.Making.{Added, PutMade};
 
 use crate::encode::{put_entry, put_head};
-use numbers::WRONG_ROUTE_SHEET;
+use numbers::Refusal;
 use routes::Entry;
 use routes::layout::{ENTRIES_AT, ENTRY_SIZE, MOST_ENTRIES};
-use sheet::output::{Written, put_sheet};
+use sheet::output::put_sheet;
 
 // Entry number i behind those before it. Nothing where a sheet has no such entry, or the bytes have no room for it.
 pub fn set_entry(bytes: &mut [u8], i: usize, e: Entry)
@@ -21,17 +21,17 @@ pub fn set_entry(bytes: &mut [u8], i: usize, e: Entry)
 }
 
 // The sheet of the first `count` entries that the bytes hold, with no plan to check it by: 13 for more entries than a sheet or the bytes hold, then 12.
-pub fn put_made(source: u16, count: u16, bytes: &mut [u8], out: &mut [u8]) -> Written
+pub fn put_made(source: u16, count: u16, bytes: &mut [u8], out: &mut [u8]) -> Result<usize, Refusal>
     ensures { PutMade source count bytes.old out.old result out.new }
 {
     let n = count as usize;
     if MOST_ENTRIES < n {
-        return Written::Refused(WRONG_ROUTE_SHEET);
+        return Err(Refusal::WrongRouteSheet);
     }
     let size = ENTRIES_AT + ENTRY_SIZE * n;
     if bytes.len() < size {
-        return Written::Refused(WRONG_ROUTE_SHEET);
+        return Err(Refusal::WrongRouteSheet);
     }
     put_head(bytes, source, count);
-    put_sheet(&bytes[..size], 0, out)
+    put_sheet(&bytes[..size], out)
 }

@@ -1,14 +1,15 @@
 -- The first entry for a destination.
-use Prim.Native.Nat.{ℕ, ◌+◌, ◌-◌, ◌≤◌, ◌<◌}
+use Prim.Native.Nat.{ℕ, zero, suc, ◌+◌, ◌≤◌, ◌<◌}
 use native.Mathlib.Omega.{arith}
-use mathlib.Core.Path.{◌≡◌, ap, ◌∙◌}
-use mathlib.Core.List.{List, [], ◌∷◌}
-use borrow.Author.Tests.{eq-eqb, ne_eqb}
+use mathlib.Core.Path.{◌≡◌, refl, ◌∙◌}
+use mathlib.Core.List.{List, ◌∷◌}
+use borrow.Author.Tests.{eq-eqb, ne_eqb, lt-ltb, le-ltb}
+use Rattle.std.specs.Prelude.{Option, Some, None, MatchOption}
+use Rattle.theory.proofs.Cases.{by_le}
 use Rattle.sheet.specs.Bytes.{list_from}
-use Rattle.sheet.proofs.Records.{from_cons, from_none}
 use Rattle.routes.specs.declared.layout.Entry.{Entry}
 use Rattle.routes.specs.Layout.{entry_count, entry_at, entries_of}
-use Rattle.routes.specs.Lookup.{find}
+use Rattle.routes.specs.Lookup.{find, find_entry}
 
 module _ (e : Entry) (es : List Entry) (d : ℕ) where
   pub here : e.dest ≡ d → find (e ∷ es) d ≡ 0
@@ -19,35 +20,30 @@ module _ (e : Entry) (es : List Entry) (d : ℕ) where
   unfolding find
   later h = rw (ne_eqb e.dest d h)
 
-find_none : (es : List Entry) (d : ℕ) → es ≡ [] → find es d ≡ 0
-unfolding find
-find_none es d h = rw h
+-- By the entries of numbers from i on: none of them is for d, or j is the first.
+module _ (f : ℕ → Entry) (d : ℕ) where
+  none_from : (n i : ℕ) → ((k : ℕ) → i ≤ k → k < i + n → (f k).dest ≡ d → ⊥) → find (list_from f i n) d ≡ n
+  unfolding list_from find
+  none_from zero i free = refl
+  none_from (suc n) i free = later (f i) (list_from f (suc i) n) d (free i (omega arith) (omega arith)) ∙ omega (arith, none_from n (suc i) (λ k a b. free k (omega arith) (omega arith)))
 
--- The loop: i of n entries are for other destinations.
-pub record Seeking (s : List ℕ) (d n i : ℕ) : Type 0 where
-  pub count : n ≡ entry_count s
-  pub within : i ≤ n
-  pub rest : find (entries_of s) d ≡ i + find (list_from (entry_at s) i (n - i)) d
+  first_from : (n i j : ℕ) → i ≤ j → j < i + n → (f j).dest ≡ d → ((k : ℕ) → i ≤ k → k < j → (f k).dest ≡ d → ⊥) → i + find (list_from f i n) d ≡ j
+  unfolding list_from
+  first_from zero i j a b is free = absurd (omega arith)
+  first_from (suc n) i j a b is free =
+      by_le j i
+      (λ h. let q : i ≡ j = omega arith in omega (arith, here (f i) (list_from f (suc i) n) d (rw q is)))
+      (λ h. omega (arith, later (f i) (list_from f (suc i) n) d (free i (omega arith) h), first_from n (suc i) j h (omega arith) is (λ k x y. free k (omega arith) y)))
 
-module _ (s : List ℕ) (d n : ℕ) where
-  pub begin : n ≡ entry_count s → Seeking s d n 0
-  unfolding entries_of
-  begin e = record { count = e; within = omega arith; rest = let z : n - 0 ≡ entry_count s = omega arith in rw z (omega arith) }
-
-  module _ (i : ℕ) (g : Seeking s d n i) where
-    pub ended : n ≤ i → i ≡ find (entries_of s) d
-    ended h = omega (arith, g.rest, find_none (list_from (entry_at s) i (n - i)) d (from_none (entry_at s) i n h))
-
-    module _ (e : Entry) (q : e ≡ entry_at s i) (h : i < n) where
-      turn : find (entries_of s) d ≡ i + find (e ∷ list_from (entry_at s) (i + 1) (n - (i + 1))) d
-      turn = g.rest ∙ ap (λ (l : List Entry). i + find l d) (from_cons (entry_at s) i n h) ∙ rw q
-
-      pub found : e.dest ≡ d → i ≡ find (entries_of s) d
-      found k = omega (arith, turn, here e (list_from (entry_at s) (i + 1) (n - (i + 1))) d k)
-
-      pub onward : (e.dest ≡ d → ⊥) → Seeking s d n (i + 1)
-      onward k = record {
-        count = g.count;
-        within = omega arith;
-        rest = omega (arith, turn, later e (list_from (entry_at s) (i + 1) (n - (i + 1))) d k);
-      }
+-- What is found among the numbers of all entries.
+pub found_first :
+    (s : List ℕ) (d n : ℕ) (r : Option ℕ) → n ≡ entry_count s →
+    MatchOption r ((k : ℕ) → 0 ≤ k → k < n → (entry_at s k).dest ≡ d → ⊥) (λ i. (0 ≤ i) × (i < n) × ((entry_at s i).dest ≡ d) × ((k : ℕ) → 0 ≤ k → k < i → (entry_at s k).dest ≡ d → ⊥)) →
+    r ≡ find_entry s d
+unfolding find_entry entries_of
+found_first s d n None e h =
+    let z : find (list_from (entry_at s) 0 n) d ≡ n = none_from (entry_at s) d n 0 (λ k a b. h k a (omega arith)) in
+    rw (← e, z, le-ltb n n (omega arith))
+found_first s d n (Some i) e h =
+    let z : find (list_from (entry_at s) 0 n) d ≡ i = omega (arith, first_from (entry_at s) d n 0 i h.0 (omega (arith, h.1)) h.2 h.3) in
+    rw (← e, z, lt-ltb i n h.1)

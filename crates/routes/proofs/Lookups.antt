@@ -1,13 +1,17 @@
 -- The part that a lookup gives, and what its companion answers.
 use Prim.Native.Nat.{ℕ, zero, suc, ◌+◌, ◌/◌, ◌≤◌, ◌<◌}
 use native.Mathlib.Omega.{arith}
-use mathlib.Core.Path.{◌≡◌, refl, ap, ◌∙◌}
-use mathlib.Core.Bool.{Bool, true, false, not, cond}
+use mathlib.Core.Path.{◌≡◌, refl, sym, ap, ◌∙◌}
+use mathlib.Core.Bool.{Bool, true, false, not, cond, ◌&&◌}
 use mathlib.Core.List.{List, [], ◌∷◌}
 use lib.ListN.{length}
-use lib.Dec.{ltb, eqb}
+use lib.Dec.{ltb, leb, eqb}
 use denote.Ref.{Bor}
-use borrow.Author.Tests.{eq-eqb, ne_eqb, lt-ltb, le-ltb, ltb-true, not-false}
+use borrow.Author.Tests.{eq-eqb, ne_eqb, lt-ltb, le-ltb, ltb-true, leb-true, eqb-true, not-false}
+use Rattle.std.specs.Prelude.{Option, Some, None, option_map}
+use Rattle.std.proofs.lemmas.Option.{cond_some, none-some}
+use Rattle.numbers.specs.declared.Refusal.{Refusal}
+use Rattle.numbers.specs.Refusals.{number}
 use Rattle.theory.specs.Machine.{sum_by}
 use Rattle.theory.proofs.Bools.{and_true}
 use Rattle.theory.proofs.Checks.{then_zero, declined_zero}
@@ -26,21 +30,31 @@ use Rattle.plan.specs.Checks.{Limits, torus_plans}
 use Rattle.plan.proofs.Plans as Plans
 use Rattle.packet.specs.declared.route.Route.{Route}
 use Rattle.choice.specs.declared.outcome.Outcome.{Outcome}
-use Rattle.choice.specs.Answer.{Given, answered}
-use Rattle.choice.specs.Outcome.{told, told_as}
+use Rattle.choice.specs.Answer.{Given, Refused, answered}
+use Rattle.choice.specs.Outcome.{told, told_as, outcome_number, told_number}
+use Rattle.choice.proofs.Told.{number-refusal, answered_refused, refused-told}
 use Rattle.choice.specs.Pair.{far_in}
 use Rattle.routes.specs.declared.layout.Entry.{Entry}
 use Rattle.routes.specs.declared.lookup.Part.{Part}
-use Rattle.routes.specs.declared.route.Found.{Found}
-use Rattle.routes.specs.declared.route.Found.TheVariants.{At, Missing}
 use Rattle.routes.specs.Layout.{format_of, source, entry_count, entry_size, entry_place, entry_at, entries_of}
-use Rattle.routes.specs.Checks.{entry_good, routes_good, sheet_error}
+use Rattle.routes.specs.Kinds.{plain_kind, via_kind, vias_kind}
+use Rattle.routes.specs.Checks.{via_good, entry_good, routes_good, sheet_error}
 use Rattle.routes.specs.Said.{mode_by, said_with, said_by}
-use Rattle.routes.specs.Lookup.{find, lookup_error, is_listed, PartOf, part_start, part_length, part_for}
+use Rattle.routes.specs.Lookup.{find, find_entry, lookup_error, is_listed, PartOf, part_start, part_length, part_for}
 use Rattle.routes.specs.Says.{says_of, says}
-use Rattle.routes.specs.Steps.{pick_found, found_in, or_direct, length_via, length_vias, length_by}
+use Rattle.routes.specs.Steps.{found_in, or_direct, length_via, length_vias, length_by}
 use Rattle.routes.proofs.Sheets.{place_fits, Accepted, accepted}
 use Rattle.routes.proofs.Rising.{good_entry, each_good}
+
+-- Whether there is an entry for a destination, and its number.
+module _ (s : List ℕ) (d : ℕ) where
+  listed : (i : ℕ) → Some i ≡ find_entry s d → (ltb (find (entries_of s) d) (entry_count s) ≡ true) × (find (entries_of s) d ≡ i)
+  unfolding find_entry
+  listed i q = cond_some _ _ _ (sym q)
+
+  not_listed : None ≡ find_entry s d → ltb (find (entries_of s) d) (entry_count s) ≡ false
+  unfolding find_entry
+  not_listed q = test (ltb (find (entries_of s) d) (entry_count s)) (λ t. absurd (none-some (find (entries_of s) d) (rw t at q))) (λ t. t)
 
 module _ (L : Limits) (p s : List ℕ) (d : ℕ) where
   pub looked_up : lookup_error L p s d ≡ 0 → Accepted L p s
@@ -59,14 +73,16 @@ module _ (L : Limits) (p s : List ℕ) (d : ℕ) where
   unfolding is_listed
   declined_part h = none (rw (ne_eqb (lookup_error L p s d) 0 h))
 
-  module _ (h : lookup_error L p s d ≡ 0) (i n : ℕ) (at : i ≡ find (entries_of s) d) (count : n ≡ entry_count s) where
-    pub unlisted_part : n ≤ i → Made (record { start = 0; size = 0 })
+  module _ (h : lookup_error L p s d ≡ 0) where
+    pub unlisted_part : None ≡ find_entry s d → Made (record { start = 0; size = 0 })
     unfolding is_listed
-    unlisted_part k = none (rw (eq-eqb (lookup_error L p s d) 0 h, ← at, ← count, le-ltb i n k))
+    unlisted_part q = none (rw (eq-eqb (lookup_error L p s d) 0 h, not_listed s d q))
 
-    pub listed_part : i < n → Made (record { start = entry_place (format_of s) i; size = entry_size (format_of s) })
+    pub listed_part : (i : ℕ) → Some i ≡ find_entry s d → Made (record { start = entry_place (format_of s) i; size = entry_size (format_of s) })
     unfolding part_for part_start part_length is_listed
-    listed_part k = (rw (eq-eqb (lookup_error L p s d) 0 h, ← at, ← count, lt-ltb i n k), place_fits (format_of s) s i (looked_up h).head (omega arith))
+    listed_part i q =
+        let l = listed s d i q in
+        (rw (eq-eqb (lookup_error L p s d) 0 h, l.0, l.1), place_fits (format_of s) s i (looked_up h).head (ltb-true i (entry_count s) (rw l.1 at l.0)))
 
 -- The part is those bytes of the sheet.
 pub part_of :
@@ -79,7 +95,7 @@ part_of L p s r d w e k = rw (← ap (λ (x : Part). x.start) e, ← ap (λ (x :
 ltb_suc : (a n : ℕ) → ltb (a + 1) (suc n) ≡ ltb a n
 ltb_suc a n = by_le n a (λ h. rw (le-ltb (a + 1) (suc n) (omega arith), le-ltb a n h)) (λ h. rw (lt-ltb (a + 1) (suc n) (omega arith), lt-ltb a n h))
 
-found_says : (f : ℕ → Entry) (d n i : ℕ) → let k = find (list_from f i n) d in or_direct d (pick_found (ltb k n) (At (f (i + k))) Missing) ≡ says_of (list_from f i n) d
+found_says : (f : ℕ → Entry) (d n i : ℕ) → let k = find (list_from f i n) d in or_direct d (cond (ltb k n) (Some (f (i + k))) None) ≡ says_of (list_from f i n) d
 unfolding list_from find says_of or_direct
 found_says f d zero i = refl
 found_says f d (suc n) i =
@@ -90,22 +106,18 @@ found_says f d (suc n) i =
     let z : i + (k + 1) ≡ suc i + k = omega arith in
     rw (t, ltb_suc k n, z) (found_says f d n (suc i)))
 
-module _ (s : List ℕ) (d : ℕ) where
-  found_as : or_direct d (found_in s d) ≡ says_of (entries_of s) d
-  unfolding found_in entries_of
-  found_as =
-      let k = find (entries_of s) d in
-      let z : k ≡ 0 + k = omega arith in
-      ap (λ (i : ℕ). or_direct d (pick_found (ltb k (entry_count s)) (At (entry_at s i)) Missing)) z ∙ found_says (entry_at s) d (entry_count s) 0
+map_cond : (f : ℕ → Entry) (b : Bool) (k : ℕ) → option_map f (cond b (Some k) None) ≡ cond b (Some (f k)) None
+map_cond f true k = refl
+map_cond f false k = refl
 
-  module _ (i n : ℕ) (at : i ≡ find (entries_of s) d) (count : n ≡ entry_count s) where
-    pub found : i < n → (e : Entry) → e ≡ entry_at s i → At e ≡ found_in s d
-    unfolding found_in
-    found h e q = rw (← at, ← count, lt-ltb i n h) (ap At q)
-
-    pub missing : n ≤ i → Missing ≡ found_in s d
-    unfolding found_in
-    missing h = rw (← at, ← count, le-ltb i n h)
+found_as : (s : List ℕ) (d : ℕ) → or_direct d (found_in s d) ≡ says_of (entries_of s) d
+unfolding found_in find_entry entries_of
+found_as s d =
+    let k = find (entries_of s) d in
+    let z : k ≡ 0 + k = omega arith in
+    ap (or_direct d) (map_cond (entry_at s) (ltb k (entry_count s)) k)
+    ∙ ap (λ (i : ℕ). or_direct d (cond (ltb k (entry_count s)) (Some (entry_at s i)) None)) z
+    ∙ found_says (entry_at s) d (entry_count s) 0
 
 -- ---- the route, with its length from the source
 module _ (w : Weights) (hw : weight_error w ≡ 0) (m : Shape) (S : ℕ) (source : is_node m S ≡ true) where
@@ -145,18 +157,51 @@ module _ (w : Weights) (hw : weight_error w ≡ 0) (m : Shape) (S : ℕ) (source
   told_direct d h = ap (λ n. Outcome.Given (Route.Direct Adaptive) n) (one_leg d h)
 
 -- What is found is good.
-abbrev FoundGood : Shape → ℕ → Found → Type 0
-FoundGood m S (At e) = entry_good m S e ≡ true
-FoundGood m S Missing = Unit {0}
+abbrev FoundGood : Shape → ℕ → Option Entry → Type 0
+FoundGood m S (Some e) = entry_good m S e ≡ true
+FoundGood m S None = Unit {0}
+
+-- The number that it says: of a refusal as its kind has it.
+kind_most : (m : Shape) (S : ℕ) (e : Entry) → entry_good m S e ≡ true → e.kind < 256
+unfolding entry_good via_good plain_kind via_kind vias_kind
+kind_most m S e h =
+    let p = (and_true (is_node m e.dest && not (eqb e.dest S)) _ h).1 in
+    test (vias_kind e.kind)
+    (λ t. let k = leb-true e.kind 39 (and_true (leb 32 e.kind) _ t).1 in omega arith)
+    (λ t. test (via_kind e.kind)
+    (λ u. let k = leb-true e.kind 19 (and_true (leb 16 e.kind) _ u).1 in omega arith)
+    (λ u. plain e.kind (and_true (plain_kind e.kind) _ (rw (t, u) at p)).0))
+  where
+    plain : (k : ℕ) → plain_kind k ≡ true → k < 256
+    plain k h =
+        test (eqb k 1)
+        (λ a. let z = eqb-true k 1 a in omega arith)
+        (λ a. test (eqb k 160)
+        (λ b. let z = eqb-true k 160 b in omega arith)
+        (λ b. let z = eqb-true k 176 (rw (a, b) at h) in omega arith))
+
+number_with : (n k len : ℕ) (e : Entry) → n < 19 → outcome_number (told_as len (said_with n k e)) ≡ told_number (said_with n k e)
+unfolding told_as
+number_with zero k len e b = refl
+number_with (suc zero) k len e b = refl
+number_with (suc (suc zero)) k len e b = refl
+number_with (suc (suc (suc n))) k len e b = number-refusal (suc (suc (suc n))) (omega arith) b
+
+number_said : (len : ℕ) (e : Entry) → e.kind < 256 → outcome_number (told_as len (said_by e)) ≡ told_number (said_by e)
+unfolding said_by
+number_said len e b = number_with (e.kind / 16) e.kind len e (omega arith)
 
 module _ (L : Limits) (p s : List ℕ) (d : ℕ) where
-  pub refused : (e : ℕ) → e ≡ lookup_error L p s d → (e ≡ 0 → ⊥) → Outcome.Refused e ≡ told (far_in p) (source s) (says L p s d)
-  unfolding says told told_as answered
-  refused e h n = rw (← h) (go e n)
-    where
-      go : (k : ℕ) → (k ≡ 0 → ⊥) → Outcome.Refused k ≡ told (far_in p) (source s) (answered k (says_of (entries_of s) d))
-      go zero n = absurd (n refl)
-      go (suc k) n = refl
+  module _ (e : Refusal) (h : number e ≡ lookup_error L p s d) where
+    says_refused : says L p s d ≡ Refused (lookup_error L p s d)
+    unfolding says
+    says_refused = answered_refused e (lookup_error L p s d) _ h
+
+    pub refused : Outcome.Refused e ≡ told (far_in p) (source s) (says L p s d)
+    refused = rw says_refused (refused-told (far_in p) (source s) _ e h)
+
+    pub refused_number : number e ≡ told_number (says L p s d)
+    refused_number = rw says_refused h
 
   module _ (h : lookup_error L p s d ≡ 0) where
     abbrev w : Weights
@@ -179,25 +224,35 @@ module _ (L : Limits) (p s : List ℕ) (d : ℕ) where
     unfolding lookup_error
     dest_node = not-false _ (declined_zero (not (is_node m d)) _ (then_zero (sheet_error L p s) _ h).1)
 
-    found_good : (f : Found) → f ≡ found_in s d → FoundGood m S f
-    unfolding found_in routes_good entries_of
+    found_good : (f : Option Entry) → f ≡ found_in s d → FoundGood m S f
+    unfolding found_in find_entry routes_good entries_of
     found_good f e = rw e (go (ltb i (entry_count s)) refl)
       where
         i : ℕ
         i = find (entries_of s) d
 
-        go : (b : Bool) → ltb i (entry_count s) ≡ b → FoundGood m S (pick_found b (At (entry_at s i)) Missing)
+        go : (b : Bool) → ltb i (entry_count s) ≡ b → FoundGood m S (option_map (entry_at s) (cond b (Some i) None))
         go true t = each_good m S (entry_at s) (entry_count s) 0 0 (and_true (is_node m S) _ (looked_up L p s d h).routes).1 i (omega arith) (omega (arith, ltb-true i (entry_count s) t))
         go false t = tt
 
-    said : (f : Found) → f ≡ found_in s d → or_direct d f ≡ says L p s d
+    said : (f : Option Entry) → f ≡ found_in s d → or_direct d f ≡ says L p s d
     unfolding says answered
     said f e = rw (h, e, found_as s d)
 
-    pub said_found : (e : Entry) → At e ≡ found_in s d → told_as (length_by w m S e) (said_by e) ≡ told (distance w m) S (says L p s d)
-    unfolding or_direct
-    said_found e q = told_good w weighed m S source_node e (found_good (At e) q) ∙ ap (told (distance w m) S) (said (At e) q)
+    module _ (e : Entry) (q : Some e ≡ found_in s d) where
+      pub said_found : told_as (length_by w m S e) (said_by e) ≡ told (distance w m) S (says L p s d)
+      unfolding or_direct
+      said_found = told_good w weighed m S source_node e (found_good (Some e) q) ∙ ap (told (distance w m) S) (said (Some e) q)
 
-    pub said_direct : Missing ≡ found_in s d → Outcome.Given (Route.Direct Adaptive) (distance_answer w m S d) ≡ told (distance w m) S (says L p s d)
-    unfolding or_direct
-    said_direct q = told_direct w weighed m S source_node d dest_node ∙ ap (told (distance w m) S) (said Missing q)
+      pub found_number : (len : ℕ) → outcome_number (told_as len (said_by e)) ≡ told_number (says L p s d)
+      unfolding or_direct
+      found_number len = number_said len e (kind_most m S e (found_good (Some e) q)) ∙ ap told_number (said (Some e) q)
+
+    module _ (q : None ≡ found_in s d) where
+      pub said_direct : Outcome.Given (Route.Direct Adaptive) (distance_answer w m S d) ≡ told (distance w m) S (says L p s d)
+      unfolding or_direct
+      said_direct = told_direct w weighed m S source_node d dest_node ∙ ap (told (distance w m) S) (said None q)
+
+      pub direct_number : 0 ≡ told_number (says L p s d)
+      unfolding or_direct
+      direct_number = ap told_number (said None q)

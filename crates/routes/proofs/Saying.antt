@@ -7,7 +7,9 @@ use mathlib.Core.List.{[], ◌∷◌}
 use lib.Dec.{eqb}
 use borrow.Author.Tests.{eq-eqb, ne_eqb, lt-ltb}
 use Rattle.numbers.specs.Numbers.{dead_end, no_clear_choice}
+use Rattle.numbers.specs.Refusals.{number, refusal}
 use Rattle.theory.specs.Machine.{end_by}
+use Rattle.theory.proofs.Cases.{by_le}
 use Rattle.shape.specs.declared.shape.Shape.{Shape}
 use Rattle.machine.specs.declared.leg.Mode.{Mode}
 use Rattle.machine.specs.declared.leg.Mode.TheVariants.{Adaptive, Deterministic}
@@ -20,6 +22,7 @@ use Rattle.choice.specs.declared.outcome.Outcome.{Outcome}
 use Rattle.choice.specs.Choice.{Choice, AdmitsIn, vias_of, targets_of, modes_of}
 use Rattle.choice.specs.Answer.{Given, Refused}
 use Rattle.choice.specs.Outcome.{told, told_as}
+use Rattle.choice.proofs.Told.{number-refusal, refusal_past}
 use Rattle.routes.specs.declared.layout.Entry.{Entry}
 use Rattle.routes.specs.Kinds.{bits_of, kind_of, refused_kind, plain_kind, via_kind, vias_kind}
 use Rattle.routes.specs.Said.{mode_by, said_with, said_by, entry_for, heard}
@@ -50,6 +53,16 @@ admitted_legs Q s S D one two three (l ∷ m ∷ n ∷ []) a =
     subst Q (sym is) (three l.target m.target l.mode m.mode n.mode (subst (AdmitsIn s S D) is a))
 admitted_legs Q s S D one two three (l ∷ m ∷ n ∷ o ∷ ls) a = let h = a.few in absurd (omega arith)
 
+-- A refusal that the code's enum has no cause for has no kind either.
+refused_kept : (D e : ℕ) → entry_for D (Refused (number (refusal e))) ≡ entry_for D (Refused e)
+unfolding entry_for refused_kind
+refused_kept D e =
+    by_le 1 e
+    (λ a. by_le e 18
+    (λ b. rw (number-refusal e (omega arith) (omega arith)))
+    (λ b. rw (refusal_past e b, ne_eqb e dead_end (λ z. omega arith), ne_eqb e no_clear_choice (λ z. omega arith))))
+    (λ a. let z : e ≡ 0 = omega arith in rw z)
+
 -- The entry of an answer, from the code's enum of it.
 module _ (far : ℕ → ℕ → ℕ) where
   pub entry_told : (s : Shape) (S D : ℕ) (c : Choice) → AdmitsIn s S D c → entry_for D (heard D (told far S (Given c))) ≡ entry_for D (Given c)
@@ -58,10 +71,10 @@ module _ (far : ℕ → ℕ → ℕ) where
 
   pub refusal_told : (S D e : ℕ) → entry_for D (heard D (told far S (Refused e))) ≡ entry_for D (Refused e)
   unfolding heard told
-  refusal_told S D e = refl
+  refusal_told S D e = refused_kept D e
 
 -- A kind that tells no route.
-pub refused_with : (n k len : ℕ) (e : Entry) → 2 < n → Outcome.Refused n ≡ told_as len (said_with n k e)
+pub refused_with : (n k len : ℕ) (e : Entry) → 2 < n → Outcome.Refused (refusal n) ≡ told_as len (said_with n k e)
 unfolding told_as
 refused_with zero k len e h = absurd (omega arith)
 refused_with (suc zero) k len e h = absurd (omega arith)

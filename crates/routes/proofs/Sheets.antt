@@ -1,29 +1,50 @@
 -- Laws of check 13: what an accepted sheet is.
-use Prim.Native.Nat.{ℕ, zero, suc, ◌+◌, ◌*◌, ◌≤◌, ◌<◌}
+use Prim.Native.Nat.{ℕ, suc, ◌+◌, ◌*◌, ◌≤◌, ◌<◌}
 use native.Mathlib.Nat.{mul-suc, mul-le-mul_left, mul-le-mul_right}
 use native.Mathlib.Omega.{arith}
-use mathlib.Core.Path.{◌≡◌, refl}
-use mathlib.Core.Bool.{Bool, true, false, not, cond, ◌&&◌}
+use mathlib.Core.Path.{◌≡◌, refl, sym, ◌∙◌}
+use mathlib.Core.Bool.{true, false, not, ◌&&◌}
 use mathlib.Core.List.{List}
 use lib.ListN.{length}
 use lib.Dec.{leb, eqb}
-use borrow.Author.Tests.{leb-true, eqb-true, ne_eqb, not-false}
-use Rattle.theory.specs.Checks.{declined, ◌then◌}
+use borrow.Author.Tests.{leb-true, eqb-true, not-false}
+use Rattle.std.specs.Prelude.{Result, Ok, Err, is_err}
+use Rattle.std.proofs.lemmas.Bool.{false≢true}
+use Rattle.numbers.specs.declared.Refusal.{Refusal}
+use Rattle.numbers.specs.Refusals.{number, answer_number}
+use Rattle.numbers.proofs.Refusals.{number-range}
+use Rattle.theory.specs.Checks.{◌then◌}
 use Rattle.theory.proofs.Checks.{then_zero, declined_zero}
 use Rattle.theory.proofs.Bools.{and_true}
 use Rattle.sheet.specs.Head.{version, length_field}
+use Rattle.sheet.specs.Output.{room_error}
 use Rattle.sheet.proofs.Heads.{length_field_law, length_sheet}
+use Rattle.sheet.proofs.Outputs.{not_0, Put, refused, unread}
 use Rattle.plan.specs.Layout.{shape_of}
 use Rattle.plan.specs.Checks.{Limits, plan_error}
 use Rattle.routes.specs.declared.layout.Format.{Format}
 use Rattle.routes.specs.Layout.{format_of, source, entry_count, entries_at, entry_size, entry_place, entry_at, entries_in, entries_of, size_after}
 use Rattle.routes.specs.Checks.{head_good, routes_good, good_in, error_in, sheet_error}
 
--- A check after others, as a choice.
-pub checked : (e : ℕ) (b : Bool) (n : ℕ) → (e then declined (not b) n) ≡ cond (eqb e 0) (cond b 0 n) e
-checked zero true n = refl
-checked zero false n = refl
-checked (suc e) b n = rw (ne_eqb (suc e) 0 (omega arith))
+-- An answer with a number.
+module _ {A : Type 0} (r : Result A Refusal) (n : ℕ) (is : answer_number r ≡ n) where
+  pub failed : is_err r ≡ true → n ≡ 0 → ⊥
+  failed h z = go r (is ∙ z) h
+    where
+      go : (r : Result A Refusal) → answer_number r ≡ 0 → is_err r ≡ true → ⊥
+      go (Ok a) q h = absurd (false≢true h)
+      go (Err e) q h = let l = (number-range e).0 in omega arith
+
+  pub stood : is_err r ≡ false → n ≡ 0
+  stood h = sym is ∙ go r h
+    where
+      go : (r : Result A Refusal) → is_err r ≡ false → answer_number r ≡ 0
+      go (Ok a) h = refl
+      go (Err e) h = absurd (false≢true (sym h))
+
+-- What writing answers and leaves where a check declines.
+pub put_declined : (e : ℕ) (s o : List ℕ) (r : Refusal) → number r ≡ e → Put (room_error e s o) s o (Err r) o
+put_declined e s o r h = refused (room_error e s o) r s o (h ∙ sym (unread e s o (λ z. not_0 r (h ∙ z))))
 
 -- The entries in the sheet's own format.
 pub own_entries : (s : List ℕ) → entries_of s ≡ entries_in (format_of s) s

@@ -1,5 +1,5 @@
 -- Looking up a destination gives the entry as the very bytes of the lent sheet: seven of version 3, five of version 2.
-use Rattle.std.specs.Prelude.{ℕ, ◌+◌, ◌≡◌, Bool, not, cond, ◌&&◌, List, [], ◌∷◌, take, drop, ltb, eqb}
+use Rattle.std.specs.Prelude.{ℕ, ◌+◌, ◌≡◌, Bool, not, cond, ◌&&◌, List, [], ◌∷◌, take, drop, ltb, eqb, Option, Some, None}
 use Rattle.std.specs.Borrow.{Bor}
 use Rattle.numbers.specs.Numbers.{node_outside}
 use Rattle.theory.specs.Checks.{declined, ◌then◌}
@@ -19,6 +19,10 @@ lookup_error L p s d = sheet_error L p s then declined (not (is_node (shape_of p
 unfoldable pub find : List Entry → ℕ → ℕ
 find [] d = 0
 find (e ∷ es) d = cond (eqb e.dest d) 0 (find es d + 1)
+
+-- Its number in the sheet s, if the destination d is listed.
+unfoldable pub find_entry : List ℕ → ℕ → Option ℕ
+find_entry s d = let i = find (entries_of s) d in cond (ltb i (entry_count s)) (Some i) None
 
 -- The lookup is not declined, and the destination is listed.
 unfoldable pub is_listed : Limits → List ℕ → List ℕ → ℕ → Bool

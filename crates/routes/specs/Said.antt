@@ -3,6 +3,7 @@ use Rattle.std.specs.Prelude.{ℕ, zero, suc, ◌/◌, ◌%◌, cond, [], ◌∷
 use Rattle.machine.specs.declared.leg.Mode.{Mode}
 use Rattle.machine.specs.declared.leg.Mode.TheVariants.{Adaptive, Deterministic}
 use Rattle.machine.specs.Torus.{leg}
+use Rattle.numbers.specs.Refusals.{number}
 use Rattle.packet.specs.New.{legs_to}
 use Rattle.choice.specs.declared.outcome.Outcome.{Outcome}
 use Rattle.choice.specs.Choice.{vias_of}
@@ -32,4 +33,4 @@ entry_for d (Refused e) = record { dest = d; kind = refused_kind e; via = 0; sec
 -- The code's enum, of the destination d, as an answer.
 unfoldable pub heard : ℕ → Outcome → Answer
 heard d (Outcome.Given r len) = Given (legs_to d r)
-heard d (Outcome.Refused e) = Refused e
+heard d (Outcome.Refused e) = Refused (number e)

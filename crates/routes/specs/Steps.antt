@@ -1,5 +1,5 @@
 -- The code's own steps.
-use Rattle.std.specs.Prelude.{ℕ, ◌+◌, ◌/◌, Bool, true, false, cond, List, [], ◌∷◌, ltb, eqb}
+use Rattle.std.specs.Prelude.{ℕ, ◌+◌, ◌/◌, cond, List, [], ◌∷◌, eqb, Option, Some, None, option_map}
 use Rattle.shape.specs.declared.shape.Shape.{Shape}
 use Rattle.machine.specs.declared.leg.Mode.TheVariants.{Adaptive}
 use Rattle.machine.specs.Torus.{leg}
@@ -7,24 +7,18 @@ use Rattle.weights.specs.declared.weights.Weights.{Weights}
 use Rattle.weights.specs.Distance.{distance_answer}
 use Rattle.choice.specs.Answer.{Answer, Given}
 use Rattle.routes.specs.declared.layout.Entry.{Entry}
-use Rattle.routes.specs.declared.route.Found.{Found}
-use Rattle.routes.specs.declared.route.Found.TheVariants.{At, Missing}
-use Rattle.routes.specs.Layout.{entry_count, entry_at, entries_of}
+use Rattle.routes.specs.Layout.{entry_at}
 use Rattle.routes.specs.Said.{said_by}
-use Rattle.routes.specs.Lookup.{find}
-
-abbrev pub pick_found : Bool → Found → Found → Found
-pick_found true x y = x
-pick_found false x y = y
+use Rattle.routes.specs.Lookup.{find_entry}
 
 -- The entry of the sheet s for the destination d.
-unfoldable pub found_in : List ℕ → ℕ → Found
-found_in s d = let i = find (entries_of s) d in pick_found (ltb i (entry_count s)) (At (entry_at s i)) Missing
+unfoldable pub found_in : List ℕ → ℕ → Option Entry
+found_in s d = option_map (entry_at s) (find_entry s d)
 
 -- A destination not listed is direct and adaptive.
-unfoldable pub or_direct : ℕ → Found → Answer
-or_direct d (At e) = said_by e
-or_direct d Missing = Given (leg d Adaptive ∷ [])
+unfoldable pub or_direct : ℕ → Option Entry → Answer
+or_direct d (Some e) = said_by e
+or_direct d None = Given (leg d Adaptive ∷ [])
 
 -- The length of a route by v, and by v and then u; and of an entry's route from the source S, of a refusal any number.
 abbrev pub length_via : Weights → Shape → ℕ → ℕ → ℕ → ℕ

@@ -1,5 +1,6 @@
-// The plan's checks, then 13; 0 where none declines.
+// The plan's checks, then 13.
 ghost use Rattle.std.specs.Prelude.{◌≡◌, not, ◌&&◌, eqb};
+ghost use Rattle.numbers.specs.Refusals.{answer_number};
 ghost use Rattle.plan.specs.Checks.{large};
 ghost use Rattle.routes.specs.Layout.{entries_of};
 ghost use Rattle.routes.specs.Checks.{head_good, is_via, via_good, entry_good, next_good, entries_good, sheet_good, sheet_error};
@@ -8,9 +9,9 @@ use crate::kinds::{has_via, has_vias, is_plain};
 use crate::layout::{
     ENTRIES_AT, Entry, Format, count_in, entry_in, format_in, size_after, source_in,
 };
-use logic::{both, pick};
+use logic::both;
 use machine::node::is_node;
-use numbers::WRONG_ROUTE_SHEET;
+use numbers::Refusal;
 use plan::layout::shape_in;
 use shape::Shape;
 use sheet::head::{length_is, version_in};
@@ -26,67 +27,73 @@ pub fn head_good(sheet: &[u8], format: Format) -> bool
     both(known, length_is(sheet, size_after(format, count_in(sheet))))
 }
 
-// Whether v is a node that is neither end.
-fn is_via(shape: Shape, source: u16, dest: u16, v: u16) -> bool
-    ensures { result ≡ is_via shape source dest v }
-{
-    both(is_node(shape, v), both(v != source, v != dest))
+// A source on a machine. By it the entries of its sheet are judged.
+#[derive(Clone, Copy)]
+pub struct Origin {
+    pub shape: Shape,
+    pub source: u16,
 }
 
-fn one_good(shape: Shape, source: u16, e: Entry) -> bool
-    ensures { result ≡ (is_via shape source e.dest e.via && eqb e.second 0) }
-{
-    both(is_via(shape, source, e.dest, e.via), e.second == 0)
-}
-
-fn two_good(shape: Shape, source: u16, e: Entry) -> bool
-    ensures { result ≡ (is_via shape source e.dest e.via && (is_via shape source e.dest e.second && not (eqb e.via e.second))) }
-{
-    let second = both(is_via(shape, source, e.dest, e.second), e.via != e.second);
-    both(is_via(shape, source, e.dest, e.via), second)
-}
-
-fn via_good(shape: Shape, source: u16, e: Entry) -> bool
-    ensures { result ≡ via_good shape source e }
-{
-    if has_vias(e.kind) {
-        return two_good(shape, source, e);
+impl Origin {
+    // Whether v is a node that is neither end.
+    fn is_via(self, dest: u16, v: u16) -> bool
+        ensures { result ≡ is_via self.shape self.source dest v }
+    {
+        both(is_node(self.shape, v), both(v != self.source, v != dest))
     }
-    if has_via(e.kind) {
-        return one_good(shape, source, e);
+
+    fn one_good(self, e: Entry) -> bool
+        ensures { result ≡ (is_via self.shape self.source e.dest e.via && eqb e.second 0) }
+    {
+        both(self.is_via(e.dest, e.via), e.second == 0)
     }
-    both(is_plain(e.kind), both(e.via == 0, e.second == 0))
-}
 
-fn entry_good(shape: Shape, source: u16, e: Entry) -> bool
-    ensures { result ≡ entry_good shape source e }
-{
-    let dest = both(is_node(shape, e.dest), e.dest != source);
-    both(dest, via_good(shape, source, e))
-}
+    fn two_good(self, e: Entry) -> bool
+        ensures { result ≡ (is_via self.shape self.source e.dest e.via && (is_via self.shape self.source e.dest e.second && not (eqb e.via e.second))) }
+    {
+        let second = both(self.is_via(e.dest, e.second), e.via != e.second);
+        both(self.is_via(e.dest, e.via), second)
+    }
 
-// Whether an entry may follow those before it. `least`: the least that its destination may be.
-pub fn next_good(shape: Shape, source: u16, least: u32, e: Entry) -> bool
-    ensures { result ≡ next_good shape source least e }
-{
-    both(least <= (e.dest as u32), entry_good(shape, source, e))
-}
-
-fn entries_good(sheet: &[u8], shape: Shape, source: u16) -> bool
-    ensures { result ≡ entries_good shape source 0 (entries_of sheet.now) }
-{
-    let count = count_in(sheet);
-    let mut least: u32 = 0;
-    let mut i: u16 = 0;
-    while i < count {
-        let e = entry_in(sheet, i);
-        if !next_good(shape, source, least, e) {
-            return false;
+    fn via_good(self, e: Entry) -> bool
+        ensures { result ≡ via_good self.shape self.source e }
+    {
+        if has_vias(e.kind) {
+            return self.two_good(e);
         }
-        least = (e.dest as u32) + 1;
-        i = i + 1;
+        if has_via(e.kind) {
+            return self.one_good(e);
+        }
+        both(is_plain(e.kind), both(e.via == 0, e.second == 0))
     }
-    true
+
+    fn entry_good(self, e: Entry) -> bool
+        ensures { result ≡ entry_good self.shape self.source e }
+    {
+        let dest = both(is_node(self.shape, e.dest), e.dest != self.source);
+        both(dest, self.via_good(e))
+    }
+
+    // Whether an entry may follow those before it. `least`: the least that its destination may be.
+    pub fn next_good(self, least: u32, e: Entry) -> bool
+        ensures { result ≡ next_good self.shape self.source least e }
+    {
+        both(least <= (e.dest as u32), self.entry_good(e))
+    }
+
+    fn entries_good(self, sheet: &[u8]) -> bool
+        ensures { result ≡ entries_good self.shape self.source 0 (entries_of sheet.now) }
+    {
+        let mut least: u32 = 0;
+        for i in 0..count_in(sheet) {
+            let e = entry_in(sheet, i);
+            if !self.next_good(least, e) {
+                return false;
+            }
+            least = (e.dest as u32) + 1;
+        }
+        true
+    }
 }
 
 fn sheet_good(shape: Shape, sheet: &[u8]) -> bool
@@ -96,14 +103,18 @@ fn sheet_good(shape: Shape, sheet: &[u8]) -> bool
         return false;
     }
     let source = source_in(sheet);
-    both(is_node(shape, source), entries_good(sheet, shape, source))
+    let origin = Origin { shape, source };
+    both(is_node(shape, source), origin.entries_good(sheet))
 }
 
-// The number of the first check that declines the sheet under the plan; 0 where none does.
-pub fn check(plan: &[u8], sheet: &[u8]) -> u8
-    ensures { result ≡ sheet_error large plan.now sheet.now }
+// The first check that declines the sheet under the plan.
+#[tactic(auto, using(theory::proofs::Checks::declining), unfolding(crate::specs::Checks::sheet_error, crate::specs::Checks::error_in))]
+pub fn check(plan: &[u8], sheet: &[u8]) -> Result<(), Refusal>
+    ensures { answer_number result ≡ sheet_error large plan.now sheet.now }
 {
-    let error = plan::check(plan);
-    let wrong = pick(sheet_good(shape_in(plan), sheet), 0, WRONG_ROUTE_SHEET);
-    pick(error == 0, wrong, error)
+    plan::check(plan)?;
+    if !sheet_good(shape_in(plan), sheet) {
+        return Err(Refusal::WrongRouteSheet);
+    }
+    Ok(())
 }

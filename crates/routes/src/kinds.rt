@@ -1,6 +1,7 @@
 // The kinds of an entry: 16 × vias plus a bit for each deterministic leg, leg one lowest; 160 is a dead destination, 176 no clear choice. 0, direct
 // adaptive, is never listed.
 ghost use Rattle.std.specs.Prelude.{◌≡◌, ℕ, ◌<◌};
+ghost use Rattle.numbers.specs.Refusals.{number};
 ghost use Rattle.packet.specs.declared.route.Route.{Route};
 ghost use Rattle.packet.specs.New.{legs_to};
 ghost use Rattle.choice.specs.Answer.{Given};
@@ -11,9 +12,8 @@ ghost use Rattle.routes.specs.Said.{mode_by, said_by, entry_for, heard};
 
 use crate::layout::Entry;
 use choice::Outcome;
-use logic::{both, either, pick};
 use machine::leg::Mode;
-use numbers::{DEAD_END, NO_CLEAR_CHOICE};
+use numbers::Refusal;
 use packet::Route;
 
 pub const DEAD_KIND: u8 = 160;
@@ -27,31 +27,34 @@ pub const NO_KIND: u8 = 255;
 pub fn has_via(kind: u8) -> bool
     ensures { result ≡ via_kind kind }
 {
-    both(16 <= kind, kind <= 19)
+    matches!(kind, 16..=19)
 }
 
 // By two.
 pub fn has_vias(kind: u8) -> bool
     ensures { result ≡ vias_kind kind }
 {
-    both(32 <= kind, kind <= 39)
+    matches!(kind, 32..=39)
 }
 
 // By none.
 pub fn is_plain(kind: u8) -> bool
     ensures { result ≡ plain_kind kind }
 {
-    either(kind == 1, either(kind == DEAD_KIND, kind == NONE_KIND))
+    matches!(kind, 1 | DEAD_KIND | NONE_KIND)
 }
 
-fn refused_kind(number: u8) -> u8
-    ensures { result ≡ refused_kind number }
+fn refused_kind(refusal: Refusal) -> u8
+    ensures { result ≡ refused_kind (number refusal) }
 {
-    let other = pick(number == NO_CLEAR_CHOICE, NONE_KIND, NO_KIND);
-    pick(number == DEAD_END, DEAD_KIND, other)
+    match refusal {
+        Refusal::DeadEnd => DEAD_KIND,
+        Refusal::NoClearChoice => NONE_KIND,
+        _ => NO_KIND,
+    }
 }
 
-// The kind of version 3 with the same legs, or the same refusal, as document 01's, of versions 1 and 2.
+// The kind of version 3 with the same legs, or the same refusal, as document 01's, of versions 1 and 2: a table of the document, and so by hand.
 pub fn from_old(kind: u8) -> u8
     ensures { result ≡ from_old kind }
 {
@@ -62,7 +65,9 @@ pub fn from_old(kind: u8) -> u8
         3 => 18,
         4 => 17,
         5 => 19,
-        _ => refused_kind(kind),
+        10 => DEAD_KIND,
+        11 => NONE_KIND,
+        _ => NO_KIND,
     }
 }
 
@@ -92,7 +97,7 @@ pub fn outcome_by(entry: Entry, length: u16) -> Outcome
         0 => Outcome::Given(Route::Direct(one), length),
         1 => Outcome::Given(Route::Via(via, one, two), length),
         2 => Outcome::Given(Route::Vias(via, second, one, two, three), length),
-        _ => Outcome::Refused(vias),
+        _ => Outcome::refused(vias),
     }
 }
 
@@ -101,10 +106,7 @@ fn bit(mode: Mode) -> u8
     ensures value { result ≡ det mode }
     ensures upper_bound { result < 2 }
 {
-    match mode {
-        Mode::Adaptive => 0,
-        Mode::Deterministic => 1,
-    }
+    mode as u8
 }
 
 fn kind_direct(mode: Mode) -> u8
@@ -156,9 +158,9 @@ pub fn entry_for(dest: u16, outcome: Outcome) -> Entry
 {
     match outcome {
         Outcome::Given(route, _) => entry_with(dest, route),
-        Outcome::Refused(number) => Entry {
+        Outcome::Refused(refusal) => Entry {
             dest: dest,
-            kind: refused_kind(number),
+            kind: refused_kind(refusal),
             via: 0,
             second: 0,
         },

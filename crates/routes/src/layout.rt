@@ -1,7 +1,7 @@
 // Where the parts of a route sheet stand, by its format. Byte 0 is the version and bytes 1-2 the length of what follows, as in every sheet. These calls read
 // any bytes, also of a sheet that a check declines; a byte past the end reads as 0.
 ghost use Rattle.std.specs.Prelude.{◌≡◌, ◌+◌, ◌*◌, ◌-◌, ◌<◌};
-ghost use Rattle.routes.specs.Layout.{one_via, third, format_of, source, entry_count, entry_size, entry_place, size_after, kind_byte, kind_in, second_via, entry_in, entry_at};
+ghost use Rattle.routes.specs.Layout.{one_via, format_of, source, entry_count, entry_size, entry_place, size_after, kind_byte, kind_in, second_via, entry_in, entry_at};
 
 use crate::kinds::from_old;
 use sheet::head::version_in;
@@ -27,13 +27,19 @@ pub const ENTRIES_AT: usize = 7;
 // The size of an entry that is written.
 pub const ENTRY_SIZE: usize = 7;
 
+// The format of the one that is written.
+const THIRD: Format = Format {
+    version: VERSION,
+    vias: 2,
+};
+
 // One for each node but the source.
 pub const MOST_ENTRIES: usize = 4095;
 
 // The bytes of the largest sheet.
 pub const SHEET_BYTES: usize = 28672;
 
-// An entry has the kind of version 3, whatever sheet it was read from. A via that it has not is 0.
+// An entry has the kind of version 3, whatever sheet it was read from: a byte and no enum, since a lent sheet may hold any. A via that it has not is 0.
 #[derive(Clone, Copy)]
 pub struct Entry {
     pub dest: u16,
@@ -52,15 +58,6 @@ pub fn one_via(version: u8) -> Format
     }
 }
 
-fn two_vias() -> Format
-    ensures { result ≡ third }
-{
-    Format {
-        version: VERSION,
-        vias: 2,
-    }
-}
-
 // The format in which a sheet is read: version 2's, or else version 3's.
 pub fn format_in(sheet: &[u8]) -> Format
     ensures { result ≡ format_of sheet.now }
@@ -68,7 +65,7 @@ pub fn format_in(sheet: &[u8]) -> Format
     if version_in(sheet) == SECOND_VERSION {
         one_via(SECOND_VERSION)
     } else {
-        two_vias()
+        THIRD
     }
 }
 
@@ -105,7 +102,7 @@ pub fn size_after(format: Format, count: u16) -> usize
     ENTRIES_AT - 3 + (3 + 2 * (format.vias as usize)) * (count as usize)
 }
 
-// The kind byte of entry number i.
+// The kind byte of entry number i. The format stands beside the sheet, since the converter reads a sheet in another than its own.
 pub fn kind_byte(sheet: &[u8], format: Format, i: u16) -> u8
     ensures { result ≡ kind_byte format sheet.now i }
 {

@@ -1,42 +1,36 @@
-// Looking up a destination: its entry as the very bytes of the lent sheet, seven of version 3, five of version 2.
+// Looking up a destination: its entry as the very bytes of the lent sheet, seven of version 3, five of version 2. A call takes the plan, the sheet and the
+// destination one by one, as C lends them (`nafthurm_lookup`).
 ghost use Rattle.std.specs.Prelude.{◌≡◌, ◌+◌, ◌≤◌, length};
+ghost use Rattle.numbers.specs.Refusals.{answer_number};
 ghost use Rattle.plan.specs.Checks.{large};
-ghost use Rattle.routes.specs.Layout.{entries_of};
-ghost use Rattle.routes.specs.Lookup.{find, lookup_error, PartOf, part_start, part_length, part_for};
+ghost use Rattle.routes.specs.Lookup.{find_entry, lookup_error, PartOf, part_start, part_length, part_for};
 
 use crate::checks::check;
 use crate::layout::{count_in, entry_in, entry_place, entry_size, format_in};
-use logic::pick;
 use machine::node::is_node;
-use numbers::NODE_OUTSIDE;
+use numbers::Refusal;
 use plan::layout::shape_in;
 
 // The plan's checks, 13, then 9.
-pub fn lookup_error(plan: &[u8], sheet: &[u8], dest: u16) -> u8
-    ensures { result ≡ lookup_error large plan.now sheet.now dest }
+#[tactic(auto, using(theory::proofs::Checks::declining), unfolding(crate::specs::Lookup::lookup_error))]
+pub fn check_lookup(plan: &[u8], sheet: &[u8], dest: u16) -> Result<(), Refusal>
+    ensures { answer_number result ≡ lookup_error large plan.now sheet.now dest }
 {
-    let error = check(plan, sheet);
-    let outside = pick(is_node(shape_in(plan), dest), 0, NODE_OUTSIDE);
-    pick(error == 0, outside, error)
-}
-
-// The number of the first entry for a destination, or how many entries there are where none is.
-pub fn find_entry(sheet: &[u8], dest: u16) -> u16
-    ensures { result ≡ find (entries_of sheet.now) dest }
-{
-    let count = count_in(sheet);
-    let mut i: u16 = 0;
-    while i < count {
-        let e = entry_in(sheet, i);
-        if e.dest == dest {
-            return i;
-        }
-        i = i + 1;
+    check(plan, sheet)?;
+    if !is_node(shape_in(plan), dest) {
+        return Err(Refusal::NodeOutside);
     }
-    i
+    Ok(())
 }
 
-// Where the bytes of an entry stand in the lent sheet.
+// The number of the first entry for a destination.
+pub fn find_entry(sheet: &[u8], dest: u16) -> Option<u16>
+    ensures { result ≡ find_entry sheet.now dest }
+{
+    (0..count_in(sheet)).find(|i| entry_in(sheet, *i).dest == dest)
+}
+
+// Where the bytes of an entry stand in the lent sheet, as `nafthurm_lookup` gives it.
 #[derive(Clone, Copy)]
 pub struct Part {
     pub start: usize,
@@ -48,18 +42,17 @@ pub fn entry_part(plan: &[u8], sheet: &[u8], dest: u16) -> Part
     ensures value { result ≡ part_for large plan.now sheet.now dest }
     ensures size_in_bounds { result.start + result.size ≤ length sheet.now }
 {
-    if lookup_error(plan, sheet, dest) != 0 {
-        return Part { start: 0, size: 0 };
+    let none = Part { start: 0, size: 0 };
+    if check_lookup(plan, sheet, dest).is_err() {
+        return none;
     }
-    let i = find_entry(sheet, dest);
-    if i < count_in(sheet) {
-        let format = format_in(sheet);
-        Part {
-            start: entry_place(format, i),
-            size: entry_size(format),
-        }
-    } else {
-        Part { start: 0, size: 0 }
+    let Some(i) = find_entry(sheet, dest) else {
+        return none;
+    };
+    let format = format_in(sheet);
+    Part {
+        start: entry_place(format, i),
+        size: entry_size(format),
     }
 }
 

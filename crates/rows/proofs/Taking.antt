@@ -1,5 +1,5 @@
 -- A product taken away from a set of nodes, plane by plane and row by row.
-use Prim.Native.Nat.{ℕ, zero, suc, ◌+◌, ◌-◌, ◌*◌, ◌/◌, ◌%◌, ◌^◌, ◌≤◌, ◌<◌}
+use Prim.Native.Nat.{ℕ, ◌+◌, ◌-◌, ◌*◌, ◌/◌, ◌%◌, ◌^◌, ◌≤◌, ◌<◌}
 use native.Mathlib.Omega.{arith}
 use native.Mathlib.Decide.{ℕ_discrete}
 use mathlib.Core.Path.{◌≡◌, refl, sym, ap, ◌∙◌}
@@ -10,6 +10,7 @@ use lib.ListN.{length, get_or, set, length-set, replicate}
 use lib.Seq.{get_or-set_same, get_or-set_other}
 use lib.Dec.{ltb, eqb}
 use borrow.Author.Tests.{lt-ltb, le-ltb, eq-eqb, ne_eqb, eqb-true}
+use Rattle.std.proofs.lemmas.List.{get_or-replicate}
 use Rattle.theory.proofs.Cases.{test, by_le}
 use Rattle.rows.specs.Bits.{bit}
 use Rattle.rows.specs.Rows.{in_product}
@@ -17,12 +18,6 @@ use Rattle.rows.specs.Product.{Less, Are, product}
 use Rattle.rows.specs.Planes.{kept_row, plane_to, plane_if, product_to, Producing}
 use Rattle.rows.proofs.Bits.{bit_and_law, bit_low, bit_past, bit_not}
 use Rattle.rows.proofs.LowestBit.{bit_down}
-
-module _ {A : Type 0} (d : A) where
-  pub get_d_same : (n k : ℕ) → get_or (replicate n d) k d ≡ d
-  get_d_same zero k = refl
-  get_d_same (suc n) zero = refl
-  get_d_same (suc n) (suc k) = get_d_same n k
 
 -- ---- a list filled from the front
 pub record Filled (f : ℕ → ℕ) (n : ℕ) (l : List ℕ) (i : ℕ) : Type 0 where
@@ -118,9 +113,6 @@ keep_turn plane k old new j v p h e = record {
         rw (eq-eqb (r / 16) k (omega arith), lt-ltb (r % 16) (j + 1) (omega arith), n, q)
         (ap (λ (t : ℕ). bit t x) (get_or-set_same new (16 * k + j) v 0 (fits w) ∙ e) ∙ bit_and_law (get_or new (16 * k + j) 0) (get_or plane j 0) x ∙ rw (not_yet w x m, ← twice (bit (get_or plane j 0) x)))
     at w r x l m (no q) = ap (λ (t : ℕ). bit t x) (get_or-set_other new (16 * k + j) r v 0 q) ∙ p.less.bits w r x l m ∙ rw (same_row r q)
-
-pub keep_end : (plane : List ℕ) (k : ℕ) (old new : List ℕ) (j : ℕ) → Keeping plane k old new j → 16 ≤ j → Less (plane_to plane k 16) old new
-keep_end plane k old new j p h = let m = p.most in let e : j ≡ 16 = omega arith in rw e at p.less
 
 pub is_kept : (b : Bool) (plane : List ℕ) (k : ℕ) (old new : List ℕ) → b ≡ true → Less (plane_to plane k 16) old new → Less (plane_if b plane k) old new
 unfolding plane_if
@@ -275,10 +267,5 @@ product_is bx by bz two three hy hz p q = record { long = q.long ∙ p.long; bit
     at : (r x : ℕ) → r < 256 → x < 16 → bit (get_or three r 0) x ≡ (bit bx x && (bit by (r % 16) && bit bz (r / 16)))
     at r x l m =
         q.bits p.long r x l m
-        ∙ rw (p.bits refl r x l m, filled bx 256 r l, ones x m, ones (r % 16) (omega arith), ones (r / 16) (omega arith), bit_not 16 by (r % 16) hy (omega arith), bit_not 16 bz (r / 16) hz (omega arith))
+        ∙ rw (p.bits refl r x l m, get_or-replicate 256 r bx 0 l, ones x m, ones (r % 16) (omega arith), ones (r / 16) (omega arith), bit_not 16 by (r % 16) hy (omega arith), bit_not 16 bz (r / 16) hz (omega arith))
         (all (bit bx x) (bit by (r % 16)) (bit bz (r / 16)))
-      where
-        filled : (v n k : ℕ) → k < n → get_or (replicate n v) k 0 ≡ v
-        filled v zero k h = absurd (omega arith)
-        filled v (suc n) zero h = refl
-        filled v (suc n) (suc k) h = filled v n k (omega arith)

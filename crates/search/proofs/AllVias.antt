@@ -14,7 +14,9 @@ use Rattle.theory.proofs.Bools.{and_true}
 use Rattle.shape.specs.declared.shape.Shape.{Shape}
 use Rattle.shape.specs.declared.shape.Coords.{Coords}
 use Rattle.shape.specs.declared.shape.Dim.TheVariants.{X, Y, Z}
-use Rattle.shape.specs.Shape.{shape_error, wrapped_in}
+use Rattle.shape.specs.declared.shape.Dim.{Dim}
+use Rattle.shape.specs.declared.axis.Axis.{Axis}
+use Rattle.shape.specs.Shape.{shape_error, extent_of, wrapped_in, axis_of}
 use Rattle.shape.proofs.Shapes.{sound}
 use Rattle.machine.specs.Number.{node_count, number_of, coords_of, Inside}
 use Rattle.machine.specs.ByCoords.{hops_along}
@@ -45,6 +47,13 @@ unfolding part_row
 levels_small len ring p q xs h w k l =
     let most : 2 ^ len ≤ 65536 = pow_mono {i = len} {j = 16} h in
     rw (w.each k l) (omega (arith, row_below (λ c. eqb (part_of len ring p q c) k) len))
+
+-- The parts of a dimension as the code has them, where the question can be asked.
+pub parts_asked :
+    (weight : ℕ) (s : Shape) (d : Dim) (a : Axis) (p q : ℕ) (ys : List ℕ) → a ≡ axis_of s d →
+    (weight ≤ 8 → a.len ≤ 16 → p < a.len → q < a.len → PartsOf weight a.len a.ring p q ys) →
+    weight ≤ 8 → extent_of s d ≤ 16 → p < extent_of s d → q < extent_of s d → PartsOf weight (extent_of s d) (wrapped_in s d) p q ys
+parts_asked weight s d a p q ys e made = rw e at made
 
 -- The length by way of a node, dimension by dimension.
 pub length_parts :
@@ -140,11 +149,3 @@ module _ (w : Weights) (s : Shape) (S D : Coords) (fa fd to : List ℕ) (at : �
       each = λ v l. rw (number_coords s h v) at (found.each _ (here (coords_of s v) (inside s h v l)));
       one = ⊎_elim inl (λ p. inr (there r p)) found.one;
     }
-
--- With the wraps as the code has them.
-pub all_found :
-    (w : Weights) (s : Shape) (S D : Coords) (fa fd to : List ℕ) (at : ℕ) → askable w s S D (length to) at ≡ true → (xs ys zs : List ℕ) (rx ry rz : Bool) →
-    rx ≡ wrapped_in s X → ry ≡ wrapped_in s Y → rz ≡ wrapped_in s Z →
-    LevelsOf s.x rx S.x D.x xs → PartsOf w.y s.y ry S.y D.y ys → PartsOf w.z s.z rz S.z D.z zs →
-    (r : ℕ) → Lowers unclear r (SpaceHas s w.x xs ys zs fa fd to at s.z) → LeastOf (node_count s) (number_in w s S D fa fd to at) r
-all_found w s S D fa fd to at ask xs ys zs rx ry rz ex ey ez wx wy wz = all_vias w s S D fa fd to at ask xs ys zs (rw ex at wx) (rw ey at wy) (rw ez at wz)

@@ -1,3 +1,4 @@
+pub mod Checked
 pub mod Clip
 pub mod Seeking
 pub mod Scatter

@@ -3,7 +3,7 @@ use Prim.Native.Nat.{ℕ, ◌+◌, ◌*◌, ◌^◌, ◌≤◌, ◌<◌}
 use native.Mathlib.Omega.{arith}
 use native.Mathlib.Nat.{mul-le-mul_left}
 use native.Mathlib.Numerals.{add-one}
-use mathlib.Core.Path.{◌≡◌, refl, sym, ap, ◌∙◌}
+use mathlib.Core.Path.{◌≡◌, refl, ◌∙◌}
 use mathlib.Core.Bool.{Bool, true, cond}
 use mathlib.Core.List.{List}
 use lib.Dec.{ltb}
@@ -27,31 +27,36 @@ use Rattle.search.specs.PartOf.{part_of, PartsOf}
 use Rattle.search.specs.Near.{near_row, NearWays}
 use Rattle.search.proofs.AllVias.{length_parts}
 
--- ---- a row made place by place
-pub record Rowing (f : ℕ → Bool) (row power c : ℕ) : Type 0 where
-  pub made : row ≡ row_of f c
-  pub is : power ≡ 2 ^ c
+-- ---- a row made place by place, of each test that agrees with what was asked
+module _ (Agrees : (ℕ → Bool) → Type 0) where
+  pub record Rowing (row power c : ℕ) : Type 0 where
+    pub below : row < power
+    pub is : power ≡ 2 ^ c
+    pub made : (f : ℕ → Bool) → Agrees f → row ≡ row_of f c
 
-module _ (f : ℕ → Bool) where
-  pub rowing_begin : Rowing f 0 1 0
+  pub rowing_begin : Rowing 0 1 0
   unfolding row_of
-  rowing_begin = record { made = refl; is = refl }
+  rowing_begin = record { below = omega arith; is = refl; made = λ f a. refl }
 
-  pub rowing_fits : (row power c more : ℕ) → Rowing f row power c → c < 16 → more ≡ cond (f c) power 0 → (power ≤ 32768) × (row + more < 65536)
-  rowing_fits row power c more w l e =
+  pub rowing_fits : (row power c more : ℕ) (b : Bool) → Rowing row power c → c < 16 → more ≡ cond b power 0 → (power ≤ 32768) × (more ≤ power) × (row + more < 65536)
+  rowing_fits row power c more b w l e =
       let most : 2 ^ c ≤ 32768 = pow_mono {i = c} {j = 15} (omega arith) in
-      let low : more ≤ power = test (f c) (λ t. rw (e, t) (omega arith)) (λ t. rw (e, t) (omega arith)) in
-      (omega (arith, w.is), omega (arith, w.is, w.made, row_below f c))
+      let low : more ≤ power = test b (λ t. rw (e, t) (omega arith)) (λ t. rw (e, t) (omega arith)) in
+      (omega (arith, w.is), low, omega (arith, w.is, w.below))
 
-  pub rowing_turn : (row power c more : ℕ) → Rowing f row power c → more ≡ cond (f c) power 0 → Rowing f (row + more) (2 * power) (c + 1)
+  pub rowing_turn : (row power c more : ℕ) (b : Bool) → Rowing row power c → c < 16 → more ≡ cond b power 0 → ((f : ℕ → Bool) → Agrees f → b ≡ f c) → Rowing (row + more) (power * 2) (c + 1)
   unfolding row_of
-  rowing_turn row power c more w e = record {
-    made = rw (add-one c) (omega (arith, e ∙ ap (λ (n : ℕ). cond (f c) n 0) w.is, w.made));
-    is = rw (add-one c) (ap (λ (n : ℕ). 2 * n) w.is ∙ sym (double c));
+  rowing_turn row power c more b w l e same = record {
+    below = let q = rowing_fits row power c more b w l e in omega (arith, q.1, w.below);
+    is = rw (add-one c) (omega (arith, w.is, double c));
+    made = λ f a. rw (add-one c) (omega (arith, value f a, w.made f a));
   }
+    where
+      value : (f : ℕ → Bool) → Agrees f → more ≡ cond (f c) (2 ^ c) 0
+      value f a = rw (← same f a, ← w.is) e
 
-  pub rowing_below : (row power c : ℕ) → Rowing f row power c → c ≤ 16 → row < 65536
-  rowing_below row power c w l = let most : 2 ^ c ≤ 65536 = pow_mono {i = c} {j = 16} l in omega (arith, w.made, row_below f c)
+  pub rowing_below : (row power c : ℕ) → Rowing row power c → c ≤ 16 → row < 65536
+  rowing_below row power c w l = let most : 2 ^ c ≤ 65536 = pow_mono {i = c} {j = 16} l in omega (arith, w.is, w.below)
 
 -- Rows of the same tests are the same.
 pub same_row : (f g : ℕ → Bool) (n : ℕ) → ((c : ℕ) → c < n → f c ≡ g c) → row_of f n ≡ row_of g n

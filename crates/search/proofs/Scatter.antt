@@ -4,7 +4,7 @@ use native.Mathlib.Omega.{arith}
 use native.Mathlib.Nat.{mul-le-mul}
 use native.Mathlib.Numerals.{add-one}
 use native.Mathlib.Decide.{ℕ_discrete}
-use mathlib.Core.Path.{◌≡◌, refl, sym, ap, ◌∙◌}
+use mathlib.Core.Path.{◌≡◌, refl, sym, ◌∙◌}
 use mathlib.Core.Bool.{Bool, true}
 use mathlib.Core.List.{List}
 use lib.Dec.{eqb}
@@ -62,11 +62,11 @@ module _ (f : ℕ → ℕ) where
       let e = p.power in
       (omega arith, omega (arith, p.rows j k, row_below (λ n. eqb (f n) j) x))
 
-  pub scatter_turn : (xs : List ℕ) (bit x j : ℕ) → Scatter xs bit x → j ≡ f x → j < 32 → Scatter (set xs j (get_or xs j 0 + bit)) (2 * bit) (x + 1)
+  pub scatter_turn : (xs : List ℕ) (bit x j : ℕ) → Scatter xs bit x → j ≡ f x → j < 32 → Scatter (set xs j (get_or xs j 0 + bit)) (bit * 2) (x + 1)
   unfolding row_of
   scatter_turn xs bit x j p e l = record {
     long = length-set xs j (get_or xs j 0 + bit) ∙ p.long;
-    power = rw (add-one x) (ap (λ (n : ℕ). 2 * n) p.power ∙ sym (double x));
+    power = rw (add-one x) (omega (arith, p.power, double x));
     rows = λ k m. go k m (ℕ_discrete k j);
   }
     where

@@ -2,23 +2,19 @@
 ghost use Rattle.std.specs.Prelude.{◌≤◌, ◌<◌};
 ghost use Rattle.search.specs.PartOf.{PartsOf};
 
-use crate::parts::parts;
+use crate::parts::part;
+use shape::Axis;
 
-// Nothing where the weight, the length or a place is outside.
-pub fn parts_along(weight: u8, len: u8, ring: bool, p: u8, q: u8) -> [u8; 16]
-    ensures { weight ≤ 8 → len ≤ 16 → p < len → q < len → PartsOf weight len ring p q result }
+// Of each place, by the dimension's weight; nothing where the weight, the length or a place is outside.
+pub fn parts_along(weight: u8, axis: Axis, p: u8, q: u8) -> [u8; 16]
+    ensures { weight ≤ 8 → axis.len ≤ 16 → p < axis.len → q < axis.len → PartsOf weight axis.len axis.ring p q result }
 {
-    if 8 < weight {
-        return [0u8; 16];
+    let mut ys = [0u8; 16];
+    if 8 < weight || 16 < axis.len || axis.len <= p || axis.len <= q {
+        return ys;
     }
-    if 16 < len {
-        return [0u8; 16];
+    for c in 0..axis.len {
+        ys[c as usize] = weight * part(axis, p, q, c);
     }
-    if len <= p {
-        return [0u8; 16];
-    }
-    if len <= q {
-        return [0u8; 16];
-    }
-    parts(weight, len, ring, p, q)
+    ys
 }

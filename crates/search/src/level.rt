@@ -1,33 +1,19 @@
 // The least number of a via in one row.
-ghost use Rattle.std.specs.Prelude.{◌≡◌, ℕ, min, ◌*◌, ◌≤◌, ◌<◌, get_or};
+ghost use Rattle.std.specs.Prelude.{◌≡◌, ℕ, ◌*◌, ◌≤◌, ◌<◌, IfSome, unwrap_or, get_or};
 ghost use Rattle.rows.specs.Bits.{bit};
 ghost use Rattle.search.specs.Number.{unclear, det_of};
 ghost use Rattle.search.specs.RowNumber.{LevelOf, LeastPlace, RowHas, Lowers};
 
+use crate::dets::det_at;
+use machine::leg::ByMode;
 use rows::next::next_set;
 
-// The first level, from `least` on, that has a place of the set; 32 where there is none.
-pub fn level(set: u16, xs: &[u16; 32], least: u8) -> u8
-    ensures { LevelOf set xs.now least result }
+// The first level, from `least` on, that has a place of the set.
+pub fn level(set: u16, xs: &[u16; 32], least: u8) -> Option<u8>
+    ensures small { IfSome result (λ k. k < 32) }
+    ensures first { LevelOf set xs.now least (unwrap_or result 32) }
 {
-    let mut k = least;
-    while k < 32 {
-        let i = k as usize;
-        if set & xs[i] != 0 {
-            return k;
-        }
-        k = k + 1;
-    }
-    32
-}
-
-// 0 for a place of the set, 1 for another.
-fn absent(set: u16, x: u8) -> u32
-    requires { x < 16 }
-    ensures { (result ≡ det_of (bit set x)) × (result ≤ 1) }
-{
-    let b = (set >> (x as u16)) % 2;
-    if b == 1 { 0 } else { 1 }
+    (least..32).find(|k| set & xs[*k as usize] != 0)
 }
 
 // The least of the places of a level: fewest deterministic legs, then the lowest place. a1, a2: the places whose first, second leg is clear in the
@@ -43,15 +29,9 @@ fn of_level(set: u16, a1: u16, a2: u16) -> u32
     let one = set & (a1 | a2);
     if one != 0 {
         let x = next_set(one, 0);
-        return 16384 + 2 * x as u32 + absent(a1, x);
+        return 16384 + 2 * x as u32 + det_at(a1, x);
     }
     32769 + 2 * next_set(set, 0) as u32
-}
-
-fn lesser(a: u32, b: u32) -> u32
-    ensures { result ≡ min a b }
-{
-    if a < b { a } else { b }
 }
 
 // What so many hops along X make of a length.
@@ -62,34 +42,31 @@ pub fn weighed(weight: u8, hops: u8) -> u32
     weight as u32 * hops as u32
 }
 
-// weight: that of X. base: what the other dimensions make of the length. first: the number of the row's first node. a1, d1, a2, d2: the places whose first and second leg is
-// clear, adaptive and deterministic.
+// weight: that of X. base: what the other dimensions make of the length. first: the number of the row's first node. out, back: the places whose first leg, whose
+// second leg is clear.
 pub fn row(
     weight: u8,
     xs: &[u16; 32],
     least: u8,
     base: u16,
     first: u16,
-    a1: u16,
-    d1: u16,
-    a2: u16,
-    d2: u16,
+    out: ByMode<u16>,
+    back: ByMode<u16>,
     best: u32,
 ) -> u32
     requires le_weight { ((1 ≤ weight) × (weight ≤ 8)) × (base ≤ 510) × (best ≤ unclear) }
     requires by_index { (k : ℕ) → k < least → get_or xs.now k 0 ≡ 0 }
-    ensures { Lowers best result (RowHas weight xs.now base first a1 d1 a2 d2) }
+    ensures { Lowers best result (RowHas weight xs.now base first out.adaptive out.deterministic back.adaptive back.deterministic) }
 {
-    let set = d1 & d2;
+    let set = out.deterministic & back.deterministic;
     if set == 0 {
         return best;
     }
-    let k = level(set, xs, least);
-    if 32 <= k {
+    let Some(k) = level(set, xs, least) else {
         return best;
-    }
-    let i = k as usize;
+    };
     let length = base as u32 + weighed(weight, k);
-    let place = of_level(set & xs[i], a1, a2);
-    lesser(length * 65536 + (8192 + 2 * first as u32) + place, best)
+    let place = of_level(set & xs[k as usize], out.adaptive, back.adaptive);
+    let number = length * 65536 + (8192 + 2 * first as u32) + place;
+    number.min(best)
 }

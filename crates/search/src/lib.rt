@@ -3,8 +3,11 @@
 
 pub mod along;
 pub mod best;
+pub mod dets;
 mod level;
+pub mod listed;
 pub mod lowest;
+mod marks;
 pub mod near;
 pub mod outward;
 mod parts;

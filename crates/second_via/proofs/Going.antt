@@ -66,5 +66,9 @@ module _ (len mask : ℕ) (at : ℕ → ℕ → Type 0) (known : ℕ) where
       let j = next_on len mask at i w h l p.going n in
       record { going = going mask (i + 1) w n; low = lower_both known best r p.low q j.split j.left j.right }
 
+  -- A turn of a loop over them.
+  pub seek_turn : (now x next best r : ℕ) → len ≤ 16 → Seeking now best → (x ≡ now) × (x < len) × NextSet mask (x + 1) next → Lowers best r (at x) → Seeking next r
+  seek_turn now x next best r h p t q = seek_on x next best r h t.1 (rw (← t.0) at p) q t.2
+
   pub seek_end : (i best : ℕ) → len ≤ i → Seeking i best → Lowers known best (All len (bit mask) at)
   seek_end i best l p = lower_same known best p.low (some_all len mask at i) (all_some len mask at i l)

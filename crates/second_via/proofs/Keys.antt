@@ -1,13 +1,14 @@
 -- The least number of a value and its node is the lowest node of the least value.
-use Prim.Native.Nat.{ℕ, ◌+◌, ◌-◌, ◌*◌, ◌%◌, ◌≤◌, ◌<◌}
+use Prim.Native.Nat.{ℕ, min, ◌+◌, ◌-◌, ◌*◌, ◌%◌, ◌≤◌, ◌<◌}
 use native.Mathlib.Omega.{arith}
 use mathlib.Core.Path.{◌≡◌, refl, sym, ap, ◌∙◌}
-use mathlib.Core.Logic.{inr, ⊎_elim}
+use mathlib.Core.Logic.{inl, inr, ⊎_elim}
 use mathlib.Core.Bool.{Bool, true, false}
 use mathlib.Core.List.{List}
 use lib.ListN.{length, get_or}
 use borrow.Author.Tests.{eq-eqb, ne_eqb}
 use Rattle.theory.proofs.Bools.{and_true}
+use Rattle.theory.proofs.Cases.{by_le}
 use Rattle.shape.specs.declared.shape.Shape.{Shape}
 use Rattle.shape.specs.declared.shape.Coords.{Coords}
 use Rattle.shape.specs.declared.shape.Dim.TheVariants.{X}
@@ -18,21 +19,20 @@ use Rattle.machine.proofs.Numbers.{number_below, coords_number, number_coords, n
 use Rattle.rows.specs.Bits.{bit}
 use Rattle.search.specs.FirstVia.{has_rows, in_all, is_via}
 use Rattle.search.specs.RowNumber.{Lowers}
-use Rattle.search.proofs.Lowering.{kept, lower_same}
+use Rattle.search.proofs.Lowering.{lower_same}
 use Rattle.search.proofs.Seeking.{clash, count_all, parts, whole, test_is, meet_bit}
 use Rattle.second_via.specs.Least.{LeastAt}
 use Rattle.second_via.specs.Nodes.{first_of, key_of, RowKeys, SpaceKeys}
 use Rattle.second_via.proofs.Going.{all_at}
 
 -- ---- one node
-pub taken : (a b : ℕ) → a < b → Lowers b a (λ n. n ≡ a)
-taken a b l = record { low = omega arith; each = λ n e. omega arith; one = inr refl }
-
-pub left : (a b : ℕ) → b ≤ a → Lowers b b (λ n. n ≡ a)
-left a b l = kept b (λ n e. omega arith)
-
-pub same_key : (a k best r : ℕ) → a ≡ k → Lowers best r (λ n. n ≡ a) → Lowers best r (λ n. n ≡ k)
-same_key a k best r e w = rw e at w
+-- The lesser of its key and the best.
+pub lesser_key : (a k best r : ℕ) → a ≡ k → r ≡ min a best → Lowers best r (λ n. n ≡ k)
+lesser_key a k best r e q = record {
+  low = omega arith;
+  each = λ n f. omega arith;
+  one = by_le best a (λ l. inl (omega arith)) (λ l. inr (omega arith));
+}
 
 -- ---- a row's first node
 pub row_number_law : (s : Shape) (c : Coords) → first_of s c.y c.z + c.x ≡ number_of s c

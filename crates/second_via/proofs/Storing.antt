@@ -69,5 +69,9 @@ module _ (len mask : ℕ) (at : ℕ → Cell → Type 0) (old : List ℕ) where
   pub store_on : (i w : ℕ) (new more : List ℕ) → len ≤ 16 → i < len → Storing i new → Stored new more (at i) → NextSet mask (i + 1) w → Storing w more
   store_on i w new more h l p q n = record { going = going mask (i + 1) w n; stored = stored_both old new more p.stored q (next_on len mask at i w h l p.going n) }
 
+  -- A turn of a loop over them.
+  pub store_turn : (now x next : ℕ) (new more : List ℕ) → len ≤ 16 → Storing now new → (x ≡ now) × (x < len) × NextSet mask (x + 1) next → Stored new more (at x) → Storing next more
+  store_turn now x next new more h p t q = store_on x next new more h t.1 (rw (← t.0) at p) q t.2
+
   pub store_end : (i : ℕ) (new : List ℕ) → len ≤ i → Storing i new → Stored old new (All len (bit mask) at)
   store_end i new l p = stored_same old new p.stored (some_all len mask at i) (all_some len mask at i l)

@@ -13,8 +13,9 @@ use Rattle.theory.proofs.Bools.{and_true}
 use Rattle.theory.proofs.Cases.{test}
 use Rattle.shape.specs.declared.shape.Shape.{Shape}
 use Rattle.shape.specs.declared.shape.Coords.{Coords}
+use Rattle.shape.specs.declared.axis.Axis.{Axis}
 use Rattle.shape.specs.declared.shape.Dim.TheVariants.{X, Y, Z}
-use Rattle.shape.specs.Shape.{shape_error, wrapped_in}
+use Rattle.shape.specs.Shape.{shape_error, wrapped_in, axis_of}
 use Rattle.shape.proofs.Shapes.{sound}
 use Rattle.machine.specs.Number.{node_count, number_of, coords_of, Inside}
 use Rattle.machine.proofs.Numbers.{number_below, coords_number, inside}
@@ -27,7 +28,7 @@ use Rattle.rows.proofs.Bits.{bit_and_law}
 use Rattle.search.specs.BestVia.{askable}
 use Rattle.search.specs.Number.{unclear, det_of}
 use Rattle.search.specs.PartOf.{PartsOf}
-use Rattle.search.proofs.AllVias.{asks, length_parts}
+use Rattle.search.proofs.AllVias.{asks, parts_asked, length_parts}
 use Rattle.search.proofs.Seeking.{clash, in_run}
 use Rattle.second_via.specs.Nodes.{sum_of, Stored, RowSums, SpaceSums}
 use Rattle.second_via.specs.Reach.{reaches, reach_in}
@@ -137,18 +138,18 @@ module _
         (λ b. outside w l (rw (ask, a, b)) (λ n m. clash _ m.box b)))
         (λ a. outside w l (rw (ask, a)) (λ n m. clash _ m.below a))
 
--- With the wraps as the code has them.
+-- With the dimensions as the code has them.
 pub reached :
-    (k : Weights) (s : Shape) (A T : Coords) (bx by bz : ℕ) (notes to : List ℕ) (at : ℕ) → askable k s A T (length to) at ≡ true → (xs ys zs : List ℕ) (rx ry rz : Bool) →
-    rx ≡ wrapped_in s X → ry ≡ wrapped_in s Y → rz ≡ wrapped_in s Z →
-    (k.x ≤ 8 → s.x ≤ 16 → A.x < s.x → T.x < s.x → PartsOf k.x s.x rx A.x T.x xs) →
-    (k.y ≤ 8 → s.y ≤ 16 → A.y < s.y → T.y < s.y → PartsOf k.y s.y ry A.y T.y ys) →
-    (k.z ≤ 8 → s.z ≤ 16 → A.z < s.z → T.z < s.z → PartsOf k.z s.z rz A.z T.z zs) →
+    (k : Weights) (s : Shape) (A T : Coords) (bx by bz : ℕ) (notes to : List ℕ) (at : ℕ) → askable k s A T (length to) at ≡ true → (xs ys zs : List ℕ) (a b c : Axis) →
+    a ≡ axis_of s X → b ≡ axis_of s Y → c ≡ axis_of s Z →
+    (k.x ≤ 8 → a.len ≤ 16 → A.x < a.len → T.x < a.len → PartsOf k.x a.len a.ring A.x T.x xs) →
+    (k.y ≤ 8 → b.len ≤ 16 → A.y < b.len → T.y < b.len → PartsOf k.y b.len b.ring A.y T.y ys) →
+    (k.z ≤ 8 → c.len ≤ 16 → A.z < c.len → T.z < c.len → PartsOf k.z c.len c.ring A.z T.z zs) →
     (old new : List ℕ) → Stored old new (SpaceSums s xs ys zs bx by bz notes to at) → length old ≡ 4096 → ((w : ℕ) → w < 4096 → get_or old w 0 ≡ unclear) →
     (w : ℕ) → w < 4096 → get_or new w 0 ≡ reach_in k s A T bx by bz notes to at w
-reached k s A T bx by bz notes to at ask xs ys zs rx ry rz ex ey ez px py pz =
-    let a = asks k s A T (length to) at ask in
+reached k s A T bx by bz notes to at ask xs ys zs a b c ea eb ec px py pz =
+    let q = asks k s A T (length to) at ask in
     all_reached k s A T bx by bz notes to at ask xs ys zs
-    (rw ex at (px (good k a.weights X).high (sound s a.sound X).high a.source.x a.target.x))
-    (rw ey at (py (good k a.weights Y).high (sound s a.sound Y).high a.source.y a.target.y))
-    (rw ez at (pz (good k a.weights Z).high (sound s a.sound Z).high a.source.z a.target.z))
+    (parts_asked k.x s X a A.x T.x xs ea px (good k q.weights X).high (sound s q.sound X).high q.source.x q.target.x)
+    (parts_asked k.y s Y b A.y T.y ys eb py (good k q.weights Y).high (sound s q.sound Y).high q.source.y q.target.y)
+    (parts_asked k.z s Z c A.z T.z zs ec pz (good k q.weights Z).high (sound s q.sound Z).high q.source.z q.target.z)

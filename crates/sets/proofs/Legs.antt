@@ -1,81 +1,78 @@
 -- One leg: each loss is tried, dimension by dimension.
-use Prim.Native.Nat.{ℕ, zero, suc, ◌+◌, ◌/◌, ◌%◌, ◌≤◌, ◌<◌, min}
+use Prim.Native.Nat.{ℕ, zero, suc, ◌/◌, ◌≤◌, ◌<◌}
 use mathlib.Core.Bool.{Bool, true, false, not, ◌||◌, ◌&&◌}
-use mathlib.Core.Path.{◌≡◌, refl, sym, ◌∙◌}
-use mathlib.Core.List.{List}
-use native.Mathlib.Omega.{arith}
-use native.Mathlib.Numerals.{add-one}
-use lib.ListN.{get_or}
+use mathlib.Core.Path.{◌≡◌, refl, sym, ap, ◌∙◌}
+use mathlib.Core.List.{List, [], ◌∷◌}
+use Rattle.std.specs.List.{list_any}
+use lib.ListN.{length, get_or}
 use borrow.Author.Tests.{lt-ltb, le-ltb, eq-eqb, ne_eqb}
-use Rattle.theory.proofs.Cases.{by_le}
 use Rattle.shape.specs.declared.shape.Shape.{Shape}
 use Rattle.shape.specs.declared.shape.Coords.{Coords}
+use Rattle.shape.specs.declared.shape.Dim.{Dim}
 use Rattle.shape.specs.declared.shape.Dim.TheVariants.{X, Y, Z}
-use Rattle.shape.specs.Shape.{wrapped_in}
 use Rattle.machine.specs.declared.leg.Mode.{Mode}
 use Rattle.machine.specs.Hop.{rule}
 use Rattle.losses.specs.Loss.{loss_at, loss_meets, some_below, on_leg}
-use Rattle.masks.specs.Cell.{cell}
-use Rattle.sets.specs.Part.{column, cell_in, cells_in, dead_cells, loss_cells}
+use Rattle.masks.specs.Masks.{dim_at}
+use Rattle.sets.specs.Part.{dim_number, cell_in, cells_in, dead_cells, loss_cells}
 use Rattle.sets.proofs.Columns.{loss_met}
 
-and_false : (b : Bool) → (b && false) ≡ false
-and_false true = refl
-and_false false = refl
+-- ---- `&&` and `||` of two tests, as they are joined
+module _ (x X y Y v : Bool) where
+  pub and_then : x ≡ X → x ≡ true → y ≡ Y → v ≡ y → v ≡ (X && Y)
+  and_then ex t ey ev = rw (← ex, t, ev, ey)
 
-and_true : (b : Bool) → (b && true) ≡ b
-and_true true = refl
-and_true false = refl
+  pub or_else : x ≡ X → x ≡ false → y ≡ Y → v ≡ y → v ≡ (X || Y)
+  or_else ex t ey ev = rw (← ex, t, ev, ey)
 
--- ---- one product: the first dimension that misses decides
+module _ (x X Y v : Bool) where
+  pub and_else : x ≡ X → x ≡ false → v ≡ x → v ≡ (X && Y)
+  and_else ex t ev = rw (← ex, ev, t)
+
+  pub or_then : x ≡ X → x ≡ true → v ≡ x → v ≡ (X || Y)
+  or_then ex t ev = rw (← ex, ev, t)
+
+pub dim_back : (d : Dim) → dim_at (dim_number d) ≡ d
+dim_back X = refl
+dim_back Y = refl
+dim_back Z = refl
+
+-- ---- one product, in the order of the tests
 module _ (m : Mode) (s : Shape) (kind w : ℕ) (a t : Coords) where
-  pub along_x : (ring r : Bool) → ring ≡ wrapped_in s X → r ≡ cell m s.x ring (column kind 0) (w % 16) a.x t.x → r ≡ cell_in m s kind 0 (loss_at w) a t
-  unfolding cell_in
-  along_x ring r e q = q ∙ rw e
+  abbrev pub x_in : Bool
+  x_in = cell_in m s kind 0 (loss_at w) a t
 
-  pub along_y : (ring r : Bool) → ring ≡ wrapped_in s Y → r ≡ cell m s.y ring (column kind 1) (w / 16 % 16) a.y t.y → r ≡ cell_in m s kind 1 (loss_at w) a t
-  unfolding cell_in
-  along_y ring r e q = q ∙ rw e
+  abbrev pub y_in : Bool
+  y_in = cell_in m s kind 1 (loss_at w) a t
 
-  pub along_z : (ring r : Bool) → ring ≡ wrapped_in s Z → r ≡ cell m s.z ring (column kind 2) (w / 256 % 16) a.z t.z → r ≡ cell_in m s kind 2 (loss_at w) a t
-  unfolding cell_in
-  along_z ring r e q = q ∙ rw e
+  abbrev pub z_in : Bool
+  z_in = cell_in m s kind 2 (loss_at w) a t
 
-  pub misses_x : (x : Bool) → x ≡ cell_in m s kind 0 (loss_at w) a t → x ≡ false → false ≡ cells_in m s kind (loss_at w) a t
+  pub x_first : (v : Bool) → v ≡ ((x_in && y_in) && z_in) → v ≡ cells_in m s kind (loss_at w) a t
   unfolding cells_in
-  misses_x x e k = rw (← e, k)
+  x_first v e = e ∙ go x_in y_in
+    where
+      go : (a b : Bool) → ((a && b) && z_in) ≡ (a && (b && z_in))
+      go true b = refl
+      go false b = refl
 
-  pub misses_y : (x y : Bool) → x ≡ cell_in m s kind 0 (loss_at w) a t → x ≡ true → y ≡ cell_in m s kind 1 (loss_at w) a t → y ≡ false → false ≡ cells_in m s kind (loss_at w) a t
+  pub x_last : (v : Bool) → v ≡ ((y_in && z_in) && x_in) → v ≡ cells_in m s kind (loss_at w) a t
   unfolding cells_in
-  misses_y x y e k f l = rw (← e, k, ← f, l)
+  x_last v e = e ∙ go x_in (y_in && z_in)
+    where
+      go : (a b : Bool) → (b && a) ≡ (a && b)
+      go true true = refl
+      go true false = refl
+      go false true = refl
+      go false false = refl
 
-  pub meets_z : (x y z : Bool) → x ≡ cell_in m s kind 0 (loss_at w) a t → x ≡ true → y ≡ cell_in m s kind 1 (loss_at w) a t → y ≡ true → z ≡ cell_in m s kind 2 (loss_at w) a t → z ≡ cells_in m s kind (loss_at w) a t
-  unfolding cells_in
-  meets_z x y z e k f l g = g ∙ rw (← e, k, ← f, l)
-
-  pub misses_y_first : (y : Bool) → y ≡ cell_in m s kind 1 (loss_at w) a t → y ≡ false → false ≡ cells_in m s kind (loss_at w) a t
-  unfolding cells_in
-  misses_y_first y e k = rw (← e, k) (sym (and_false (cell_in m s kind 0 (loss_at w) a t)))
-
-  pub misses_z : (y z : Bool) → y ≡ cell_in m s kind 1 (loss_at w) a t → y ≡ true → z ≡ cell_in m s kind 2 (loss_at w) a t → z ≡ false → false ≡ cells_in m s kind (loss_at w) a t
-  unfolding cells_in
-  misses_z y z e k f l = rw (← e, k, ← f, l) (sym (and_false (cell_in m s kind 0 (loss_at w) a t)))
-
-  pub meets_x : (x y z : Bool) → y ≡ cell_in m s kind 1 (loss_at w) a t → y ≡ true → z ≡ cell_in m s kind 2 (loss_at w) a t → z ≡ true → x ≡ cell_in m s kind 0 (loss_at w) a t → x ≡ cells_in m s kind (loss_at w) a t
-  unfolding cells_in
-  meets_x x y z e k f l g = g ∙ rw (← e, k, ← f, l) (sym (and_true (cell_in m s kind 0 (loss_at w) a t)))
-
-pub dead_first : (m : Mode) (s : Shape) (u a t : Coords) (x : Bool) → x ≡ cells_in m s 9 u a t → x ≡ true → true ≡ dead_cells m s u a t
+pub dead_is : (m : Mode) (s : Shape) (u a t : Coords) (v : Bool) → v ≡ ((cells_in m s 9 u a t || cells_in m s 10 u a t) || cells_in m s 11 u a t) → v ≡ dead_cells m s u a t
 unfolding dead_cells
-dead_first m s u a t x e k = rw (← e, k)
-
-pub dead_second : (m : Mode) (s : Shape) (u a t : Coords) (x y : Bool) → x ≡ cells_in m s 9 u a t → x ≡ false → y ≡ cells_in m s 10 u a t → y ≡ true → true ≡ dead_cells m s u a t
-unfolding dead_cells
-dead_second m s u a t x y e k f l = rw (← e, k, ← f, l)
-
-pub dead_third : (m : Mode) (s : Shape) (u a t : Coords) (x y z : Bool) → x ≡ cells_in m s 9 u a t → x ≡ false → y ≡ cells_in m s 10 u a t → y ≡ false → z ≡ cells_in m s 11 u a t → z ≡ dead_cells m s u a t
-unfolding dead_cells
-dead_third m s u a t x y z e k f l g = g ∙ rw (← e, k, ← f, l)
+dead_is m s u a t v e = e ∙ go (cells_in m s 9 u a t) (cells_in m s 10 u a t) (cells_in m s 11 u a t)
+  where
+    go : (x y z : Bool) → ((x || y) || z) ≡ (x || (y || z))
+    go true y z = refl
+    go false y z = refl
 
 -- ---- one loss
 pub loss_part : (m : Mode) (s : Shape) (w : ℕ) (a t : Coords) (r : Bool) → w / 4096 < 9 → r ≡ cells_in m s (w / 4096) (loss_at w) a t → r ≡ loss_meets rule m s w a t
@@ -90,32 +87,23 @@ pub loss_none : (m : Mode) (s : Shape) (w : ℕ) (a t : Coords) → 9 ≤ w / 40
 unfolding loss_cells
 loss_none m s w a t h k = rw (le-ltb (w / 4096) 9 h, ne_eqb (w / 4096) 9 k) at (loss_met m s w a t)
 
--- ---- the losses so far
-pub record Trying (m : Mode) (s : Shape) (losses : List ℕ) (a t : Coords) (n i : ℕ) : Type 0 where
-  pub most : i ≤ n
-  pub clipped : n ≤ 256
-  pub none_yet : on_leg rule m s losses i a t ≡ false
-
-pub try_begin : (m : Mode) (s : Shape) (losses : List ℕ) (a t : Coords) (count n : ℕ) → n ≡ min count 256 → Trying m s losses a t n 0
-unfolding on_leg some_below
-try_begin m s losses a t count n e = record { most = omega arith; clipped = omega arith; none_yet = refl }
-
-pub try_turn : (m : Mode) (s : Shape) (losses : List ℕ) (a t : Coords) (n i : ℕ) → Trying m s losses a t n i → i < n → loss_meets rule m s (get_or losses i 0) a t ≡ false → Trying m s losses a t n (i + 1)
-unfolding on_leg some_below
-try_turn m s losses a t n i p h e = record { most = omega arith; clipped = p.clipped; none_yet = rw (add-one i, e) p.none_yet }
-
-some_at : (n : ℕ) (f : ℕ → Bool) (i : ℕ) → i < n → f i ≡ true → some_below n f ≡ true
+-- ---- one of all
+-- The first of them apart.
+some_first : (n : ℕ) (f : ℕ → Bool) → some_below (suc n) f ≡ (f 0 || some_below n (λ i. f (suc i)))
 unfolding some_below
-some_at zero f i h e = absurd (omega arith)
-some_at (suc n) f i h e = by_le n i (λ l. let q : n ≡ i = omega arith in rw (q, e)) (λ l. rw (some_at n f i l e) (or_true (f n)))
+some_first zero f = refl
+some_first (suc n) f = ap (λ (b : Bool). f (suc n) || b) (some_first n f) ∙ swap (f (suc n)) (f 0) (some_below n (λ i. f (suc i)))
   where
-    or_true : (b : Bool) → (b || true) ≡ true
-    or_true true = refl
-    or_true false = refl
+    swap : (a b c : Bool) → (a || (b || c)) ≡ (b || (a || c))
+    swap true true c = refl
+    swap true false c = refl
+    swap false b c = refl
 
-pub try_met : (m : Mode) (s : Shape) (losses : List ℕ) (a t : Coords) (count n i : ℕ) → n ≡ min count 256 → i < n → loss_meets rule m s (get_or losses i 0) a t ≡ true → false ≡ not (on_leg rule m s losses (min count 256) a t)
+any_below : (f : ℕ → Bool) (l : List ℕ) → list_any f l ≡ some_below (length l) (λ i. f (get_or l i 0))
+unfolding some_below
+any_below f [] = refl
+any_below f (x ∷ l) = ap (λ (b : Bool). f x || b) (any_below f l) ∙ sym (some_first (length l) (λ i. f (get_or (x ∷ l) i 0)))
+
+pub any_met : (m : Mode) (s : Shape) (losses : List ℕ) (a t : Coords) (v : Bool) → v ≡ list_any (λ w. loss_meets rule m s w a t) losses → not v ≡ not (on_leg rule m s losses (length losses) a t)
 unfolding on_leg
-try_met m s losses a t count n i e h k = rw (← e) (rw (some_at n (λ j. loss_meets rule m s (get_or losses j 0) a t) i h k))
-
-pub try_end : (m : Mode) (s : Shape) (losses : List ℕ) (a t : Coords) (count n i : ℕ) → n ≡ min count 256 → Trying m s losses a t n i → n ≤ i → true ≡ not (on_leg rule m s losses (min count 256) a t)
-try_end m s losses a t count n i e p h = let k = p.most in let q : min count 256 ≡ i = omega arith in rw (q, p.none_yet)
+any_met m s losses a t v e = rw (e, any_below (λ w. loss_meets rule m s w a t) losses)

@@ -1,9 +1,9 @@
 -- Losses sifted one after the other, and what the others meet: nothing.
-use Prim.Native.Nat.{ℕ, zero, suc, ◌+◌, ◌*◌, ◌/◌, ◌%◌, ◌≤◌, ◌<◌, min}
+use Prim.Native.Nat.{ℕ, zero, suc, ◌+◌, ◌*◌, ◌/◌, ◌%◌, ◌≤◌, ◌<◌}
 use native.Mathlib.Omega.{arith}
 use native.Mathlib.Numerals.{add-one}
 use mathlib.Core.Path.{◌≡◌, refl, sym, ap, ◌∙◌}
-use mathlib.Core.Bool.{Bool, true, false, cond, ◌&&◌, ◌||◌, true≢false}
+use mathlib.Core.Bool.{Bool, true, false, ◌&&◌, ◌||◌, true≢false}
 use mathlib.Core.List.{List}
 use lib.Bits.{bit_and}
 use lib.ListN.{length, get_or, set, length-set}
@@ -34,14 +34,9 @@ unfolding reaches
 reaches_none by bz ends w h ne = rw (le-ltb (w / 4096) 9 h, ne_eqb (w / 4096) 9 ne)
 
 -- ---- one after the other
-pub record Sifting (by bz : ℕ) (ends losses first kept : List ℕ) (n found i : ℕ) : Type 0 where
-  pub most : i ≤ n
-  pub clipped : n ≤ 256
-  pub sifted : Sifted by bz ends losses i first kept found
-
-pub sift_begin : (by bz : ℕ) (ends losses kept : List ℕ) (count n : ℕ) → n ≡ min count 256 → Sifting by bz ends losses kept kept n 0 0
+pub sift_begin : (by bz : ℕ) (ends losses kept : List ℕ) → Sifted by bz ends losses 0 kept kept 0
 unfolding some_below
-sift_begin by bz ends losses kept count n e = record { most = omega arith; clipped = omega arith; sifted = record { few = omega arith; long = refl; same = λ l f no. refl } }
+sift_begin by bz ends losses kept = record { few = omega arith; long = refl; same = λ l f no. refl }
 
 -- What stands behind the first m is not looked at.
 front_same : (f : ℕ → Bool) (kept : List ℕ) (m w k : ℕ) → k ≤ m → some_below k (λ i. f (get_or (set kept m w) i 0)) ≡ some_below k (λ i. f (get_or kept i 0))
@@ -50,39 +45,26 @@ front_same f kept m w zero h = refl
 front_same f kept m w (suc k) h = rw (get_or-set_other kept m k w 0 (λ q. omega arith), front_same f kept m w k (omega arith))
 
 pub sift_turn :
-    (by bz : ℕ) (ends losses first kept : List ℕ) (n found i w step : ℕ) (b : Bool) → Sifting by bz ends losses first kept n found i → i < n → w ≡ get_or losses i 0 →
-    b ≡ reaches by bz ends w → step ≡ cond b 1 0 → Sifting by bz ends losses first (set kept found w) n (found + step) (i + 1)
+    (by bz : ℕ) (ends losses first kept : List ℕ) (found i w step : ℕ) (b : Bool) → Sifted by bz ends losses i first kept found → i < 256 → w ≡ get_or losses i 0 →
+    b ≡ reaches by bz ends w → (b ≡ true → step ≡ 1) → (b ≡ false → step ≡ 0) → Sifted by bz ends losses (i + 1) first (set kept found w) (found + step)
 unfolding some_below
-sift_turn by bz ends losses first kept n found i w step b g h e eb es =
-    let few = g.sifted.few in
-    let clipped = g.clipped in
+sift_turn by bz ends losses first kept found i w step b g h e eb one none =
+    let few = g.few in
     let old : (f : ℕ → Bool) → some_below found (λ j. f (get_or (set kept found w) j 0)) ≡ some_below found (λ j. f (get_or kept j 0)) = λ f. front_same f kept found w found (omega arith) in
     test b
     (λ t.
-    let one : step ≡ 1 = es ∙ rw t in
     record {
-      most = omega arith;
-      clipped = clipped;
-      sifted = record {
-        few = omega arith;
-        long = length-set kept found w ∙ g.sifted.long;
-        same = λ l f no. rw (one, add-one found, add-one i, get_or-set_same kept found w 0 (omega (arith, l, g.sifted.long)), old f, g.sifted.same l f no, e);
-      };
+      few = omega (arith, one t);
+      long = length-set kept found w ∙ g.long;
+      same = λ l f no. rw (one t, add-one found, add-one i, get_or-set_same kept found w 0 (omega (arith, l, g.long)), old f, g.same l f no, e);
     })
     (λ t.
-    let none : found + step ≡ found = omega (arith, es, ap (λ (k : Bool). cond {A = ℕ} k 1 0) t) in
+    let same : found + step ≡ found = omega (arith, none t) in
     record {
-      most = omega arith;
-      clipped = clipped;
-      sifted = record {
-        few = omega arith;
-        long = length-set kept found w ∙ g.sifted.long;
-        same = λ l f no. rw (none, add-one i, old f, g.sifted.same l f no, sym e, no w (sym eb ∙ t));
-      };
+      few = omega arith;
+      long = length-set kept found w ∙ g.long;
+      same = λ l f no. rw (same, add-one i, old f, g.same l f no, sym e, no w (sym eb ∙ t));
     })
-
-pub sift_end : (by bz : ℕ) (ends losses first kept : List ℕ) (count n found i : ℕ) → n ≡ min count 256 → Sifting by bz ends losses first kept n found i → n ≤ i → Sifted by bz ends losses (min count 256) first kept found
-sift_end by bz ends losses first kept count n found i e g h = let m = g.most in let q : i ≡ min count 256 = omega arith in rw q at g.sifted
 
 -- ---- a loss that does not reach is not met, by any end whose masks are the same in Y and Z
 no_bit : (v b x : ℕ) → bit_and v b ≡ 0 → bit b x ≡ true → bit v x ≡ false

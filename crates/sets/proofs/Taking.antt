@@ -1,5 +1,5 @@
 -- Losses taken away one after the other.
-use Prim.Native.Nat.{ℕ, zero, suc, ◌+◌, ◌-◌, ◌*◌, ◌/◌, ◌%◌, ◌^◌, ◌≤◌, ◌<◌, min}
+use Prim.Native.Nat.{ℕ, zero, suc, ◌+◌, ◌*◌, ◌/◌, ◌%◌, ◌^◌, ◌≤◌, ◌<◌, min}
 use native.Mathlib.Omega.{arith}
 use native.Mathlib.Numerals.{add-one}
 use mathlib.Core.Path.{◌≡◌, refl, ◌∙◌}
@@ -12,13 +12,15 @@ use borrow.Author.Tests.{lt-ltb, le-ltb, eq-eqb, ne_eqb, eqb-true, ltb-true}
 use Rattle.theory.proofs.Bools.{and_true}
 use Rattle.theory.proofs.Cases.{by_le}
 use Rattle.shape.specs.declared.shape.Coords.{Coords}
+use Rattle.shape.specs.declared.shape.Dim.{Dim}
+use Rattle.shape.specs.declared.shape.Dim.TheVariants.{X, Y, Z}
 use Rattle.rows.specs.Bits.{bit}
 use Rattle.rows.specs.Rows.{in_product}
 use Rattle.rows.proofs.Bits.{bit_and_law}
 use Rattle.rows.specs.Product.{node_at, Less, Are, product}
 use Rattle.rows.proofs.Taking.{less_none, less_same}
 use Rattle.losses.specs.Loss.{some_below}
-use Rattle.sets.specs.Part.{kind_dim, kind_own, columns, column, mask_in, part_in, dead_in, loss_in}
+use Rattle.sets.specs.Part.{kind_dim, kind_own, columns, column, dim_number, mask_in, part_in, dead_in, loss_in}
 use Rattle.sets.specs.Clear.{some_in, clear_in}
 
 -- ---- the column of a dimension
@@ -49,6 +51,11 @@ column_is kind d c k l e =
     let both = and_true (eqb (columns d / 2 ^ (4 * kind) % 16) (column kind d)) _ (all_below (is_column d) 12 (columns_are d l) kind k) in
     let is : c / 2 ^ (4 * kind) % 16 ≡ column kind d = rw e (eqb-true (columns d / 2 ^ (4 * kind) % 16) (column kind d) both.0) in
     (is, omega (arith, is, ltb-true (column kind d) 6 both.1))
+
+pub dim_low : (d : Dim) → dim_number d < 3
+dim_low X = omega arith
+dim_low Y = omega arith
+dim_low Z = omega arith
 
 -- ---- one loss, within a product
 module _ (ends : List ℕ) (w bx by bz : ℕ) where
@@ -104,35 +111,25 @@ module _ (ends : List ℕ) (w bx by bz : ℕ) where
   unfolding loss_in
   loss_none old h ne = less_none _ old (λ r x l m. rw (le-ltb (w / 4096) 9 h, ne_eqb (w / 4096) 9 ne))
 
--- ---- one loss after the other
-pub record Clearing (bx by bz : ℕ) (ends losses rows : List ℕ) (n i : ℕ) : Type 0 where
-  pub most : i ≤ n
-  pub clipped : n ≤ 256
-  pub are : Are (λ r x. product bx by bz r x && not (some_in ends losses i r x)) rows
+-- ---- one loss after the other, up to the one with number i
+abbrev pub Clearing : (bx by bz : ℕ) (ends losses rows : List ℕ) (i : ℕ) → Type 0
+Clearing bx by bz ends losses rows i = Are (λ r x. product bx by bz r x && not (some_in ends losses i r x)) rows
 
-pub clear_begin : (bx by bz : ℕ) (ends losses rows : List ℕ) (count n : ℕ) → n ≡ min count 256 → Are (product bx by bz) rows → Clearing bx by bz ends losses rows n 0
+pub clear_begin : (bx by bz : ℕ) (ends losses rows : List ℕ) → Are (product bx by bz) rows → Clearing bx by bz ends losses rows 0
 unfolding some_in some_below
-clear_begin bx by bz ends losses rows count n e p = record {
-  most = omega arith;
-  clipped = omega arith;
-  are = record { long = p.long; bits = λ r x l m. p.bits r x l m ∙ go (product bx by bz r x) };
-}
+clear_begin bx by bz ends losses rows p = record { long = p.long; bits = λ r x l m. p.bits r x l m ∙ go (product bx by bz r x) }
   where
     go : (b : Bool) → b ≡ (b && not false)
     go true = refl
     go false = refl
 
 pub clear_turn :
-    (bx by bz : ℕ) (ends losses rows next : List ℕ) (n i w : ℕ) → Clearing bx by bz ends losses rows n i → i < n → w ≡ get_or losses i 0 →
-    Less (λ r x. loss_in ends w (node_at r x) && product bx by bz r x) rows next → Clearing bx by bz ends losses next n (i + 1)
+    (bx by bz : ℕ) (ends losses rows next : List ℕ) (i w : ℕ) → Clearing bx by bz ends losses rows i → w ≡ get_or losses i 0 →
+    Less (λ r x. loss_in ends w (node_at r x) && product bx by bz r x) rows next → Clearing bx by bz ends losses next (i + 1)
 unfolding some_in some_below
-clear_turn bx by bz ends losses rows next n i w p h e q = record {
-  most = omega arith;
-  clipped = p.clipped;
-  are = record {
-    long = q.long ∙ p.are.long;
-    bits = λ r x l m. q.bits p.are.long r x l m ∙ rw (p.are.bits r x l m, e, add-one i) (go (product bx by bz r x) (loss_in ends (get_or losses i 0) (node_at r x)) (some_below i (λ j. loss_in ends (get_or losses j 0) (node_at r x))));
-  };
+clear_turn bx by bz ends losses rows next i w p e q = record {
+  long = q.long ∙ p.long;
+  bits = λ r x l m. q.bits p.long r x l m ∙ rw (p.bits r x l m, e, add-one i) (go (product bx by bz r x) (loss_in ends (get_or losses i 0) (node_at r x)) (some_below i (λ j. loss_in ends (get_or losses j 0) (node_at r x))));
 }
   where
     go : (v a b : Bool) → ((v && not b) && not (a && v)) ≡ (v && not (a || b))
@@ -142,9 +139,6 @@ clear_turn bx by bz ends losses rows next n i w p h e q = record {
     go true false false = refl
     go false a b = refl
 
-pub clear_end : (bx by bz : ℕ) (ends losses rows : List ℕ) (count n i : ℕ) → n ≡ min count 256 → Clearing bx by bz ends losses rows n i → n ≤ i → Are (clear_in bx by bz ends losses count) rows
+pub clear_end : (bx by bz : ℕ) (ends losses rows : List ℕ) (count i : ℕ) → i ≡ min count 256 → Clearing bx by bz ends losses rows i → Are (clear_in bx by bz ends losses count) rows
 unfolding clear_in
-clear_end bx by bz ends losses rows count n i e p h =
-    let m = p.most in
-    let q : i ≡ min count 256 = omega arith in
-    record { long = p.are.long; bits = λ r x l k. p.are.bits r x l k ∙ rw q }
+clear_end bx by bz ends losses rows count i e p = record { long = p.long; bits = λ r x l k. p.bits r x l k ∙ rw e }

@@ -2,6 +2,8 @@
 use Rattle.std.specs.Prelude.{ℕ, ◌+◌, ◌-◌, ◌*◌, ◌/◌, ◌%◌, Bool, false, cond, ◌&&◌, ◌||◌, List, get_or, ltb, eqb}
 use Rattle.shape.specs.declared.shape.Shape.{Shape}
 use Rattle.shape.specs.declared.shape.Coords.{Coords}
+use Rattle.shape.specs.declared.shape.Dim.{Dim}
+use Rattle.shape.specs.declared.shape.Dim.TheVariants.{X, Y, Z}
 use Rattle.shape.specs.Shape.{extent_of, wrapped_in, coord_of}
 use Rattle.machine.specs.declared.leg.Mode.{Mode}
 use Rattle.rows.specs.Rows.{in_product}
@@ -15,6 +17,12 @@ kind_dim kind = cond (ltb kind 6) (kind / 2) (cond (ltb kind 9) (kind - 6) (kind
 
 unfoldable pub kind_own : ℕ → ℕ
 kind_own kind = cond (ltb kind 6) (1 + kind % 2) (cond (ltb kind 9) 4 5)
+
+-- `dim_at` the other way round.
+abbrev pub dim_number : Dim → ℕ
+dim_number X = 0
+dim_number Y = 1
+dim_number Z = 2
 
 -- The column in dimension number d.
 unfoldable pub column : ℕ → ℕ → ℕ

@@ -4,107 +4,110 @@ ghost use Rattle.machine.specs.Hop.{rule};
 ghost use Rattle.legs.specs.Between.{between, crosses, agree, runs};
 ghost use Rattle.masks.specs.Cell.{takes, takes_link, takes_links, passes_before, passes_behind, cell};
 
-use logic::{both, either, pick_bool};
+use logic::{both, either, pick};
 use machine::hop::goes_plus;
 use machine::leg::Mode;
-use shape::axis::{hops, next_place, useful};
-
-// Whether c is between p and q.
-fn between(len: u8, ring: bool, c: u8, p: u8, q: u8) -> bool
-    ensures { result ≡ between len ring c p q }
-{
-    let first = hops(len, ring, p, c) as u16;
-    let last = hops(len, ring, c, q) as u16;
-    let whole = hops(len, ring, p, q) as u16;
-    both(c < len, first + last == whole)
-}
-
-// Whether some shortest way takes the link that leaves c, plus or minus.
-fn crosses(len: u8, ring: bool, plus: bool, c: u8, p: u8, q: u8) -> bool
-    ensures { result ≡ crosses len ring plus c p q }
-{
-    both(between(len, ring, c, p, q), useful(len, ring, c, q, plus))
-}
+use shape::axis::Axis;
 
 fn agree(a: bool, b: bool) -> bool
     ensures { result ≡ agree a b }
 {
-    pick_bool(a, b, !b)
+    pick(a, b, !b)
 }
 
-// Whether the one way takes that link.
-fn runs(len: u8, ring: bool, plus: bool, c: u8, p: u8, q: u8) -> bool
-    ensures { result ≡ runs rule len ring plus c p q }
-{
-    both(
-        crosses(len, ring, plus, c, p, q),
-        agree(goes_plus(len, ring, p, q), plus),
-    )
+// A leg along one dimension.
+#[derive(Drop)]
+pub struct Run {
+    pub mode: Mode,
+    pub axis: Axis,
+    pub a: u8,
+    pub t: u8,
 }
 
-fn takes(mode: Mode, len: u8, ring: bool, plus: bool, c: u8, a: u8, t: u8) -> bool
-    ensures { result ≡ takes mode len ring plus c a t }
-{
-    match mode {
-        Mode::Adaptive => crosses(len, ring, plus, c, a, t),
-        Mode::Deterministic => runs(len, ring, plus, c, a, t),
+impl Run {
+    // Whether c is between its ends.
+    fn between(&self, c: u8) -> bool
+        ensures { result ≡ between self.now.axis.len self.now.axis.ring c self.now.a self.now.t }
+    {
+        let first = self.axis.hops(self.a, c) as u16;
+        let last = self.axis.hops(c, self.t) as u16;
+        let whole = self.axis.hops(self.a, self.t) as u16;
+        both(c < self.axis.len, first + last == whole)
     }
-}
 
-// The link that leaves c going plus, either way.
-fn takes_link(mode: Mode, len: u8, ring: bool, c: u8, a: u8, t: u8) -> bool
-    ensures { result ≡ takes_link mode len ring c a t }
-{
-    let plus = takes(mode, len, ring, true, c, a, t);
-    let minus = takes(mode, len, ring, false, next_place(len, c, true), a, t);
-    either(plus, both(c < len, minus))
-}
+    // Whether some shortest way takes the link that leaves c, plus or minus.
+    fn crosses(&self, plus: bool, c: u8) -> bool
+        ensures { result ≡ crosses self.now.axis.len self.now.axis.ring plus c self.now.a self.now.t }
+    {
+        both(self.between(c), self.axis.useful(c, self.t, plus))
+    }
 
-// That link, or the one that comes to c so.
-fn takes_links(mode: Mode, len: u8, ring: bool, c: u8, a: u8, t: u8) -> bool
-    ensures { result ≡ takes_links mode len ring c a t }
-{
-    let leaves = takes_link(mode, len, ring, c, a, t);
-    let comes = takes_link(mode, len, ring, next_place(len, c, false), a, t);
-    either(leaves, comes)
-}
+    // Whether the one way takes that link.
+    fn runs(&self, plus: bool, c: u8) -> bool
+        ensures { result ≡ runs rule self.now.axis.len self.now.axis.ring plus c self.now.a self.now.t }
+    {
+        both(
+            self.crosses(plus, c),
+            agree(goes_plus(self.axis, self.a, self.t), plus),
+        )
+    }
 
-fn passes_before(mode: Mode, len: u8, ring: bool, c: u8, a: u8, t: u8) -> bool
-    ensures { result ≡ passes_before mode len ring c a t }
-{
-    match mode {
-        Mode::Adaptive => between(len, ring, c, a, t),
-        Mode::Deterministic => c == t,
+    fn takes(&self, plus: bool, c: u8) -> bool
+        ensures { result ≡ takes self.now.mode self.now.axis.len self.now.axis.ring plus c self.now.a self.now.t }
+    {
+        match self.mode {
+            Mode::Adaptive => self.crosses(plus, c),
+            Mode::Deterministic => self.runs(plus, c),
+        }
     }
-}
 
-fn passes_behind(mode: Mode, len: u8, ring: bool, c: u8, a: u8, t: u8) -> bool
-    ensures { result ≡ passes_behind mode len ring c a t }
-{
-    match mode {
-        Mode::Adaptive => between(len, ring, c, a, t),
-        Mode::Deterministic => c == a,
+    // The link that leaves c going plus, either way.
+    fn takes_link(&self, c: u8) -> bool
+        ensures { result ≡ takes_link self.now.mode self.now.axis.len self.now.axis.ring c self.now.a self.now.t }
+    {
+        let plus = self.takes(true, c);
+        let minus = self.takes(false, self.axis.next_place(c, true));
+        either(plus, both(c < self.axis.len, minus))
     }
-}
 
-// One of these, by the number of a column.
-pub fn cell(mode: Mode, len: u8, ring: bool, column: u8, c: u8, a: u8, t: u8) -> bool
-    ensures { result ≡ cell mode len ring column c a t }
-{
-    if column == 0 {
-        return passes_before(mode, len, ring, c, a, t);
+    // That link, or the one that comes to c so.
+    fn takes_links(&self, c: u8) -> bool
+        ensures { result ≡ takes_links self.now.mode self.now.axis.len self.now.axis.ring c self.now.a self.now.t }
+    {
+        let leaves = self.takes_link(c);
+        let comes = self.takes_link(self.axis.next_place(c, false));
+        either(leaves, comes)
     }
-    if column == 1 {
-        return takes(mode, len, ring, true, c, a, t);
+
+    fn passes_before(&self, c: u8) -> bool
+        ensures { result ≡ passes_before self.now.mode self.now.axis.len self.now.axis.ring c self.now.a self.now.t }
+    {
+        match self.mode {
+            Mode::Adaptive => self.between(c),
+            Mode::Deterministic => c == self.t,
+        }
     }
-    if column == 2 {
-        return takes(mode, len, ring, false, c, a, t);
+
+    fn passes_behind(&self, c: u8) -> bool
+        ensures { result ≡ passes_behind self.now.mode self.now.axis.len self.now.axis.ring c self.now.a self.now.t }
+    {
+        match self.mode {
+            Mode::Adaptive => self.between(c),
+            Mode::Deterministic => c == self.a,
+        }
     }
-    if column == 3 {
-        return passes_behind(mode, len, ring, c, a, t);
+
+    // One of these, by the number of a column, which is its place among the masks.
+    pub fn cell(&self, column: u16, c: u8) -> bool
+        ensures { result ≡ cell self.now.mode self.now.axis.len self.now.axis.ring column c self.now.a self.now.t }
+    {
+        match column {
+            0 => self.passes_before(c),
+            1 => self.takes(true, c),
+            2 => self.takes(false, c),
+            3 => self.passes_behind(c),
+            4 => self.takes_link(c),
+            _ => self.takes_links(c),
+        }
     }
-    if column == 4 {
-        return takes_link(mode, len, ring, c, a, t);
-    }
-    takes_links(mode, len, ring, c, a, t)
 }

@@ -53,10 +53,10 @@ ring_way len u tie =
 open_way : (p q : ℕ) (tie : Bool) → cond (ltb p q && ltb q p) tie (ltb p q) ≡ ltb p q
 open_way p q tie = by_le q p (λ a. rw (le-ltb p q a)) (λ a. rw (lt-ltb p q a, le-ltb q p (omega arith)))
 
-pub goes_is : (len : ℕ) (ring : Bool) (p q : ℕ) (tie : Bool) → p < len → q < len → goes (λ _. tie) len ring p q ≡ cond ring (ring_goes len (ahead len p q) tie) (ltb p q)
+pub goes_is : (ties : ℕ → Bool) (len : ℕ) (ring : Bool) (p q : ℕ) → p < len → q < len → goes ties len ring p q ≡ cond ring (ring_goes len (ahead len p q) (ties p)) (ltb p q)
 unfolding goes
-goes_is len true p q tie hp hq = rw (ring_useful_law len p q true hp hq, ring_useful_law len p q false hp hq) (ring_way len (ahead len p q) tie)
-goes_is len false p q tie hp hq = rw (open_useful_law len p q true hp hq, open_useful_law len p q false hp hq) (open_way p q tie)
+goes_is ties len true p q hp hq = rw (ring_useful_law len p q true hp hq, ring_useful_law len p q false hp hq) (ring_way len (ahead len p q) (ties p))
+goes_is ties len false p q hp hq = rw (open_useful_law len p q true hp hq, open_useful_law len p q false hp hq) (open_way p q (ties p))
 
 -- ---- once under way
 -- Half a ring is the most.

@@ -2,6 +2,7 @@
 use Rattle.std.specs.Prelude.{ℕ, ◌/◌, ◌%◌, Bool, true, false, ◌&&◌, ◌||◌, ltb, eqb}
 use Rattle.numbers.specs.Numbers.{extent_outside, wrong_wrap}
 use Rattle.theory.specs.Checks.{declined, ◌then◌}
+use Rattle.shape.specs.declared.axis.Axis.{Axis}
 use Rattle.shape.specs.declared.shape.Shape.{Shape}
 use Rattle.shape.specs.declared.shape.Coords.{Coords}
 use Rattle.shape.specs.declared.shape.Dim.{Dim}
@@ -18,6 +19,10 @@ abbrev pub wrapped_in : Shape → Dim → Bool
 wrapped_in s X = eqb (s.wrap % 2) 1
 wrapped_in s Y = eqb (s.wrap / 2 % 2) 1
 wrapped_in s Z = eqb (s.wrap / 4 % 2) 1
+
+-- A dimension by itself.
+abbrev pub axis_of : Shape → Dim → Axis
+axis_of s d = record { len = extent_of s d; ring = wrapped_in s d }
 
 -- An extent outside 1 to 16.
 abbrev pub bad_extent : ℕ → Bool

@@ -1,147 +1,155 @@
 // One dimension: `len` places from 0 on, a ring (wrapped) or open. Defined for all numbers, also for places that do not exist.
 ghost use Rattle.std.specs.Prelude.{true, false, ◌≡◌, ◌<◌};
-ghost use Rattle.shape.specs.Axis.{gap, axis_hops, has_link, place, axis_useful};
+ghost use Rattle.shape.specs.Axis.{axis_hops, has_link, place, axis_useful};
 ghost use Rattle.shape.specs.Steps.{ahead, ring_useful, ring_goes, goes};
 
-use logic::{both, either, pick, pick_bool};
+use logic::{both, either, pick};
 
-fn difference(p: u8, q: u8) -> u8
-    ensures { result ≡ gap p q }
-{
-    if p < q { q - p } else { p - q }
+#[derive(Clone, Copy)]
+pub struct Axis {
+    pub len: u8,
+    pub ring: bool,
 }
 
-// The hops from one place to another.
-pub fn hops(len: u8, ring: bool, p: u8, q: u8) -> u8
-    ensures { result ≡ axis_hops len ring p q }
-{
-    let d = difference(p, q);
-    if !ring {
-        return d;
+impl Axis {
+    // The hops from one place to another.
+    #[tactic(auto, unfolding(crate::specs::Axis::axis_hops))]
+    pub fn hops(self, p: u8, q: u8) -> u8
+        ensures { result ≡ axis_hops self.len self.ring p q }
+    {
+        let d = p.abs_diff(q);
+        if !self.ring {
+            return d;
+        }
+        if self.len <= d {
+            return 0;
+        }
+        d.min(self.len - d)
     }
-    if len <= d {
-        return 0;
+
+    // Whether a link leaves the place p, plus or minus.
+    #[tactic(auto, unfolding(crate::specs::Axis::has_link))]
+    pub fn has_link(self, p: u8, plus: bool) -> bool
+        ensures { result ≡ has_link self.len self.ring p plus }
+    {
+        if plus {
+            either(self.ring, (p as u16) + 1 < (self.len as u16))
+        } else {
+            either(self.ring, 0 < p)
+        }
     }
-    if len - d < d { len - d } else { d }
-}
 
-// Whether a link leaves the place p, plus or minus.
-pub fn has_link(len: u8, ring: bool, p: u8, plus: bool) -> bool
-    ensures { result ≡ has_link len ring p plus }
-{
-    if plus {
-        either(ring, (p as u16) + 1 < (len as u16))
-    } else {
-        either(ring, 0 < p)
+    // One place further, and from the last to place 0.
+    #[tactic(auto, unfolding(crate::specs::Axis::place))]
+    fn place_up(self, p: u8) -> u8
+        ensures { result ≡ place self.len p true }
+    {
+        if (p as u16) + 1 < (self.len as u16) {
+            p + 1
+        } else {
+            0
+        }
     }
-}
 
-// One place further, and from the last to place 0.
-fn place_up(len: u8, p: u8) -> u8
-    ensures { result ≡ place len p true }
-{
-    if (p as u16) + 1 < (len as u16) {
-        p + 1
-    } else {
-        0
+    // One place back, and from place 0 to the last.
+    #[tactic(auto, unfolding(crate::specs::Axis::place))]
+    fn place_down(self, p: u8) -> u8
+        ensures { result ≡ place self.len p false }
+    {
+        if 0 < p {
+            p - 1
+        } else {
+            self.len.saturating_sub(1)
+        }
     }
-}
 
-// One place back, and from place 0 to the last.
-fn place_down(len: u8, p: u8) -> u8
-    ensures { result ≡ place len p false }
-{
-    if 0 < p {
-        p - 1
-    } else if 0 < len {
-        len - 1
-    } else {
-        0
+    // The place on the other side of that link. Both are worked out and one is chosen, since a walk's directions cannot be foretold.
+    #[tactic(auto, unfolding(crate::specs::Axis::place))]
+    pub fn next_place(self, p: u8, plus: bool) -> u8
+        ensures { result ≡ place self.len p plus }
+    {
+        pick(plus, self.place_up(p), self.place_down(p))
     }
-}
 
-// The place on the other side of that link. Both are worked out and one is chosen, since a walk's directions cannot be foretold.
-pub fn next_place(len: u8, p: u8, plus: bool) -> u8
-    ensures { result ≡ place len p plus }
-{
-    pick(plus, place_up(len, p), place_down(len, p))
-}
-
-// Whether the hop from p, plus or minus, leaves one hop fewer to q.
-fn lowers(len: u8, ring: bool, p: u8, q: u8, plus: bool) -> bool
-    ensures { result ≡ axis_useful len ring p q plus }
-{
-    let next = next_place(len, p, plus);
-    let after = hops(len, ring, next, q) as u16;
-    let before = hops(len, ring, p, q) as u16;
-    both(has_link(len, ring, p, plus), after + 1 == before)
-}
-
-// The hops from p to q going plus, round a ring.
-fn hops_ahead(len: u8, p: u8, q: u8) -> u8
-    requires { (p < len) × (q < len) }
-    ensures { result ≡ ahead len p q }
-{
-    if p <= q { q - p } else { len - (p - q) }
-}
-
-fn ring_useful(len: u8, up: u8, plus: bool) -> bool
-    ensures { result ≡ ring_useful len up plus }
-{
-    let twice = 2 * (up as u16);
-    both(
-        up != 0,
-        pick_bool(plus, twice <= (len as u16), (len as u16) <= twice),
-    )
-}
-
-// Whether the hop from p, plus or minus, is useful toward q: for two places that exist without counting the hops between them.
-pub fn useful(len: u8, ring: bool, p: u8, q: u8, plus: bool) -> bool
-    ensures { result ≡ axis_useful len ring p q plus }
-{
-    if len <= p {
-        return lowers(len, ring, p, q, plus);
+    // Whether the hop from p, plus or minus, leaves one hop fewer to q. It is called for places that do not exist alone, and kept out of the code that a step runs.
+    #[tactic(auto, unfolding(crate::specs::Axis::axis_useful))]
+    #[cold]
+    fn lowers(self, p: u8, q: u8, plus: bool) -> bool
+        ensures { result ≡ axis_useful self.len self.ring p q plus }
+    {
+        let next = self.next_place(p, plus);
+        let after = self.hops(next, q) as u16;
+        let before = self.hops(p, q) as u16;
+        both(self.has_link(p, plus), after + 1 == before)
     }
-    if len <= q {
-        return lowers(len, ring, p, q, plus);
-    }
-    if ring {
-        return ring_useful(len, hops_ahead(len, p, q), plus);
-    }
-    pick_bool(plus, p < q, q < p)
-}
 
-// Round a ring: plus below half of it, minus above it.
-fn ring_goes(len: u8, up: u8, tie: bool) -> bool
-    ensures { result ≡ ring_goes len up tie }
-{
-    let twice = 2 * (up as u16);
-    both(
-        up != 0,
-        pick_bool(twice == (len as u16), tie, twice < (len as u16)),
-    )
-}
+    // The hops from p to q going plus, round a ring.
+    #[tactic(auto, unfolding(crate::specs::Steps::ahead))]
+    fn hops_ahead(self, p: u8, q: u8) -> u8
+        requires { (p < self.len) × (q < self.len) }
+        ensures { result ≡ ahead self.len p q }
+    {
+        if p <= q { q - p } else { self.len - (p - q) }
+    }
 
-fn lowers_by(len: u8, ring: bool, p: u8, q: u8, tie: bool) -> bool
-    ensures { result ≡ goes (λ _. tie) len ring p q }
-{
-    let plus = lowers(len, ring, p, q, true);
-    let minus = lowers(len, ring, p, q, false);
-    pick_bool(both(plus, minus), tie, plus)
-}
+    fn ring_useful(self, up: u8, plus: bool) -> bool
+        ensures { result ≡ ring_useful self.len up plus }
+    {
+        let twice = 2 * (up as u16);
+        let len = self.len as u16;
+        both(up != 0, pick(plus, twice <= len, len <= twice))
+    }
 
-// Whether the one way of a deterministic leg from p toward q goes plus. `tie`: whether it does at half a ring.
-pub fn goes_plus(len: u8, ring: bool, p: u8, q: u8, tie: bool) -> bool
-    ensures { result ≡ goes (λ _. tie) len ring p q }
-{
-    if len <= p {
-        return lowers_by(len, ring, p, q, tie);
+    // Whether the hop from p, plus or minus, is useful toward q: for two places that exist without counting the hops between them.
+    #[tactic(auto, using(crate::proofs::AxisLaws::useful_is))]
+    pub fn useful(self, p: u8, q: u8, plus: bool) -> bool
+        ensures { result ≡ axis_useful self.len self.ring p q plus }
+    {
+        if self.len <= p {
+            return self.lowers(p, q, plus);
+        }
+        if self.len <= q {
+            return self.lowers(p, q, plus);
+        }
+        if self.ring {
+            return self.ring_useful(self.hops_ahead(p, q), plus);
+        }
+        pick(plus, p < q, q < p)
     }
-    if len <= q {
-        return lowers_by(len, ring, p, q, tie);
+
+    // Round a ring: plus below half of it, minus above it.
+    fn ring_goes(self, up: u8, tie: bool) -> bool
+        ensures { result ≡ ring_goes self.len up tie }
+    {
+        let twice = 2 * (up as u16);
+        let len = self.len as u16;
+        both(up != 0, pick(twice == len, tie, twice < len))
     }
-    if ring {
-        return ring_goes(len, hops_ahead(len, p, q), tie);
+
+    #[tactic(auto, unfolding(crate::specs::Steps::goes))]
+    #[cold]
+    fn lowers_by(self, p: u8, q: u8, tie: bool) -> bool
+        ensures { result ≡ goes (λ _. tie) self.len self.ring p q }
+    {
+        let plus = self.lowers(p, q, true);
+        let minus = self.lowers(p, q, false);
+        pick(both(plus, minus), tie, plus)
     }
-    p < q
+
+    // Whether the one way of a deterministic leg from p toward q goes plus. `tie`: whether it does at half a ring.
+    #[tactic(auto, using(crate::proofs::Runs::goes_is))]
+    pub fn goes_plus(self, p: u8, q: u8, tie: bool) -> bool
+        ensures { result ≡ goes (λ _. tie) self.len self.ring p q }
+    {
+        if self.len <= p {
+            return self.lowers_by(p, q, tie);
+        }
+        if self.len <= q {
+            return self.lowers_by(p, q, tie);
+        }
+        if self.ring {
+            return self.ring_goes(self.hops_ahead(p, q), tie);
+        }
+        p < q
+    }
 }

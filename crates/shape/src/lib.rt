@@ -4,4 +4,5 @@
 pub mod axis;
 pub mod shape;
 
+pub use axis::Axis;
 pub use shape::{Coords, Dim, Shape};

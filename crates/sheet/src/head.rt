@@ -22,7 +22,7 @@ fn length_in(sheet: &[u8]) -> usize
 fn bytes_after(sheet: &[u8]) -> usize
     ensures { result ≡ bytes_after sheet.now }
 {
-    if sheet.len() < 3 { 0 } else { sheet.len() - 3 }
+    sheet.len().saturating_sub(3)
 }
 
 // Whether the length field is the bytes that follow, and n.

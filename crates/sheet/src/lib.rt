@@ -8,19 +8,17 @@ pub mod output;
 ghost use Rattle.std.specs.Prelude.{◌≡◌, ◌+◌, ◌*◌, ◌<◌, set};
 ghost use Rattle.sheet.specs.Bytes.{byte, word, upper_byte, lower_byte, put_word};
 
-pub use output::Written;
-
 pub fn byte_at(s: &[u8], at: usize) -> u8
     ensures { result ≡ byte s.now at }
 {
-    if at < s.len() { s[at] } else { 0 }
+    s.get(at).copied().unwrap_or(0)
 }
 
 fn joined(upper: u8, lower: u8) -> usize
     ensures value { result ≡ upper * 256 + lower }
     ensures upper_bound { result < 65536 }
 {
-    (upper as usize) * 256 + (lower as usize)
+    u16::from_be_bytes([upper, lower]).into()
 }
 
 pub fn word_at(s: &[u8], at: usize) -> usize
@@ -45,13 +43,13 @@ pub fn put_byte(s: &mut [u8], at: usize, b: u8)
 pub fn upper(n: u16) -> u8
     ensures { result ≡ upper_byte n }
 {
-    (n / 256 % 256) as u8
+    n.to_be_bytes()[0]
 }
 
 pub fn lower(n: u16) -> u8
     ensures { result ≡ lower_byte n }
 {
-    (n % 256) as u8
+    n.to_be_bytes()[1]
 }
 
 pub fn put_word(s: &mut [u8], at: usize, n: u16)

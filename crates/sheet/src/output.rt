@@ -1,61 +1,46 @@
 // Writing a sheet into lent bytes.
-ghost use Rattle.std.specs.Prelude.{◌≡◌, ◌≤◌, ◌++◌, length, take, drop};
-ghost use Rattle.sheet.specs.Output.{room_error, written, out_after, written_number, written_size};
+ghost use Rattle.std.specs.Prelude.{◌≡◌, ◌≤◌, ◌++◌, length, drop};
+ghost use Rattle.numbers.specs.Refusals.{answer_number};
+ghost use Rattle.sheet.specs.Output.{room_error, written, out_after, written_size};
 
-use numbers::OUTPUT_SHORT;
+use numbers::Refusal;
 
-// What writing gives: the bytes written, or the number of the refusal.
-#[derive(Clone, Copy)]
-pub enum Written {
-    Bytes(usize),
-    Refused(u8),
-}
-
-impl Written {
-    // 0, or the number of the refusal.
-    pub fn number(self) -> u8
-        ensures { result ≡ written_number self }
-    {
-        match self {
-            Written::Bytes(_) => 0,
-            Written::Refused(number) => number,
-        }
-    }
-
-    // How many bytes are written.
-    pub fn size(self) -> usize
-        ensures { result ≡ written_size self }
-    {
-        match self {
-            Written::Bytes(size) => size,
-            Written::Refused(_) => 0,
-        }
+// 0, or the number of the refusal.
+pub fn number<T: Drop>(answer: Result<T, Refusal>) -> u8
+    ensures { result ≡ answer_number answer }
+{
+    match answer {
+        Ok(_) => 0,
+        Err(refusal) => refusal.number(),
     }
 }
 
-// The bytes of `s` to the front of `out`.
+// How many bytes are written.
+pub fn size(answer: Result<usize, Refusal>) -> usize
+    ensures { result ≡ written_size answer }
+{
+    answer.unwrap_or(0)
+}
+
+// The bytes of `s` to the front of `out`. A loop, since `copy_from_slice` wants memmove, and the C library has memcpy and memset alone.
 fn copy(s: &[u8], out: &mut [u8])
     requires { length s.now ≤ length out.old }
-    ensures { out.new ≡ take (length s.now) s.now ++ drop (length s.now) out.old }
+    ensures { out.new ≡ s.now ++ drop (length s.now) out.old }
 {
-    let mut i = 0;
-    while i < s.len() {
+    for i in 0..s.len() {
         out[i] = s[i];
-        i += 1;
     }
 }
 
-// The sheet `s`, whose own checks gave `error`, into `out`: then 12, and the output past the sheet is untouched.
-pub fn put_sheet(s: &[u8], error: u8, out: &mut [u8]) -> Written
-    ensures value { result ≡ written (room_error error s.now out.old) s.now }
-    ensures out_after { out.new ≡ out_after (room_error error s.now out.old) s.now out.old }
+// The sheet `s` into `out`: 12 where it has no room, and the output past the sheet is untouched.
+pub fn put_sheet(s: &[u8], out: &mut [u8]) -> Result<usize, Refusal>
+    ensures value { result ≡ written (room_error 0 s.now out.old) s.now }
+    ensures number { answer_number result ≡ room_error 0 s.now out.old }
+    ensures out_after { out.new ≡ out_after (room_error 0 s.now out.old) s.now out.old }
 {
-    if error != 0 {
-        return Written::Refused(error);
-    }
     if out.len() < s.len() {
-        return Written::Refused(OUTPUT_SHORT);
+        return Err(Refusal::OutputShort);
     }
     copy(s, out);
-    Written::Bytes(s.len())
+    Ok(s.len())
 }

@@ -1,5 +1,4 @@
--- `Tallies` and `Walking` have the laws of a tally, `Going` why the job ends, `Times` that the time left is a number.
+-- `Tallies` and `Walking` have the laws of a tally, `Times` that the time left is a number.
 pub mod Tallies
 pub mod Walking
-pub mod Going
 pub mod Times

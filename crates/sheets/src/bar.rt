@@ -1,10 +1,9 @@
 // A bar that shows how far the job is, in one line of standard error: `[#########...........] 1920 of 4096 boards, 3 s left`.
-ghost use Rattle.std.specs.Prelude.{◌≡◌, ◌-◌, ◌≤◌, min, max, length};
+ghost use Rattle.std.specs.Prelude.{◌≡◌, ◌-◌, ◌≤◌, min, max};
 ghost use Rattle.sheets.specs.Bar.{marks_of, seconds_left};
 
-use text::field::put_number;
-use text::part::{front, part};
-use text::put;
+use text::part::part;
+use text::writer::Writer;
 
 // The bytes of a line, and more.
 const LINE_BYTES: usize = 128;
@@ -21,72 +20,42 @@ fn marks(done: u16, all: u16) -> usize
     20 * (done as usize) / (all as usize)
 }
 
-fn less(all: u16, done: u16) -> u64
-    ensures value { result ≡ all - done }
-    ensures upper_bound { result ≤ 65535 }
-{
-    if all <= done {
-        return 0;
-    }
-    (all - done) as u64
-}
-
-fn one_or_more(done: u16) -> u64
-    ensures { result ≡ max done 1 }
-{
-    if done == 0 { 1 } else { done as u64 }
-}
-
-// 30 years at most.
-fn clipped(spent: u64) -> u64
-    ensures value { result ≡ min spent 1000000000000 }
-    ensures upper_bound { result ≤ 1000000000000 }
-{
-    if spent < 1000000000000 {
-        spent
-    } else {
-        1000000000000
-    }
-}
-
-// The seconds that the boards that are left will take, if the others took so many milliseconds.
+// The seconds that the boards that are left will take, if the others took so many milliseconds, of which 30 years at most count.
 #[tactic(auto, unfolding(crate::specs::Bar::seconds_left))]
 fn seconds_left(done: u16, all: u16, spent: u64) -> u64
     ensures { result ≡ seconds_left done all spent }
 {
-    clipped(spent) * less(all, done) / one_or_more(done) / 1000 + 1
+    let left = u64::from(all.saturating_sub(done));
+    spent.min(1000000000000) * left / u64::from(done.max(1)) / 1000 + 1
 }
 
-// Writes the bar, in place of what stands in the line, and answers the next place.
-fn put_marks(out: &mut [u8], full: usize) -> usize
+// Writes the bar, in place of what stands in the line.
+fn put_marks(line: &mut Writer<'_>, full: usize)
     requires { full ≤ 20 }
-    ensures { result ≤ length out.new }
 {
-    let at = put::bytes(out, 0, b"\r[");
-    let marks = b"####################....................";
-    put::bytes(out, at, part(marks, 20 - full, 40 - full))
+    line.text(b"\r[");
+    line.text(part(
+        b"####################....................",
+        20 - full,
+        40 - full,
+    ));
 }
 
-// Writes the line and answers its length.
-fn put_line(out: &mut [u8], done: u16, all: u16, seconds: u64) -> usize
-    ensures { result ≤ length out.new }
-{
-    let bar = put_marks(out, marks(done, all));
-    let boards = put_number(out, bar, b"] ", done as u64);
-    let of = put_number(out, boards, b" of ", all as u64);
-    let time = put_number(out, of, b" boards, ", seconds);
-    put::bytes(out, time, b" s left\x1b[K")
+// Writes the line, and answers it.
+fn put_line(out: &mut [u8], done: u16, all: u16, seconds: u64) -> &[u8] {
+    let mut line = Writer::new(out);
+    put_marks(&mut line, marks(done, all));
+    line.field(b"] ", u64::from(done));
+    line.field(b" of ", u64::from(all));
+    line.field(b" boards, ", seconds);
+    line.text(b" s left\x1b[K");
+    line.written()
 }
 
 // Where it cannot be written, the job goes on.
-fn print(screen: &impl Print, line: &[u8; LINE_BYTES], size: usize) {
-    let _ = screen.write_all(front(line, size));
-}
-
 pub fn draw(screen: &impl Print, done: u16, all: u16, spent: u64) {
     let mut line = [0u8; LINE_BYTES];
-    let size = put_line(&mut line, done, all, seconds_left(done, all, spent));
-    print(screen, &line, size);
+    let _ = screen.write_all(put_line(&mut line, done, all, seconds_left(done, all, spent)));
 }
 
 pub fn remove(screen: &impl Print) {

@@ -1,112 +1,78 @@
 // The job: every sound board's sheet to the file OUT.part, and then to OUT.
-ghost use Rattle.std.specs.Prelude.{◌≡◌, true, false, ◌≤◌, ◌<◌, take};
+ghost use Rattle.std.specs.Prelude.{◌<◌, take, IfSome};
 ghost use Rattle.planner.specs.Known.{Filled};
 
 use crate::tally::Tally;
-use crate::{say, tally, wait};
-use all_sheets::{Answer, ROOM, Run, WORDS, run_of_input, sets_of_input};
-use logic::both;
+use crate::wait::Waiting;
+use all_sheets::{ROOM, WORDS, run_of_input, sets_of_input};
 use machine::node::count;
 use plan::layout::shape_in;
-use plan_input::{PLAN_BYTES, plan_error};
-use program::argument::PATH_BYTES;
-use program::say::{cannot_write, refused};
-use program::{file, part_file};
+use plan_input::{PLAN_BYTES, check_plan};
+use program::failure::Failure;
+use program::part_file::PartFile;
 use std::io::{Stderr, Write};
 use std::rt::Files;
 use std::time::CpuClock;
 use text::part::front;
 
-// How far the job is: what was written, the board to go on with, whether one is left, and whether the file took all bytes.
+// What was written, and the board to go on with.
 #[derive(Clone, Copy)]
 struct Progress {
     tally: Tally,
     next: u16,
-    more: bool,
-    writable: bool,
 }
 
-// A run's sheets to the file.
-fn write_out(run: Run, out: &[u8; ROOM], all: u16, file: &mut impl Write, tally: Tally) -> Progress
-    ensures { result.next ≡ run.next }
-{
-    let sheets = front(out, run.size);
-    let written = file.write_all(sheets).is_ok();
-    Progress {
-        tally: tally::add_run(tally, sheets),
-        next: run.next,
-        more: both(written, run.next < all),
-        writable: written,
-    }
-}
-
-// Nothing was written.
-fn nothing(next: u16, tally: Tally) -> Progress
-    ensures { (result.next ≡ next) × (result.more ≡ false) }
-{
-    Progress {
-        tally: tally,
-        next: next,
-        more: false,
-        writable: false,
-    }
-}
-
-// The next run. None is refused: the plan is accepted, and a sheet fits.
-fn write_next(
-    plan: &[u8; PLAN_BYTES],
+// A plan, the first `size` bytes of a buffer, and the sets to all its boards, which every run takes.
+#[derive(Clone, Copy)]
+struct Sets<'a> {
+    plan: &'a [u8; PLAN_BYTES],
     size: usize,
-    from: u16,
-    all: u16,
-    file: &mut impl Write,
-    tally: Tally,
-    work: &[u16; WORDS],
-    out: &mut [u8; ROOM],
-) -> Progress
-    requires { Filled (take size plan.now) work.now }
-    ensures { (from ≤ result.next) × (result.more ≡ true → from < result.next) }
-{
-    let Answer::Written(run) = run_of_input(plan, size, from, work, out) else {
-        return nothing(from, tally);
-    };
-    write_out(run, out, all, file, tally)
+    work: &'a [u16; WORDS],
+    ghost filled: { Filled (take size plan.now) work.now },
 }
 
-// All runs, with the same sets and bytes.
-fn write_runs(
-    rt: &impl CpuClock,
-    screen: Stderr,
-    plan: &[u8; PLAN_BYTES],
-    size: usize,
-    file: &mut impl Write,
-    work: &[u16; WORDS],
-    out: &mut [u8; ROOM],
-) -> Progress
-    requires { Filled (take size plan.now) work.now }
-{
-    let all = count(shape_in(front(plan, size)));
-    let mut waiting = wait::begin(rt, screen);
-    let mut progress = Progress {
-        tally: tally::none(),
-        next: 0,
-        more: true,
-        writable: true,
-    };
-    while progress.more {
-        progress = write_next(
-            plan,
-            size,
-            progress.next,
-            all,
-            file,
-            progress.tally,
-            work,
-            out,
-        );
-        waiting = wait::look(rt, waiting, progress.next, all);
+impl Sets<'_> {
+    // The next run; `None` where the file did not take all bytes. No run is refused: the plan is accepted, and a sheet fits.
+    fn write_next(
+        self,
+        file: &mut impl Write,
+        progress: Progress,
+        out: &mut [u8; ROOM],
+    ) -> Option<Progress>
+        ensures { IfSome result (λ p. progress.next < p.next) }
+    {
+        let Progress { tally, next } = progress;
+        let Ok(run) = run_of_input(self.plan, self.size, next, self.work, out) else {
+            return None;
+        };
+        let sheets = front(out, run.size);
+        file.write_all(sheets).ok()?;
+        Some(Progress {
+            tally: tally.add_run(sheets),
+            next: run.next,
+        })
     }
-    wait::end(waiting);
-    progress
+
+    // All runs, with the same bytes.
+    fn write_runs(
+        self,
+        rt: &impl CpuClock,
+        waiting: &mut Waiting,
+        file: &mut impl Write,
+        out: &mut [u8; ROOM],
+    ) -> Option<Tally> {
+        let plan = self.plan;
+        let all = count(shape_in(front(plan, self.size)));
+        let mut progress = Progress {
+            tally: Tally::none(),
+            next: 0,
+        };
+        while progress.next < all {
+            progress = self.write_next(file, progress, out)?;
+            waiting.look(rt, progress.next, all);
+        }
+        Some(progress.tally)
+    }
 }
 
 // The sets are always made: the plan is accepted, and the words are enough for any.
@@ -116,53 +82,38 @@ fn write_all(
     plan: &[u8; PLAN_BYTES],
     size: usize,
     file: &mut impl Write,
-) -> Progress {
+) -> Option<Tally> {
     let mut work = [0u16; WORDS];
     if !sets_of_input(plan, size, &mut work) {
-        return nothing(0, tally::none());
+        return None;
     }
     let mut out = [0u8; ROOM];
-    write_runs(rt, screen, plan, size, file, &work, &mut out)
-}
-
-fn finish<R: Files + Print>(rt: &R, progress: Progress, file: R::File, name: &[u8], out: &[u8]) {
-    if part_file::finish(rt, progress.writable, file, name, out) {
-        say::done(rt, progress.tally);
-        return;
-    }
-    cannot_write(rt, out);
-}
-
-fn write_part(
-    rt: &(impl Files + CpuClock + Print),
-    screen: Stderr,
-    plan: &[u8; PLAN_BYTES],
-    size: usize,
-    name: &[u8],
-    out: &[u8],
-) {
-    let Some(mut file) = file::create(rt, name) else {
-        cannot_write(rt, out);
-        return;
+    let sets = Sets {
+        plan,
+        size,
+        work: &work,
     };
-    let progress = write_all(rt, screen, plan, size, &mut file);
-    finish(rt, progress, file, name, out);
+    let mut waiting = Waiting::begin(rt, screen);
+    let written = sets.write_runs(rt, &mut waiting, file, &mut out);
+    waiting.end();
+    written
 }
 
 // The plan sheet is the first `size` bytes of the buffer. A bar may stand on the screen meanwhile.
-pub fn write_sheets(
-    rt: &(impl Files + CpuClock + Print),
+pub fn write_sheets<'a, R: Files + CpuClock + AllocGlobal>(
+    rt: &R,
     screen: Stderr,
     plan: &[u8; PLAN_BYTES],
     size: usize,
-    out: &[u8],
-) {
-    let error = plan_error(plan, size);
-    if error != 0 {
-        refused(rt, error);
-        return;
+    out: &'a [u8],
+) -> Result<Tally, Failure<'a>> {
+    check_plan(plan, size)?;
+    let mut part = PartFile::create(rt, out)?;
+    match write_all(rt, screen, plan, size, &mut part.file) {
+        Some(tally) => part.finish(rt).map(|()| tally),
+        None => {
+            part.give_up(rt);
+            Err(Failure::CannotWrite(out))
+        }
     }
-    let mut name = [0u8; PATH_BYTES];
-    let length = part_file::put_name(out, &mut name);
-    write_part(rt, screen, plan, size, front(&name, length), out);
 }

@@ -8,41 +8,37 @@ mod say;
 mod tally;
 mod wait;
 
+use crate::tally::Tally;
 use plan_input::PLAN_BYTES;
-use program::argument::PATH_BYTES;
-use program::input::read_full;
-use program::say::cannot_read;
-use program::{argument, file};
+use program::argument::{self, PATH_BYTES};
+use program::failure::Failure;
+use program::file::read_front;
 use std::io::Stderr;
 use std::rt::Files;
 use std::time::CpuClock;
-use text::part::front;
 
 // The plan sheet of a file, to the file of its route sheets.
-fn from_file(rt: &(impl Files + CpuClock + Print), screen: Stderr, plan: &[u8], out: &[u8]) {
-    let Some(mut file) = file::open(rt, plan) else {
-        cannot_read(rt, plan);
-        return;
-    };
+fn from_file<'a>(
+    rt: &(impl Files + CpuClock + AllocGlobal),
+    screen: Stderr,
+    plan: &'a [u8],
+    out: &'a [u8],
+) -> Result<Tally, Failure<'a>> {
     let mut sheet = [0u8; PLAN_BYTES];
-    let size = read_full(&mut file, &mut sheet);
-    drop(file);
-    job::write_sheets(rt, screen, &sheet, size, out);
+    let size = read_front(rt, plan, &mut sheet)?;
+    job::write_sheets(rt, screen, &sheet, size, out)
 }
 
 fn main(rt: HostRuntime) {
     let mut plan = [0u8; PATH_BYTES];
-    let plan_length = argument::read(&rt, 1, &mut plan);
     let mut out = [0u8; PATH_BYTES];
-    let out_length = argument::read(&rt, 2, &mut out);
-    if plan_length == 0 || out_length == 0 || argument::is_there(&rt, 3) {
-        say::usage(&rt);
-        return;
+    let plan = argument::read(&rt, 1, &mut plan);
+    let out = argument::read(&rt, 2, &mut out);
+    match (plan, out, argument::is_there(&rt, 3)) {
+        (Some(plan), Some(out), false) => match from_file(&rt, rt.stderr(), plan, out) {
+            Ok(tally) => say::done(&rt, tally),
+            Err(failure) => program::say::failed(&rt, failure),
+        },
+        _ => say::usage(&rt),
     }
-    from_file(
-        &rt,
-        rt.stderr(),
-        front(&plan, plan_length),
-        front(&out, out_length),
-    );
 }

@@ -1,14 +1,17 @@
 // What the program says of its own.
 use crate::tally::Tally;
-use program::say::{number, text};
 
 pub fn usage(rt: &impl Print) {
-    text(rt, b"usage: sheets PLAN OUT\n");
+    let _ = println!(rt; "usage: sheets PLAN OUT");
 }
 
 pub fn done(rt: &impl Print, tally: Tally) {
-    number(rt, b"", tally.boards as u64);
-    number(rt, b" boards, ", tally.entries as u64);
-    number(rt, b" entries, ", tally.without as u64);
-    text(rt, b" pairs without a clear choice\n");
+    let Tally {
+        boards,
+        entries,
+        without,
+    } = tally;
+    let _ = println!(rt;
+        "{boards} boards, {entries} entries, {without} pairs without a clear choice"
+    );
 }

@@ -9,77 +9,69 @@ use program::count::sum;
 use routes::kinds::NONE_KIND;
 use routes::layout::{count_in, entry_in};
 use sheet::word_at;
-use text::part::part;
 
-#[derive(Clone, Copy)]
+#[derive(Clone, Copy, Default)]
 pub struct Tally {
     pub boards: u32,
     pub entries: u32,
     pub without: u32,
 }
 
-pub fn none() -> Tally
-    ensures { result ≡ no_tally }
-{
-    Tally {
-        boards: 0,
-        entries: 0,
-        without: 0,
-    }
-}
-
 fn is_without(kind: u8) -> u32
     ensures { result ≡ is_without kind }
 {
-    if kind == NONE_KIND { 1 } else { 0 }
+    u32::from(kind == NONE_KIND)
 }
 
 fn without_in(sheet: &[u8]) -> u32
     ensures { result ≡ without_in (entries_of sheet.now) }
 {
-    let count = count_in(sheet);
-    let mut without: u32 = 0;
-    let mut i: u16 = 0;
-    while i < count {
-        without = without + is_without(entry_in(sheet, i).kind);
-        i = i + 1;
+    let mut without = 0;
+    for i in 0..count_in(sheet) {
+        without += is_without(entry_in(sheet, i).kind);
     }
     without
 }
 
-// With one sheet more.
-#[tactic(auto, unfolding(crate::specs::Tally::tallied))]
-fn add(tally: Tally, sheet: &[u8]) -> Tally
-    ensures { result ≡ tallied tally sheet.now }
+// The bytes of the sheet that a run begins with: three, and those that its length field says, as far as there are such bytes.
+fn first_size(run: &[u8]) -> usize
+    requires { 0 < length run.now }
+    ensures value { result ≡ min (3 + word run.now 1) (length run.now) }
+    ensures lower_bound { 1 ≤ result }
 {
-    Tally {
-        boards: sum(tally.boards, 1),
-        entries: sum(tally.entries, count_in(sheet) as u32),
-        without: sum(tally.without, without_in(sheet)),
-    }
+    (3 + word_at(run, 1)).min(run.len())
 }
 
-// The bytes of the sheet that begins at a place of a run: three, and those that its length field says, as far as there are such bytes.
-fn size_at(run: &[u8], at: usize) -> usize
-    requires { at < length run.now }
-    ensures value { result ≡ min (3 + word run.now (at + 1)) (length run.now - at) }
-    ensures lower_bound { (1 ≤ result) × (at + result ≤ length run.now) }
-{
-    let size = 3 + word_at(run, at + 1);
-    let left = run.len() - at;
-    if size < left { size } else { left }
-}
-
-// With the sheets of a run; each says its own length.
-pub fn add_run(tally: Tally, run: &[u8]) -> Tally
-    ensures { (sheets : List (List ℕ)) → EachSized sheets → run.now ≡ joined sheets → result ≡ tallied_all tally sheets }
-{
-    let mut sum = tally;
-    let mut at: usize = 0;
-    while at < run.len() {
-        let size = size_at(run, at);
-        sum = add(sum, part(run, at, at + size));
-        at = at + size;
+impl Tally {
+    pub fn none() -> Tally
+        ensures { result ≡ no_tally }
+    {
+        Tally::default()
     }
-    sum
+
+    // With one sheet more.
+    #[tactic(auto, unfolding(crate::specs::Tally::tallied))]
+    fn add(self, sheet: &[u8]) -> Tally
+        ensures { result ≡ tallied self sheet.now }
+    {
+        Tally {
+            boards: sum(self.boards, 1),
+            entries: sum(self.entries, count_in(sheet) as u32),
+            without: sum(self.without, without_in(sheet)),
+        }
+    }
+
+    // With the sheets of a run; each says its own length.
+    pub fn add_run(self, run: &[u8]) -> Tally
+        ensures { (sheets : List (List ℕ)) → EachSized sheets → run.now ≡ joined sheets → result ≡ tallied_all self sheets }
+    {
+        let mut sum = self;
+        let mut rest = run;
+        while !rest.is_empty() {
+            let (sheet, behind) = rest.split_at(first_size(rest));
+            sum = sum.add(sheet);
+            rest = behind;
+        }
+        sum
+    }
 }

@@ -1,12 +1,11 @@
 // What a person who waits at a terminal sees: a bar, from half a second on, at most four times a second. Time is the processor's, since that is what a job
 // spends.
 use crate::bar;
-use logic::{both, either};
 use std::io::{IsTerminal, Stderr};
 use std::time::CpuClock;
 
 // Standard error, whether someone waits there, the time when the clock was last looked at, in milliseconds, and whether a bar stands in the line.
-#[derive(Clone, Copy)]
+#[derive(Drop)]
 pub struct Waiting {
     screen: Stderr,
     terminal: bool,
@@ -22,43 +21,33 @@ fn spent(rt: &impl CpuClock) -> u64 {
     }
 }
 
-pub fn begin(rt: &impl CpuClock, screen: Stderr) -> Waiting {
-    Waiting {
-        screen: screen,
-        terminal: screen.is_terminal(),
-        last: spent(rt),
-        drawn: false,
-    }
-}
-
 // Whether a quarter of a second began since, and the job has taken half a second.
 fn is_time(last: u64, now: u64) -> bool {
-    both(500 <= now, last / 250 != now / 250)
+    500 <= now && last / 250 != now / 250
 }
 
-fn draw(screen: Stderr, is_time: bool, done: u16, all: u16, spent: u64) {
-    if is_time {
-        bar::draw(&screen, done, all, spent);
+impl Waiting {
+    pub fn begin(rt: &impl CpuClock, screen: Stderr) -> Waiting {
+        Waiting {
+            screen,
+            terminal: screen.is_terminal(),
+            last: spent(rt),
+            drawn: false,
+        }
     }
-}
 
-pub fn look(rt: &impl CpuClock, waiting: Waiting, done: u16, all: u16) -> Waiting {
-    let now = spent(rt);
-    let draws = both(
-        waiting.terminal,
-        both(is_time(waiting.last, now), done < all),
-    );
-    draw(waiting.screen, draws, done, all, now);
-    Waiting {
-        screen: waiting.screen,
-        terminal: waiting.terminal,
-        last: now,
-        drawn: either(draws, waiting.drawn),
+    pub fn look(&mut self, rt: &impl CpuClock, done: u16, all: u16) {
+        let now = spent(rt);
+        if self.terminal && is_time(self.last, now) && done < all {
+            bar::draw(&self.screen, done, all, now);
+            self.drawn = true;
+        }
+        self.last = now;
     }
-}
 
-pub fn end(waiting: Waiting) {
-    if waiting.drawn {
-        bar::remove(&waiting.screen);
+    pub fn end(self) {
+        if self.drawn {
+            bar::remove(&self.screen);
+        }
     }
 }

@@ -1,4 +1,4 @@
--- Cases: two numbers in one order or the other; what cannot be.
+-- Cases: two numbers in one order or the other; a test.
 use Prim.Native.Nat.{ℕ, ◌≤◌}
 use mathlib.Core.Bool.{Bool, true, false}
 use mathlib.Core.Path.{◌≡◌, refl}
@@ -12,9 +12,6 @@ split_le {P} m n f g = go (leb m n) refl
     go : (b : Bool) → leb m n ≡ b → P
     go true e = f (leb-true m n e)
     go false e = g (omega (arith, leb-false m n e))
-
-pub never : {P : Type 0} → false ≡ true → P
-never e = let z : ◌≡◌ {A = ℕ} 0 1 = cc in absurd (omega arith)
 
 pub test : {P : Type 0} (b : Bool) → (b ≡ true → P) → (b ≡ false → P) → P
 test true f g = f refl

@@ -1,4 +1,5 @@
--- `Cases` has a test's two cases, `Parts` the laws of the parts of a list, `Decimals` those of a number's digits.
+-- `Cases` has a test's two cases, `Parts` the laws of the parts of a list, `Places` that of a byte's place, `Decimals` those of a number's digits.
 mod Cases
 mod Parts
+mod Places
 mod Decimals

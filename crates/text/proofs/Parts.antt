@@ -1,21 +1,17 @@
 -- Parts of a list whose ends are cut to its length.
-use Prim.Native.Nat.{ℕ, ◌+◌, ◌-◌, ◌≤◌, min}
+use Prim.Native.Nat.{ℕ, ◌-◌, ◌≤◌, min}
 use mathlib.Core.List.{List, []}
-use mathlib.Core.Path.{◌≡◌, sym, ap, ◌∙◌}
+use mathlib.Core.Path.{◌≡◌, sym, ◌∙◌}
 use native.Mathlib.Nat.{min-eq_left, min-eq_right}
 use native.Mathlib.Omega.{arith}
-use lib.ListN.{length, take, drop, length-take, length-drop, drop_of_length-le}
-use lib.Seq.{take_all, take-length, drop-length, take-nil, paste, paste-zero}
+use lib.ListN.{length, take, drop, length-drop, drop_of_length-le}
+use lib.Seq.{take_all, take-length, take-nil}
 use Rattle.text.proofs.Cases.{split_le}
 
 module _ (s : List ℕ) where
   pub take_min : (n : ℕ) → take (min n (length s)) s ≡ take n s
   take_min n =
       split_le n (length s) (λ h. rw (min-eq_left h)) (λ h. rw (min-eq_right h) (take-length s ∙ sym (take_all n s h)))
-
-  pub drop_min : (n : ℕ) → drop (min n (length s)) s ≡ drop n s
-  drop_min n =
-      split_le n (length s) (λ h. rw (min-eq_left h)) (λ h. rw (min-eq_right h) (drop-length s ∙ sym (drop_of_length-le s h)))
 
   -- no more is taken than there is
   pub take_rest : (n a : ℕ) → length s ≤ n → take (n - a) (drop a s) ≡ drop a s
@@ -40,23 +36,3 @@ module _ (s : List ℕ) where
   cut_both a e =
       let none : min e (length s) - min e (length s) ≡ 0 = omega arith in
       split_le a (min e (length s)) (within a e) (λ h. rw (min-eq_right h, none) (nothing a e h))
-
-  -- a part is no shorter than what it begins with
-  pub ends_within : (a e : ℕ) (t : List ℕ) → a ≤ e → take (length t) (take (e - a) (drop a s)) ≡ t → a + length t ≤ e
-  ends_within a e t h q = omega (arith, ap length q, length-take (length t) (take (e - a) (drop a s)), length-take (e - a) (drop a s))
-
--- a copy whose place is cut to the length, of as much as there is room for
-module _ (d : List ℕ) (at : ℕ) (s : List ℕ) where
-  abbrev Pasted : Type 0
-  Pasted = paste d (min at (length d)) s (min (length s) (length d - min at (length d))) ≡ paste d at s (min at (length d) + min (length s) (length d - min at (length d)) - at)
-
-  behind : length d ≤ at → Pasted
-  behind h =
-      let none : min (length s) (length d - length d) ≡ 0 = omega arith in
-      let over : length d + 0 - at ≡ 0 = omega arith in
-      rw (min-eq_right h, none, over) (sym (paste-zero d (length d) s) ∙ paste-zero d at s)
-
-  pub pasted : Pasted
-  pasted =
-      let same : at + min (length s) (length d - at) - at ≡ min (length s) (length d - at) = omega arith in
-      split_le at (length d) (λ h. rw (min-eq_left h, same)) behind

@@ -1,3 +1,3 @@
 pub mod Decimal
-pub mod Hex
 pub mod Scan
+pub mod Numbers

@@ -3,11 +3,9 @@
 // Every function is total: a position past the end counts as the end, and what does not fit is cut.
 #![tactic(auto)]
 
-pub mod compare;
 pub mod decimal;
 pub mod field;
 pub mod hex;
-mod least;
 pub mod part;
-pub mod put;
 pub mod scan;
+pub mod writer;

@@ -1,21 +1,21 @@
 // Where something stands in a text.
-ghost use Rattle.std.specs.Prelude.{◌≡◌, ◌+◌, ◌≤◌, min, length, drop};
+ghost use Rattle.std.specs.Prelude.{◌≡◌, ◌==◌, ◌+◌, ◌≤◌, min, length, drop, position};
 ghost use Rattle.text.specs.Scan.{index_of};
 
-use crate::compare::starts_with;
-use crate::least::least;
+// The place of the first `byte`.
+fn place_of(s: &[u8], byte: u8) -> Option<usize>
+    ensures { result ≡ position (λ b. b == byte) s.now }
+{
+    s.iter().position(|b| *b == byte)
+}
 
-// The place of the first `byte`; the length where there is none.
+// The same; the length where there is none.
+#[tactic(auto, using(crate::proofs::Places::place_or_end))]
 fn index_in(s: &[u8], byte: u8) -> usize
     ensures value { result ≡ index_of byte s.now }
     ensures upper_bound { result ≤ length s.now }
 {
-    for (i, b) in s.iter().enumerate() {
-        if *b == byte {
-            return i;
-        }
-    }
-    s.len()
+    place_of(s, byte).unwrap_or(s.len())
 }
 
 // The place of the first `byte` at or after `from`; the length where there is none.
@@ -23,7 +23,7 @@ pub fn find(s: &[u8], from: usize, byte: u8) -> usize
     ensures value { result ≡ min from (length s.now) + index_of byte (drop from s.now) }
     ensures upper_bound { result ≤ length s.now }
 {
-    let start = least(from, s.len());
+    let start = from.min(s.len());
     start + index_in(&s[start..], byte)
 }
 
@@ -31,16 +31,7 @@ pub fn find(s: &[u8], from: usize, byte: u8) -> usize
 pub fn find_text(s: &[u8], text: &[u8]) -> usize
     ensures { result ≤ length s.now }
 {
-    if text.len() == 0 {
-        return 0;
-    }
-    let first = text[0];
-    let mut i = find(s, 0, first);
-    while i < s.len() {
-        if starts_with(&s[i..], text) {
-            return i;
-        }
-        i = find(s, i + 1, first);
-    }
-    s.len()
+    (0..s.len())
+        .find(|i| s[*i..].starts_with(text))
+        .unwrap_or(s.len())
 }

@@ -20,7 +20,7 @@ module _ {Leg P : Type 0} (M : Machine Leg) (K : Packets Leg P) where
   module _ (sound : ℕ → ℕ → Bool) (source : ℕ) (route : List Leg) where
     -- Of a packet q and the run r of its hops. same_place: the packet's node is the place of the run.
     -- crossed: each hop taken crosses a sound link. led: the packet is where the hops lead. within: they are never more than the route's hops.
-    -- not_stuck: while fewer some direction is allowed. when-arrived, at-end: it has arrived, at the destination, exactly when they are that many.
+    -- not_stuck: while fewer some direction is allowed. when_arrived, at_end: it has arrived, at the destination, exactly when they are that many.
     pub record Holds (q : P) (r : Run Leg) : Type 0 where
       pub same_place : K.node q ≡ r.place
       pub crossed : Sound M sound source r.taken

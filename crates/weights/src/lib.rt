@@ -2,6 +2,8 @@
 #![tactic(auto)]
 
 pub mod distance;
+pub mod ends;
 pub mod weights;
 
+pub use ends::Ends;
 pub use weights::Weights;

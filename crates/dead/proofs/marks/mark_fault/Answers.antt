@@ -4,10 +4,10 @@ use Rattle.dead.proofs.Answers.{exists_node, whole_node, one_link}
 use Rattle.dead.proofs.marks.mark_fault.Goals as goal
 
 pub mark_links-requires : goal.mark_links-requires
-mark_links-requires c = record { marks = c.requires.marks; node_value = (exists_node _ _ c.requires.f_value, omega arith, omega arith) }
+mark_links-requires c = (exists_node _ _ c.requires, omega arith, omega arith)
 
 pub mark_links-requires-else-is_node : goal.mark_links-requires-else-is_node
-mark_links-requires-else-is_node c = record { marks = c.requires.marks; node_value = (exists_node _ _ c.requires.f_value, omega arith, omega arith) }
+mark_links-requires-else-is_node c = (exists_node _ _ c.requires, omega arith, omega arith)
 
 pub returns-then-is_node : goal.returns-then-is_node
 returns-then-is_node c = whole_node _ _ _ _ (sym c.is_node.ensures ∙ c.if-is_node.true) c.mark_links.ensures

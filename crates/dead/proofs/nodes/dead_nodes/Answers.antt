@@ -1,13 +1,14 @@
 use native.Mathlib.Omega.{arith}
 use mathlib.Core.Path.{sym, ◌∙◌}
+use Rattle.sheet.proofs.Outputs.{number_ok, number_err}
 use Rattle.dead.proofs.NodeTable.{begin, below, onward, ended, declined_nodes}
 use Rattle.dead.proofs.nodes.dead_nodes.Goals as goal
 
-pub returns-then-check-ne0 : goal.returns-then-check-ne0
-returns-then-check-ne0 c = λ n. declined_nodes _ _ _ c.check.ensures c.if-check-ne0.true n
+pub returns-then-is_err : goal.returns-then-is_err
+returns-then-is_err c = λ n. declined_nodes _ _ _ c.check.ensures (number_err _ (sym c.is_err.ensures.value ∙ c.if-is_err.true)) n
 
 pub loop-i-init : goal.loop-i-init
-loop-i-init c = begin _ _ (sym c.check.ensures ∙ c.if-check-ne0.false) _ c.count_in-i.ensures
+loop-i-init c = begin _ _ (sym c.check.ensures ∙ number_ok _ (sym c.is_err.ensures.value ∙ c.if-is_err.false)) _ c.count_in-i.ensures
 
 pub mark_node-requires : goal.mark_node-requires
 mark_node-requires c = below _ _ _ _ c.loop-i.invariant _ c.fault_in.ensures c.loop-i-test.true

@@ -11,4 +11,4 @@ pub far_by-requires : goal.far_by-requires
 far_by-requires c = rows_fit _ _ _ (sym c.has_rows.ensures ∙ c.if-not-has_rows.false)
 
 pub returns : goal.returns
-returns c = λ p S D g. c.far_by.ensures p S D _ _ _ _ g (c.store.ensures refl all_unclear)
+returns c = λ p S D g. c.far_by.ensures p S D _ (rw c.distance_at-length.ensures g) (c.store.ensures refl all_unclear)

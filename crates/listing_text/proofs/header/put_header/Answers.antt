@@ -3,4 +3,4 @@ use Rattle.listing_text.proofs.Lines.{head_put}
 use Rattle.listing_text.proofs.header.put_header.Goals as goal
 
 pub returns : goal.returns
-returns c = record { put = head_put _ _ _ c.put_field-first.ensures.put c.put_field-second.ensures.put c.put_field.ensures.put; upper_bound = omega arith }
+returns c = record { wrote = head_put _ _ _ c.field.ensures.wrote c.field-2.ensures.wrote c.field-3.ensures.wrote; upper_bound = omega arith }

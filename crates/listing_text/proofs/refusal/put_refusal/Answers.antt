@@ -2,4 +2,4 @@ use Rattle.listing_text.proofs.Lines.{refusal_put}
 use Rattle.listing_text.proofs.refusal.put_refusal.Goals as goal
 
 pub returns : goal.returns
-returns c = refusal_put _ c.put_word.ensures c.put_field.ensures.put
+returns c = refusal_put _ c.text.ensures c.field.ensures.wrote

@@ -1,22 +1,25 @@
 use native.Mathlib.Omega.{arith}
 use mathlib.Core.Path.{sym, ◌∙◌}
-use Rattle.losses.proofs.Listing.{begin, few, exists, onward, ended, none_of}
+use Rattle.losses.proofs.Listing.{begin, few, exists, onward, ended, none_of, plan_of}
 use Rattle.losses.proofs.reading.losses.Goals as goal
 
-pub returns-then-check-ne0 : goal.returns-then-check-ne0
-returns-then-check-ne0 c = none_of _ _ _ c.check.ensures c.if-check-ne0.true
+pub returns-then-is_err : goal.returns-then-is_err
+returns-then-is_err c = none_of _ _ c.check.ensures (sym c.is_err.ensures.value ∙ c.if-is_err.true)
 
 pub loop-i-init : goal.loop-i-init
-loop-i-init c = begin _ _ _ (sym c.check.ensures ∙ c.if-check-ne0.false) c.shape_in-shape.ensures c.count_in-count.ensures
+loop-i-init c = begin _ _ _ (plan_of _ _ c.check.ensures (sym c.is_err.ensures.value ∙ c.if-is_err.false)) c.shape_in-shape.ensures c.count_in-count.ensures
 
 pub word_of-requires : goal.word_of-requires
 word_of-requires c = exists _ _ _ _ _ c.loop-i.invariant _ c.fault_in.ensures c.loop-i-test.true
 
-pub bounds-words-at : goal.bounds-words-at
-bounds-words-at c = let n = few _ _ _ _ _ c.loop-i.invariant in omega arith
+pub bounds-words-i : goal.bounds-words-i
+bounds-words-i c = let n = few _ _ _ _ _ c.loop-i.invariant in omega arith
 
 pub loop-i-preserved : goal.loop-i-preserved
 loop-i-preserved c = onward _ _ _ _ _ c.loop-i.invariant _ _ c.fault_in.ensures c.word_of.ensures c.loop-i-test.true
+
+pub invariant_of-result-2 : goal.invariant_of-result-2
+invariant_of-result-2 c = few _ _ _ _ _ c.loop-i.invariant
 
 pub returns : goal.returns
 returns c = ended _ _ _ _ _ c.loop-i.invariant (omega arith)

@@ -1,9 +1,5 @@
 use Rattle.masks.proofs.Arcs.{row_fits, row_turned}
 use Rattle.masks.specs.Ranges.{in_range}
-use Rattle.masks.proofs.range.arc.Reads as reads
-use Rattle.masks.proofs.range.arc.Lts as lts
-use Rattle.masks.proofs.range.range.Reads as range-reads
-use Rattle.masks.proofs.range.turned.Reads as turned-reads
 use Rattle.masks.proofs.range.arc.Goals as goal
 
 -- src/range.rt:51:5

@@ -1,8 +1,4 @@
 use Rattle.masks.proofs.Arcs.{row_fits, row_turned, two_ranges}
-use Rattle.masks.proofs.range.arcs.Reads as reads
-use Rattle.masks.proofs.range.arcs.Lts as lts
-use Rattle.masks.proofs.range.range.Reads as range-reads
-use Rattle.masks.proofs.range.turned.Reads as turned-reads
 use Rattle.masks.proofs.range.arcs.Goals as goal
 
 -- src/range.rt:59:5

@@ -1,6 +1,4 @@
 use Rattle.masks.proofs.Arcs.{hops_up, hops_round}
-use Rattle.masks.proofs.range.hops.Reads as reads
-use Rattle.masks.proofs.range.hops.Lts as lts
 use Rattle.masks.proofs.range.hops.Goals as goal
 
 -- src/range.rt:39:1

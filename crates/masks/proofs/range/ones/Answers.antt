@@ -1,7 +1,5 @@
 use native.Mathlib.Omega.{arith}
 use Rattle.masks.proofs.Arcs.{ones_is}
-use Rattle.masks.proofs.range.ones.Reads as reads
-use Rattle.masks.proofs.range.ones.Lts as lts
 use Rattle.masks.proofs.range.ones.Goals as goal
 
 -- src/range.rt:15:5

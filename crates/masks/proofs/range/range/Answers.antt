@@ -1,8 +1,5 @@
 use mathlib.Core.Path.{refl}
 use Rattle.masks.proofs.Arcs.{range_is}
-use Rattle.masks.proofs.range.range.Reads as reads
-use Rattle.masks.proofs.range.range.Lts as lts
-use Rattle.masks.proofs.range.ones.Reads as ones-reads
 use Rattle.masks.proofs.range.range.Goals as goal
 
 -- src/range.rt:19:1

@@ -3,9 +3,6 @@ use lib.Bits.{bit_or}
 use native.Mathlib.Omega.{arith}
 use mathlib.Core.Path.{refl}
 use Rattle.masks.proofs.Arcs.{turned_small, turned_is}
-use Rattle.masks.proofs.range.turned.Reads as reads
-use Rattle.masks.proofs.range.turned.Lts as lts
-use Rattle.masks.proofs.range.ones.Reads as ones-reads
 use Rattle.masks.proofs.range.turned.Goals as goal
 
 -- src/range.rt:35:5

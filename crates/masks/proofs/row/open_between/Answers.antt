@@ -2,10 +2,6 @@ use lib.Dec.{leb}
 use Prim.Native.Nat.{◌+◌}
 use native.Mathlib.Omega.{arith}
 use Rattle.masks.proofs.RowMasks.{pick_most, open_row}
-use Rattle.masks.proofs.row.open_between.Reads as reads
-use Rattle.masks.proofs.row.open_between.Lts as lts
-use Rattle.logic.proofs.pick.Reads as pick-reads
-use Rattle.masks.proofs.range.range.Reads as range-reads
 use Rattle.masks.proofs.row.open_between.Goals as goal
 
 -- src/row.rt:40:9

@@ -1,10 +1,6 @@
 use Prim.Native.Nat.{◌+◌}
 use native.Mathlib.Omega.{arith}
 use Rattle.masks.proofs.RowMasks.{pick_most, open_useful_row}
-use Rattle.masks.proofs.row.open_useful.Reads as reads
-use Rattle.masks.proofs.row.open_useful.Lts as lts
-use Rattle.logic.proofs.pick.Reads as pick-reads
-use Rattle.masks.proofs.range.range.Reads as range-reads
 use Rattle.masks.proofs.row.open_useful.Goals as goal
 
 -- src/row.rt:74:5

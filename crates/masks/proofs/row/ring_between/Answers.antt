@@ -2,11 +2,6 @@ use lib.Dec.{eqb}
 use Prim.Native.Nat.{◌+◌}
 use native.Mathlib.Omega.{arith}
 use Rattle.masks.proofs.RowMasks.{pick_most, ring_row}
-use Rattle.masks.proofs.row.ring_between.Reads as reads
-use Rattle.masks.proofs.row.ring_between.Lts as lts
-use Rattle.logic.proofs.pick.Reads as pick-reads
-use Rattle.masks.proofs.range.arcs.Reads as arcs-reads
-use Rattle.masks.proofs.range.hops.Reads as hops-reads
 use Rattle.masks.proofs.row.ring_between.Goals as goal
 
 -- src/row.rt:33:5

@@ -1,10 +1,6 @@
 use Prim.Native.Nat.{◌+◌, ◌-◌, ◌/◌}
 use native.Mathlib.Omega.{arith}
 use Rattle.masks.proofs.RowMasks.{pick_most, ring_useful_row}
-use Rattle.masks.proofs.row.ring_useful.Reads as reads
-use Rattle.masks.proofs.row.ring_useful.Lts as lts
-use Rattle.logic.proofs.pick.Reads as pick-reads
-use Rattle.masks.proofs.range.arc.Reads as arc-reads
 use Rattle.masks.proofs.row.ring_useful.Goals as goal
 
 -- src/row.rt:62:5

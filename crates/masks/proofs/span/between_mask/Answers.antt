@@ -1,28 +1,17 @@
-use native.Mathlib.Omega.{arith}
-use Rattle.masks.proofs.Spans.{too_long, no_start, no_end, both_ends}
 use mathlib.Core.Path.{◌∙◌}
-use Rattle.masks.proofs.span.between_mask.Reads as reads
-use Rattle.masks.proofs.span.between_mask.Lts as lts
-use Rattle.masks.proofs.span.open_span.Reads as open-span-reads
-use Rattle.masks.proofs.span.ring_span.Reads as ring-span-reads
+use Rattle.masks.proofs.Spans.{too_long, no_start, no_end, both_ends}
+use Rattle.masks.proofs.span.between_mask.Goals.{then-axis-gt16-via-then-axis-gt16, then-axis-gt16-via-else-axis-gt16+then-axis-p, then-axis-gt16-via-else-axis-gt16+else-axis-p+then-axis-q}
 use Rattle.masks.proofs.span.between_mask.Goals as goal
 
--- src/span.rt:58:9
-pub returns-then-len-gt16 : goal.returns-then-len-gt16
-returns-then-len-gt16 c = too_long _ _ _ _ c.if-len-gt16.true
+pub returns-then-axis-gt16 : goal.returns-then-axis-gt16
+returns-then-axis-gt16 c = elim c.then-axis-gt16.branch [
+  | then-axis-gt16-via-then-axis-gt16 w ↦ too_long _ _ _ _ w.if-axis-gt16.true
+  | then-axis-gt16-via-else-axis-gt16+then-axis-p w ↦ no_start _ _ _ _ w.if-axis-p.true
+  | then-axis-gt16-via-else-axis-gt16+else-axis-p+then-axis-q w ↦ no_end _ _ _ _ w.if-axis-q.true
+]
 
--- src/span.rt:61:9
-pub returns-then-len-p : goal.returns-then-len-p
-returns-then-len-p c = no_start _ _ _ _ c.if-len-p.true
+pub returns-then-axis : goal.returns-then-axis
+returns-then-axis c = both_ends _ _ _ _ _ c.if-axis-gt16.false c.if-axis-p.false c.if-axis-q.false (c.ring_span.ensures ∙ rw c.if-axis.true)
 
--- src/span.rt:64:9
-pub returns-then-len-q : goal.returns-then-len-q
-returns-then-len-q c = no_end _ _ _ _ c.if-len-q.true
-
--- src/span.rt:67:9
-pub returns-then-ring : goal.returns-then-ring
-returns-then-ring c = both_ends _ _ _ _ _ (omega arith) (omega arith) (omega arith) (c.ring_span.ensures ∙ rw c.if-ring.true)
-
--- src/span.rt:54:1
-pub returns : goal.returns
-returns c = both_ends _ _ _ _ _ (omega arith) (omega arith) (omega arith) (c.open_span.ensures ∙ rw c.if-ring.false)
+pub returns-else-axis : goal.returns-else-axis
+returns-else-axis c = both_ends _ _ _ _ _ c.if-axis-gt16.false c.if-axis-p.false c.if-axis-q.false (c.open_span.ensures ∙ rw c.if-axis.false)

@@ -1,7 +1,4 @@
 use Rattle.masks.proofs.Spans.{full_is, full_none}
-use Rattle.masks.proofs.span.full.Reads as reads
-use Rattle.masks.proofs.span.full.Lts as lts
-use Rattle.masks.proofs.range.ones.Reads as ones-reads
 use Rattle.masks.proofs.span.full.Goals as goal
 
 -- src/span.rt:25:1

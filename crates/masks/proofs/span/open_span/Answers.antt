@@ -1,7 +1,4 @@
 use Rattle.masks.proofs.Spans.{open_up, open_down}
-use Rattle.masks.proofs.span.open_span.Reads as reads
-use Rattle.masks.proofs.span.open_span.Lts as lts
-use Rattle.masks.proofs.range.range.Reads as range-reads
 use Rattle.masks.proofs.span.open_span.Goals as goal
 
 -- src/span.rt:42:1

@@ -3,11 +3,6 @@ use Prim.Native.Nat.{◌+◌, ◌-◌, ◌/◌}
 use native.Mathlib.Omega.{arith}
 use Rattle.masks.proofs.Spans.{ring_span}
 use Rattle.masks.proofs.RowMasks.{pick_most}
-use Rattle.masks.proofs.span.ring_span.Reads as reads
-use Rattle.masks.proofs.span.ring_span.Lts as lts
-use Rattle.logic.proofs.pick.Reads as pick-reads
-use Rattle.masks.proofs.range.arcs.Reads as arcs-reads
-use Rattle.masks.proofs.range.hops.Reads as hops-reads
 use Rattle.masks.proofs.span.ring_span.Goals as goal
 
 -- src/span.rt:39:5

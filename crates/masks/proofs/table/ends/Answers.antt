@@ -1,14 +1,15 @@
-use Rattle.masks.proofs.Tables.{ends_is, ends_none}
-use Rattle.masks.proofs.table.ends.Reads as reads
-use Rattle.masks.proofs.table.ends.Lts as lts
-use Rattle.masks.proofs.table.filled_ends.Reads as filled-ends-reads
-use Rattle.shape.proofs.shape.shape_error.Reads as shape-error-reads
+use mathlib.Core.Path.{sym, ◌∙◌}
+use Rattle.masks.proofs.Tables.{extent_most, blocks_turn, of_end, ends_is, ends_none}
 use Rattle.masks.proofs.table.ends.Goals as goal
 
--- src/table.rt:55:1
-pub returns-then-shape_error-eq0 : goal.returns-then-shape_error-eq0
-returns-then-shape_error-eq0 c = λ i l. ends_is _ _ _ _ _ c.shape_error.ensures c.if-shape_error-eq0.true i _ (c.filled_ends.ensures i l)
+pub returns-then-is_err : goal.returns-then-is_err
+returns-then-is_err c = ends_none _ _ _ _ c.check.ensures _ (sym c.is_err.ensures.value ∙ c.if-is_err.true)
 
--- src/table.rt:55:1
-pub returns-else-shape_error-eq0 : goal.returns-else-shape_error-eq0
-returns-else-shape_error-eq0 c = ends_none _ _ _ _ _ c.shape_error.ensures c.if-shape_error-eq0.false
+pub block-requires : goal.block-requires
+block-requires c = extent_most _ _ c.check.ensures (sym c.is_err.ensures.value ∙ c.if-is_err.false) _ _ c.axis.ensures
+
+pub loop-k-preserved : goal.loop-k-preserved
+loop-k-preserved c = blocks_turn _ _ _ _ _ _ c.loop-k.invariant c.lay.auto.masks c.lay.ensures.here c.lay.ensures.before (λ j l. of_end _ _ _ _ _ _ _ _ _ j l c.dim_at-d.ensures c.axis.ensures c.coord.ensures (c.block.ensures j l))
+
+pub returns : goal.returns
+returns c = ends_is _ _ _ _ c.check.ensures _ (sym c.is_err.ensures.value ∙ c.if-is_err.false) _ _ c.loop-k-test.false c.loop-k.invariant

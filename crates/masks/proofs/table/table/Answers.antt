@@ -1,14 +1,15 @@
-use Rattle.masks.proofs.Tables.{table_is, table_none}
-use Rattle.masks.proofs.table.table.Reads as reads
-use Rattle.masks.proofs.table.table.Lts as lts
-use Rattle.masks.proofs.table.filled.Reads as filled-reads
-use Rattle.shape.proofs.shape.shape_error.Reads as shape-error-reads
+use mathlib.Core.Path.{sym, ◌∙◌}
+use Rattle.masks.proofs.Tables.{extent_most, blocks_turn, of_any, table_is, table_none}
 use Rattle.masks.proofs.table.table.Goals as goal
 
--- src/table.rt:53:1
-pub returns-then-shape_error-eq0 : goal.returns-then-shape_error-eq0
-returns-then-shape_error-eq0 c = λ i l. table_is _ _ _ _ c.shape_error.ensures c.if-shape_error-eq0.true i _ (c.filled.ensures i l)
+pub returns-then-is_err : goal.returns-then-is_err
+returns-then-is_err c = table_none _ _ _ _ c.check.ensures (sym c.is_err.ensures.value ∙ c.if-is_err.true)
 
--- src/table.rt:53:1
-pub returns-else-shape_error-eq0 : goal.returns-else-shape_error-eq0
-returns-else-shape_error-eq0 c = table_none _ _ _ _ c.shape_error.ensures c.if-shape_error-eq0.false
+pub block-requires : goal.block-requires
+block-requires c = extent_most _ _ c.check.ensures (sym c.is_err.ensures.value ∙ c.if-is_err.false) _ _ c.axis-axis.ensures
+
+pub loop-k-preserved : goal.loop-k-preserved
+loop-k-preserved c = blocks_turn _ _ _ _ _ _ c.loop-k.invariant c.lay.auto.masks c.lay.ensures.here c.lay.ensures.before (λ j l. of_any _ _ _ _ _ _ _ j l c.dim_at.ensures c.axis-axis.ensures (c.block.ensures j l))
+
+pub returns : goal.returns
+returns c = table_is _ _ _ _ c.check.ensures (sym c.is_err.ensures.value ∙ c.if-is_err.false) _ _ c.loop-k-test.false c.loop-k.invariant

@@ -1,4 +1,5 @@
+use mathlib.Core.Path.{◌∙◌}
 use Rattle.nafthurm.proofs.packets.nafthurm_packet_check.Goals as goal
 
 pub returns : goal.returns
-returns c = rw (← c.packet_of.ensures, ← c.shape_of.ensures) c.check.ensures
+returns c = rw (← c.from.ensures, ← c.into.ensures) (c.number.ensures ∙ c.check.ensures)

@@ -1,4 +1,6 @@
+use mathlib.Core.Path.{◌∙◌}
+use Rattle.nafthurm.proofs.Numbers.{stepped_number}
 use Rattle.nafthurm.proofs.packets.nafthurm_step.Goals as goal
 
 pub returns : goal.returns
-returns c = rw (← c.packet_of.ensures, ← c.shape_of.ensures, ← c.step.ensures.value) c.stepped_for.ensures
+returns c = rw (← c.from.ensures, ← c.into.ensures) (record { value = rw (← c.step.ensures.value) c.stepped_for.ensures; number = stepped_number _ _ _ c.stepped_for.ensures ∙ c.step.ensures.answer_value })

@@ -1,4 +1,4 @@
 use Rattle.nafthurm.proofs.plans.nafthurm_plan_shape.Goals as goal
 
 pub returns : goal.returns
-returns c = rw (← c.shape_of.ensures) c.shape_for.ensures
+returns c = rw (← c.shape_of.ensures) c.into.ensures

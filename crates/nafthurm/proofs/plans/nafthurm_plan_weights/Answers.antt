@@ -1,4 +1,4 @@
 use Rattle.nafthurm.proofs.plans.nafthurm_plan_weights.Goals as goal
 
 pub returns : goal.returns
-returns c = rw (← c.weights_of.ensures) c.weights_for.ensures
+returns c = rw (← c.weights_of.ensures) c.into.ensures

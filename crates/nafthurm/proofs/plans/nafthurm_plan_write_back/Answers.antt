@@ -1,6 +1,11 @@
-use Rattle.nafthurm.specs.Forms.{written_for}
 use mathlib.Core.Path.{ap, ◌∙◌}
+use Rattle.nafthurm.specs.Forms.{written_for}
+use Rattle.nafthurm.proofs.Numbers.{written_number}
 use Rattle.nafthurm.proofs.plans.nafthurm_plan_write_back.Goals as goal
 
 pub returns : goal.returns
-returns c = record { value = c.written_for.ensures ∙ ap written_for c.write_back.ensures.value; out_after = c.write_back.ensures.out_after }
+returns c = record {
+  value = c.into.ensures ∙ ap written_for c.write_back.ensures.value;
+  number = written_number _ _ c.into.ensures ∙ c.write_back.ensures.number;
+  out_after = c.write_back.ensures.out_after;
+}

@@ -1,6 +1,7 @@
-use Rattle.nafthurm.specs.Forms.{route_for}
 use mathlib.Core.Path.{ap, ◌∙◌}
+use Rattle.nafthurm.specs.Forms.{route_for}
+use Rattle.nafthurm.proofs.Numbers.{route_number}
 use Rattle.nafthurm.proofs.sheets.nafthurm_lookup_route.Goals as goal
 
 pub returns : goal.returns
-returns c = c.route_for.ensures ∙ ap route_for c.route.ensures
+returns c = record { value = c.into.ensures ∙ ap route_for c.route.ensures.value; number = route_number _ _ c.into.ensures ∙ c.route.ensures.number }

@@ -1,10 +1,5 @@
-use Prim.Native.Nat.{◌-◌}
-use lib.ListN.{length}
 use Rattle.packet.proofs.Walks.{Carried}
 use Rattle.packet.proofs.stepper.walk_on.Given as goal
 
 abbrev pub invariant-loop-hops : goal.invariant-loop-hops
 invariant-loop-hops l = Carried l.shape l.dirs l.lent l.way l.ways l.hops
-
-abbrev pub decreases-loop-hops : goal.decreases-loop-hops
-decreases-loop-hops l = length l.dirs - l.hops

@@ -1,16 +1,16 @@
 use native.Mathlib.Omega.{arith}
-use borrow.Author.Tests.{eq-eqb, ne_eqb}
+use borrow.Author.Tests.{ne_eqb}
 use Rattle.plan.specs.Kinds.{kind_dir, kind_dim}
 use Rattle.plan.proofs.kinds.dir.Goals as goal
 
-pub returns-then-kind-eq0 : goal.returns-then-kind-eq0
+pub returns-in-0-clause-value : goal.returns-in-0-clause-value
 unfolding kind_dir kind_dim
-returns-then-kind-eq0 c = record { value = rw (eq-eqb _ _ c.if-kind-eq0.true); upper_bound = omega arith }
+returns-in-0-clause-value c = rw c.in-0.is
 
-pub returns-then-kind-eq1 : goal.returns-then-kind-eq1
+pub returns-in-1-clause-value : goal.returns-in-1-clause-value
 unfolding kind_dir kind_dim
-returns-then-kind-eq1 c = record { value = rw (ne_eqb _ _ c.if-kind-eq0.false, eq-eqb _ _ c.if-kind-eq1.true); upper_bound = omega arith }
+returns-in-1-clause-value c = rw c.in-1.is
 
-pub returns-else-kind-eq1 : goal.returns-else-kind-eq1
+pub returns-in_default-clause-value : goal.returns-in_default-clause-value
 unfolding kind_dir kind_dim
-returns-else-kind-eq1 c = record { value = rw (ne_eqb _ _ c.if-kind-eq0.false, ne_eqb _ _ c.if-kind-eq1.false); upper_bound = omega arith }
+returns-in_default-clause-value c = rw (ne_eqb c.args.kind 0 (λ e. omega arith), ne_eqb c.args.kind 1 (λ e. omega arith))

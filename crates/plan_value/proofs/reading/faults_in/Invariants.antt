@@ -1,4 +1,3 @@
-use Prim.Native.Nat.{◌-◌}
 use mathlib.Core.Path.{◌≡◌}
 use Rattle.sheet.proofs.Fill.{Filling}
 use Rattle.plan.specs.Layout.{fault_count, fault_at}
@@ -7,6 +6,3 @@ use Rattle.plan_value.proofs.reading.faults_in.Given as goal
 
 abbrev pub invariant-loop-i : goal.invariant-loop-i
 invariant-loop-i l = (l.count ≡ fault_count l.sheet) × Filling no_fault (fault_at l.sheet) 256 l.count l.faults l.i
-
-abbrev pub decreases-loop-i : goal.decreases-loop-i
-decreases-loop-i l = l.count - l.i

@@ -1,29 +1,31 @@
 use native.Mathlib.Omega.{arith}
-use Rattle.planner.proofs.Destination.{dest_small, bit_at, dead_told, alive_told, direct_told, not_direct, via_told, not_via, nearing, last}
-use Rattle.first_clear.proofs.Dests.{first_given, none_given}
 use mathlib.Core.Path.{refl}
+use Rattle.planner.proofs.Destination.{dest_small, bit_at, dead_told, alive_told, direct_told, not_direct}
 use Rattle.planner.proofs.dest.outcome_to.Goals as goal
 
 pub returns-then-has : goal.returns-then-has
-returns-then-has c = λ _ _ _. direct_told _ _ _ _ _ _ _ _ _ _ _ _ c.requires.ready _ _ c.requires.at _ c.requires.weights_value _ (bit_at _ _ _ _ _ _ _ _ _ _ _ _ c.requires.ready _ _ c.requires.at _ _ (c.has.ensures (omega arith))) c.if-has.true _ c.distance_at-length.ensures
+returns-then-has c = λ _ _ _. let k = c.args.target.now in let source = k.source.now in direct_told source.ready k.node_at source.known.weighed _ (bit_at source.ready k.node_at _ _ (c.has.ensures (omega arith))) c.if-has.true _ c.distance_at-length.ensures
 
-pub bounds-dead-at : goal.bounds-dead-at
-bounds-dead-at c = dest_small _ _ _ _ _ _ _ _ _ _ _ _ c.requires.ready _ _ c.requires.at
+pub bounds-known-i : goal.bounds-known-i
+bounds-known-i c = let k = c.args.target.now in dest_small k.source.now.ready k.node_at
 
-pub returns-then-dead-at-ne0 : goal.returns-then-dead-at-ne0
-returns-then-dead-at-ne0 c = λ _ _ _. dead_told _ _ _ _ _ _ _ _ _ _ _ _ c.requires.ready _ _ c.requires.at c.if-dead-at-ne0.true
+pub returns-then-known-i-ne0 : goal.returns-then-known-i-ne0
+returns-then-known-i-ne0 c = λ _ _ _. let k = c.args.target.now in dead_told k.source.now.ready k.node_at c.if-known-i-ne0.true
 
-pub bounds-notes-at : goal.bounds-notes-at
-bounds-notes-at c = dest_small _ _ _ _ _ _ _ _ _ _ _ _ c.requires.ready _ _ c.requires.at
+pub bounds-notes-i : goal.bounds-notes-i
+bounds-notes-i c = let k = c.args.target.now in dest_small k.source.now.ready k.node_at
 
-pub returns-then-is_given : goal.returns-then-is_given
-returns-then-is_given c = let direct = not_direct _ _ _ _ _ _ _ _ _ _ _ _ c.requires.ready _ _ c.requires.at _ (bit_at _ _ _ _ _ _ _ _ _ _ _ _ c.requires.ready _ _ c.requires.at _ _ (c.has.ensures (omega arith))) c.if-has.false in λ _ noted _. alive_told _ _ _ _ _ _ _ _ _ _ _ _ c.requires.ready _ _ c.requires.at c.if-dead-at-ne0.false _ (via_told _ _ _ _ _ _ _ _ _ _ _ _ c.requires.ready _ _ c.requires.at _ c.requires.weights_value direct _ refl _ (noted _ c.requires.at.node) _ c.distance_at-length.ensures _ c.via_outcome-first.ensures _ c.is_given.ensures c.if-is_given.true)
+pub bounds-twos-i : goal.bounds-twos-i
+bounds-twos-i c = let k = c.args.target.now in dest_small k.source.now.ready k.node_at
 
-pub bounds-twos-at : goal.bounds-twos-at
-bounds-twos-at c = dest_small _ _ _ _ _ _ _ _ _ _ _ _ c.requires.ready _ _ c.requires.at
+pub near_to-requires : goal.near_to-requires
+near_to-requires c = let k = c.args.target.now in let g = k.source.now.ready in not_direct g k.node_at _ (bit_at g k.node_at _ _ (c.has.ensures (omega arith))) c.if-has.false
 
-pub returns-then-is_given-2 : goal.returns-then-is_given-2
-returns-then-is_given-2 c = let direct = not_direct _ _ _ _ _ _ _ _ _ _ _ _ c.requires.ready _ _ c.requires.at _ (bit_at _ _ _ _ _ _ _ _ _ _ _ _ c.requires.ready _ _ c.requires.at _ _ (c.has.ensures (omega arith))) c.if-has.false in λ _ noted twos. let near = c.near_outcome-second.ensures _ _ _ (nearing _ _ _ _ _ _ _ _ _ _ _ _ c.requires.ready _ _ c.requires.at _ c.requires.weights_value direct _ (bit_at _ _ _ _ _ _ _ _ _ _ _ _ c.requires.ready _ _ c.requires.at _ _ (c.has-straight.ensures (omega arith))) _ (noted _ c.requires.at.node) _ c.distance_at-length.ensures (not_via _ _ _ _ _ _ _ _ _ _ _ _ c.requires.ready _ _ c.requires.at _ c.requires.weights_value direct _ refl _ (noted _ c.requires.at.node) _ _ c.via_outcome-first.ensures _ c.is_given.ensures c.if-is_given.false) _ (twos _ c.requires.at.node direct (not_via _ _ _ _ _ _ _ _ _ _ _ _ c.requires.ready _ _ c.requires.at _ c.requires.weights_value direct _ refl _ (noted _ c.requires.at.node) _ _ c.via_outcome-first.ensures _ c.is_given.ensures c.if-is_given.false))) in alive_told _ _ _ _ _ _ _ _ _ _ _ _ c.requires.ready _ _ c.requires.at c.if-dead-at-ne0.false _ (first_given _ _ _ _ _ near c.is_given-2.ensures c.if-is_given-2.true)
+pub returns-in-Some : goal.returns-in-Some
+returns-in-Some c = λ _ noted twos. let k = c.args.target.now in let g = k.source.now.ready in let to = k.node_at in let direct = not_direct g to _ (bit_at g to _ _ (c.has.ensures (omega arith))) c.if-has.false in alive_told g to c.if-known-i-ne0.false _ ((c.near_to.ensures (noted _ to.node) (λ over. twos _ to.node direct over)).given _ c.in-Some.is)
+
+pub far_to-requires : goal.far_to-requires
+far_to-requires c = let k = c.args.target.now in let g = k.source.now.ready in record { direct = not_direct g k.node_at _ (bit_at g k.node_at _ _ (c.has.ensures (omega arith))) c.if-has.false; own = refl }
 
 pub returns : goal.returns
-returns c = let direct = not_direct _ _ _ _ _ _ _ _ _ _ _ _ c.requires.ready _ _ c.requires.at _ (bit_at _ _ _ _ _ _ _ _ _ _ _ _ c.requires.ready _ _ c.requires.at _ _ (c.has.ensures (omega arith))) c.if-has.false in λ sets noted twos. let near = c.near_outcome-second.ensures _ _ _ (nearing _ _ _ _ _ _ _ _ _ _ _ _ c.requires.ready _ _ c.requires.at _ c.requires.weights_value direct _ (bit_at _ _ _ _ _ _ _ _ _ _ _ _ c.requires.ready _ _ c.requires.at _ _ (c.has-straight.ensures (omega arith))) _ (noted _ c.requires.at.node) _ c.distance_at-length.ensures (not_via _ _ _ _ _ _ _ _ _ _ _ _ c.requires.ready _ _ c.requires.at _ c.requires.weights_value direct _ refl _ (noted _ c.requires.at.node) _ _ c.via_outcome-first.ensures _ c.is_given.ensures c.if-is_given.false) _ (twos _ c.requires.at.node direct (not_via _ _ _ _ _ _ _ _ _ _ _ _ c.requires.ready _ _ c.requires.at _ c.requires.weights_value direct _ refl _ (noted _ c.requires.at.node) _ _ c.via_outcome-first.ensures _ c.is_given.ensures c.if-is_given.false))) in alive_told _ _ _ _ _ _ _ _ _ _ _ _ c.requires.ready _ _ c.requires.at c.if-dead-at-ne0.false _ (c.far_to.ensures _ _ (last _ _ _ _ _ _ _ _ _ _ _ _ c.requires.ready _ _ c.requires.at _ c.requires.weights_value direct _ (bit_at _ _ _ _ _ _ _ _ _ _ _ _ c.requires.ready _ _ c.requires.at _ _ (c.has-straight.ensures (omega arith))) sets _ noted _ refl (none_given _ _ _ _ _ near c.is_given-2.ensures c.if-is_given-2.false)))
+returns c = λ sets noted twos. let k = c.args.target.now in let g = k.source.now.ready in let to = k.node_at in let direct = not_direct g to _ (bit_at g to _ _ (c.has.ensures (omega arith))) c.if-has.false in alive_told g to c.if-known-i-ne0.false _ (c.far_to.ensures sets noted ((c.near_to.ensures (noted _ to.node) (λ over. twos _ to.node direct over)).none c.in_default.is))

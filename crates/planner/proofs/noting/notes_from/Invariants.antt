@@ -1,11 +1,8 @@
-use Prim.Native.Nat.{◌-◌, ◌*◌, ◌≤◌}
+use Prim.Native.Nat.{◌*◌}
 use mathlib.Core.Path.{◌≡◌}
 use lib.ListN.{length}
 use Rattle.planner.specs.Ranked.{Noting}
 use Rattle.planner.proofs.noting.notes_from.Given as goal
 
 abbrev pub invariant-loop-r : goal.invariant-loop-r
-invariant-loop-r l = (l.r ≤ 31) × (length l.near ≡ 256) × Noting l.plan l.work l.source l.skip l.notes l.twos (65536 * l.r)
-
-abbrev pub decreases-loop-r : goal.decreases-loop-r
-decreases-loop-r l = 31 - l.r
+invariant-loop-r l = (length l.near ≡ 256) × Noting l.fn.source.known.plan.now l.fn.source.known.work.now l.fn.source.node l.skip l.notes l.twos (65536 * l.r)

@@ -1,22 +1,24 @@
-use native.Mathlib.Omega.{arith}
 use mathlib.Core.Path.{refl, sym}
 use mathlib.Core.Logic.{inl}
-use Rattle.planner.proofs.Destination.{dest_small, bit_at, via_told, not_via, nearing}
-use Rattle.first_clear.proofs.Steps.{given_by}
-use Rattle.planner.proofs.Pairs.{between_noted, own_noted, pair_two}
+use Rattle.planner.proofs.Destination.{dest_small}
+use Rattle.planner.proofs.Pairs.{pair_two, pair_own}
 use Rattle.planner.proofs.pair.near_by_notes.Goals as goal
 
-pub notes_from-notes-requires : goal.notes_from-notes-requires
-notes_from-notes-requires c = record { twos_len = refl; ready = c.requires.ready; weights_value = c.requires.weights_value }
+pub bounds-twos-target : goal.bounds-twos-target
+bounds-twos-target c = let k = c.args.target.now in dest_small k.source.now.ready k.node_at
 
-pub note_of-note-requires : goal.note_of-note-requires
-note_of-note-requires c = dest_small _ _ _ _ _ _ _ _ _ _ _ _ c.requires.ready _ _ c.requires.at
-
-pub returns-then-is_given : goal.returns-then-is_given
-returns-then-is_given c = let beside = c.beside-skip.ensures _ _ _ (record { plan = c.requires.ready.prepared.of_plan.plan; shape = c.requires.ready.prepared.of_plan.shape; source = c.requires.ready.source; target = c.requires.at }) in let made = c.notes_from-notes.ensures (inl c.requires.work_len) in let noted = between_noted _ _ c.notes_from-notes.result _ _ made.0 beside in let here = own_noted _ _ c.notes_from-notes.result _ c.requires.at.node noted in let own = rw (sym c.note_of-note.ensures) at here in given_by _ _ _ _ _ c.is_given.ensures c.if-is_given.true (via_told _ _ _ _ _ _ _ _ _ _ _ _ c.requires.ready _ _ c.requires.at _ c.requires.weights_value c.requires.dest_value _ refl _ own _ c.distance_at-length.ensures _ c.via_outcome-first.ensures _ c.is_given.ensures c.if-is_given.true)
-
-pub bounds-twos-i : goal.bounds-twos-i
-bounds-twos-i c = dest_small _ _ _ _ _ _ _ _ _ _ _ _ c.requires.ready _ _ c.requires.at
+pub note_of-requires : goal.note_of-requires
+note_of-requires c = let k = c.args.target.now in dest_small k.source.now.ready k.node_at
 
 pub returns : goal.returns
-returns c = let beside = c.beside-skip.ensures _ _ _ (record { plan = c.requires.ready.prepared.of_plan.plan; shape = c.requires.ready.prepared.of_plan.shape; source = c.requires.ready.source; target = c.requires.at }) in let made = c.notes_from-notes.ensures (inl c.requires.work_len) in let noted = between_noted _ _ c.notes_from-notes.result _ _ made.0 beside in let here = own_noted _ _ c.notes_from-notes.result _ c.requires.at.node noted in let own = rw (sym c.note_of-note.ensures) at here in let over = not_via _ _ _ _ _ _ _ _ _ _ _ _ c.requires.ready _ _ c.requires.at _ c.requires.weights_value c.requires.dest_value _ refl _ own _ _ c.via_outcome-first.ensures _ c.is_given.ensures c.if-is_given.false in c.near_outcome.ensures _ _ _ (nearing _ _ _ _ _ _ _ _ _ _ _ _ c.requires.ready _ _ c.requires.at _ c.requires.weights_value c.requires.dest_value _ (bit_at _ _ _ _ _ _ _ _ _ _ _ _ c.requires.ready _ _ c.requires.at _ _ (c.has-straight.ensures (omega arith))) _ own _ c.distance_at-length.ensures over _ (pair_two _ _ _ _ _ _ _ _ _ _ _ _ c.requires.ready _ _ c.requires.at _ c.requires.weights_value c.requires.dest_value _ _ _ made.1 beside (rw c.note_of-note.ensures at over)))
+returns c =
+    let k = c.args.target.now in
+    let source = k.source.now in
+    let of-plan = source.ready.prepared.of_plan in
+    let beside = c.beside-skip.ensures _ _ _ (record { plan = of-plan.plan; shape = of-plan.shape; source = source.ready.source; target = k.node_at }) in
+    let made = c.notes_from.ensures (inl c.requires.work_len) in
+    let own = pair_own _ _ _ k.node_at.node _ _ beside made.0 in
+    c.near_to.ensures (rw (sym c.note_of.ensures) at own) (λ over. pair_two _ _ _ k.node_at.node _ _ beside _ c.requires.direct made.1 (rw c.note_of.ensures at over))
+
+pub notes_from-requires : goal.notes_from-requires
+notes_from-requires c = record { notes_fresh = refl; twos_len = refl }

@@ -1,16 +1,16 @@
 use native.Mathlib.Omega.{arith}
 use mathlib.Core.Path.{sym, ◌∙◌}
-use Rattle.planner.proofs.Checking.{accepted_run, all_boards, refused_run, few_run, written_run}
+use Rattle.std.proofs.lemmas.Result.{err_from_is_err_and}
+use Rattle.planner.proofs.Checking.{accepted_run, board_of, boards_known, refused_run, written_run}
 use Rattle.planner.proofs.run.write_run.Goals as goal
 
-pub returns-then-error-ne0 : goal.returns-then-error-ne0
-returns-then-error-ne0 c = refused_run _ _ _ _ _ c.run_error-error.ensures c.if-error-ne0.true
-
-pub returns-then-work-words_for : goal.returns-then-work-words_for
-returns-then-work-words_for c = few_run _ _ _ _ (sym c.run_error-error.ensures ∙ c.if-error-ne0.false) _ _ _ c.shape_in.ensures c.count-all.ensures c.words_for.ensures (omega arith)
+pub returns-in_err-all : goal.returns-in_err-all
+returns-in_err-all c =
+    let p = err_from_is_err_and c.from_residual.result c.from_residual.ensures.1 in
+    rw (p.1, p.2) (refused_run _ _ _ _ _ c.in_err-all.ensures.value c.in_err-all.ensures.number)
 
 pub write_boards-requires : goal.write_boards-requires
-write_boards-requires c = let ok = accepted_run _ _ (sym c.run_error-error.ensures ∙ c.if-error-ne0.false) in (ok, all_boards _ ok _ _ c.shape_in.ensures c.count-all.ensures, omega (arith, c.words_for.ensures))
+write_boards-requires c = let k = boards_known _ _ _ _ c.in_ok-all.ensures.value in (accepted_run _ _ k.error, k.boards_are, k.enough, omega (arith, board_of _ _ k.error, k.boards_are))
 
 pub returns : goal.returns
-returns c = written_run _ _ _ _ (sym c.run_error-error.ensures ∙ c.if-error-ne0.false) _ _ _ c.shape_in.ensures c.count-all.ensures c.words_for.ensures (omega arith) _ _ _ _ c.write_boards.ensures c.ended.ensures
+returns c = written_run _ _ _ _ _ (boards_known _ _ _ _ c.in_ok-all.ensures.value) _ _ _ _ c.write_boards.ensures c.ended.ensures

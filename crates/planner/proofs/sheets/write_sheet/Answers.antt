@@ -1,13 +1,15 @@
-use Rattle.planned_sheet.proofs.Written.{refused_source, put_is}
-use mathlib.Core.Path.{refl}
+use native.Mathlib.Omega.{arith}
+use mathlib.Core.Path.{refl, sym}
 use mathlib.Core.Logic.{inl}
+use Rattle.std.proofs.lemmas.Result.{err_from_is_err_and}
+use Rattle.planner.proofs.Writing.{sheet_refused, sheet_put}
 use Rattle.planner.proofs.sheets.write_sheet.Goals as goal
 
-both : {A B : Type 0} → A × B → record { value : A; out_after : B }
-both p = record { value = p.0; out_after = p.1 }
+pub returns-in_err-check_source : goal.returns-in_err-check_source
+returns-in_err-check_source c = let p = err_from_is_err_and c.from_residual.result c.from_residual.ensures.1 in rw (p.1, p.2) (sheet_refused _ _ _ _ c.in_err-check_source.ensures)
 
-pub returns-then-error-ne0 : goal.returns-then-error-ne0
-returns-then-error-ne0 c = both (refused_source _ _ _ _ c.source_error-error.ensures c.if-error-ne0.true)
+pub planned-count-requires : goal.planned-count-requires
+planned-count-requires c = record { source_value = sym c.in_ok-check_source.ensures; most_bytes_in_bounds = omega arith }
 
 pub returns : goal.returns
-returns c = both (put_is _ _ _ _ _ _ _ _ c.source_error-error.ensures c.if-error-ne0.false (c.planned-count.ensures.held (inl refl)) c.planned-count.ensures.many c.put_made.ensures)
+returns c = sheet_put _ _ _ (sym c.in_ok-check_source.ensures) _ _ (c.planned-count.ensures.held (inl refl)) c.planned-count.ensures.many _ _ c.put_made.ensures

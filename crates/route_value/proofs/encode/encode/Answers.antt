@@ -1,21 +1,9 @@
-use native.Mathlib.Omega.{arith}
-use mathlib.Core.Path.{refl, ap, ◌∙◌}
-use lib.ListN.{length}
-use Rattle.route_value.proofs.Forms.{head_length, head_room, first_entry, entry_room, entry_put}
-use Rattle.route_value.proofs.Writings.{whole}
+use borrow.Author.Rules.{rules}
+use lib.ListN.{get_or}
+use Rattle.routes.specs.Layout.{no_entry}
+use Rattle.route_value.specs.Writing.{route_entries, sheet_of}
 use Rattle.route_value.proofs.encode.encode.Goals as goal
 
-pub loop-i-init : goal.loop-i-init
-loop-i-init c = (omega arith, first_entry _ _ _ (head_room _ _ _ _ _ c.put_head.ensures (omega arith)))
-
-pub put_entry-requires : goal.put_entry-requires
-put_entry-requires c = entry_room _ _ _ _ _ c.loop-i.invariant.1 c.loop-i-test.true
-
-pub loop-i-preserved : goal.loop-i-preserved
-loop-i-preserved c = let inv = c.loop-i.invariant in (inv.0, entry_put _ _ _ _ _ inv.1 _ _ refl c.put_entry.ensures c.loop-i-test.true)
-
-pub shape_of-bytes : goal.shape_of-bytes
-shape_of-bytes c = c.loop-i.invariant.1.made.long ∙ ap length c.put_head.ensures ∙ head_length _ _ _
-
 pub returns : goal.returns
-returns c = whole _ _ _ _ _ c.put_head.ensures (omega arith) c.loop-i.invariant.1 c.loop-i-test.false
+unfolding sheet_of route_entries
+returns c = c.encode_by.ensures (λ k. get_or c.args.routes.entries k no_entry) (λ i e b p. search rules)

@@ -15,4 +15,4 @@ pub slice_bounds-put_sheet-end-2 : goal.slice_bounds-put_sheet-end-2
 slice_bounds-put_sheet-end-2 c = sym (length-take-le _ _ (search rules))
 
 pub returns : goal.returns
-returns c = whole_made _ _ _ _ _ c.put_head.ensures _ _ (omega arith) (omega arith) (c.put_sheet.ensures.value, c.put_sheet.ensures.out_after)
+returns c = whole_made _ _ _ _ _ c.put_head.ensures _ _ (omega arith) (omega arith) (record { value = c.put_sheet.ensures.value; number = c.put_sheet.ensures.number; out_after = c.put_sheet.ensures.out_after })

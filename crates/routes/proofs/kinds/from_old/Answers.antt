@@ -1,7 +1,9 @@
 use mathlib.Core.List.{[]}
 use native.Mathlib.Omega.{arith}
 use lib.ListN.{get_or-eq_default}
-use Rattle.routes.specs.Kinds.{bits_of, old_kinds, from_old}
+use borrow.Author.Tests.{ne_eqb}
+use Rattle.numbers.specs.Numbers.{dead_end, no_clear_choice}
+use Rattle.routes.specs.Kinds.{bits_of, refused_kind, old_kinds, from_old}
 use Rattle.routes.proofs.kinds.from_old.Goals as goal
 
 pub returns-in-0 : goal.returns-in-0
@@ -28,6 +30,14 @@ pub returns-in-5 : goal.returns-in-5
 unfolding from_old bits_of
 returns-in-5 c = rw c.in-5.is
 
+pub returns-in-10 : goal.returns-in-10
+unfolding from_old refused_kind
+returns-in-10 c = rw c.in-10.is
+
+pub returns-in-11 : goal.returns-in-11
+unfolding from_old refused_kind
+returns-in-11 c = rw c.in-11.is
+
 pub returns-in_default : goal.returns-in_default
-unfolding from_old
-returns-in_default c = rw (get_or-eq_default old_kinds [] {n = c.args.kind} (omega arith)) c.refused_kind.ensures
+unfolding from_old refused_kind
+returns-in_default c = rw (get_or-eq_default old_kinds [] {n = c.args.kind} (omega arith), ne_eqb c.args.kind dead_end (λ z. omega arith), ne_eqb c.args.kind no_clear_choice (λ z. omega arith))

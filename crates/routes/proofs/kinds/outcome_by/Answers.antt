@@ -18,4 +18,4 @@ returns-in-2 c = rw (c.in-2.is, c.mode_by-three.ensures, c.mode_by-two.ensures, 
 
 pub returns-in_default : goal.returns-in_default
 unfolding said_by
-returns-in_default c = refused_with _ _ _ _ (omega arith)
+returns-in_default c = rw c.refused.ensures (refused_with _ _ _ _ (omega arith))

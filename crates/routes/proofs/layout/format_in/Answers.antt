@@ -9,4 +9,4 @@ returns-then-version_in-eq-SECOND_VERSION c = rw (eq-eqb _ 2 (sym c.version_in.e
 
 pub returns-else-version_in-eq-SECOND_VERSION : goal.returns-else-version_in-eq-SECOND_VERSION
 unfolding format_by
-returns-else-version_in-eq-SECOND_VERSION c = rw (ne_eqb _ 2 (λ z. c.if-version_in-eq-SECOND_VERSION.false (c.version_in.ensures ∙ z))) c.two_vias.ensures
+returns-else-version_in-eq-SECOND_VERSION c = rw (ne_eqb _ 2 (λ z. c.if-version_in-eq-SECOND_VERSION.false (c.version_in.ensures ∙ z)))

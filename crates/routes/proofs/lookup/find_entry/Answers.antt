@@ -1,14 +1,16 @@
-use Rattle.routes.proofs.Finding.{begin, found, onward, ended}
+use mathlib.Core.Path.{◌≡◌}
+use borrow.Author.Tests.{tests}
+use Rattle.std.proofs.Common.{rules}
+use Rattle.std.proofs.lemmas.Iterator.{first_from_Range}
+use Rattle.routes.specs.Layout.{entry_at}
+use Rattle.routes.proofs.Finding.{found_first}
 use Rattle.routes.proofs.lookup.find_entry.Goals as goal
 
-pub loop-i-init : goal.loop-i-init
-loop-i-init c = begin _ _ _ c.count_in-count.ensures
-
-pub returns-then-e-dest : goal.returns-then-e-dest
-returns-then-e-dest c = found _ _ _ _ c.loop-i.invariant _ c.entry_in-e.ensures c.loop-i-test.true c.if-e-dest.true
-
-pub loop-i-preserved : goal.loop-i-preserved
-loop-i-preserved c = onward _ _ _ _ c.loop-i.invariant _ c.entry_in-e.ensures c.loop-i-test.true c.if-e-dest.false
-
 pub returns : goal.returns
-returns c = ended _ _ _ _ c.loop-i.invariant c.loop-i-test.false
+returns c =
+    let s = c.args.sheet.now in
+    let d = c.args.dest in
+    found_first s d c.count_in.result c.find.result c.count_in.ensures
+    (first_from_Range _ _ _ c.find.result (λ i. (entry_at s i).dest ≡ d) (λ i. (entry_at s i).dest ≡ d → ⊥) c.find.ensures.ran
+    (λ x q k. search (rules, tests))
+    (λ x q k. (search rules, search (rules, tests))))

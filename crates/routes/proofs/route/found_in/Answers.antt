@@ -1,8 +1,11 @@
-use Rattle.routes.proofs.Lookups.{found, missing}
+use mathlib.Core.Path.{sym, ◌∙◌}
+use Rattle.routes.specs.Steps.{found_in}
 use Rattle.routes.proofs.route.found_in.Goals as goal
 
-pub returns-then-i-count_in : goal.returns-then-i-count_in
-returns-then-i-count_in c = found _ _ _ _ c.find_entry-i.ensures c.count_in.ensures c.if-i-count_in.true _ c.entry_in.ensures
+pub returns-in_err-i : goal.returns-in_err-i
+unfolding found_in
+returns-in_err-i c = rw (c.from_residual.ensures, sym c.find_entry.ensures ∙ c.in_err-i.was)
 
-pub returns-else-i-count_in : goal.returns-else-i-count_in
-returns-else-i-count_in c = missing _ _ _ _ c.find_entry-i.ensures c.count_in.ensures c.if-i-count_in.false
+pub returns : goal.returns
+unfolding found_in
+returns c = rw (c.entry_in.ensures, sym c.find_entry.ensures ∙ c.in_ok-i.was)

@@ -1,15 +1,18 @@
-use borrow.Author.Tests.{eq-eqb, ne_eqb}
+use Prim.Native.Nat.{◌/◌}
+use native.Mathlib.Omega.{arith}
+use borrow.Author.Rules.{rules}
+use borrow.Author.Tests.{ne_eqb}
 use Rattle.routes.specs.Steps.{length_by}
 use Rattle.routes.proofs.route.length_by.Goals as goal
 
-pub returns-then-vias-eq2 : goal.returns-then-vias-eq2
+pub returns-in-2 : goal.returns-in-2
 unfolding length_by
-returns-then-vias-eq2 c = rw (eq-eqb _ 2 c.if-vias-eq2.true) c.length_vias.ensures
+returns-in-2 c = rw c.in-2.is (search rules)
 
-pub returns-then-vias-eq1 : goal.returns-then-vias-eq1
+pub returns-in-1 : goal.returns-in-1
 unfolding length_by
-returns-then-vias-eq1 c = rw (ne_eqb _ 2 c.if-vias-eq2.false, eq-eqb _ 1 c.if-vias-eq1.true) c.length_via.ensures
+returns-in-1 c = rw c.in-1.is (search rules)
 
-pub returns : goal.returns
+pub returns-in_default : goal.returns-in_default
 unfolding length_by
-returns c = rw (ne_eqb _ 2 c.if-vias-eq2.false, ne_eqb _ 1 c.if-vias-eq1.false) c.distance.ensures.value
+returns-in_default c = rw (ne_eqb (c.args.e.kind / 16) 2 (λ z. omega arith), ne_eqb (c.args.e.kind / 16) 1 (λ z. omega arith)) (search rules)

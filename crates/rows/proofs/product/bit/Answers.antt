@@ -1,7 +1,5 @@
 use mathlib.Core.Path.{refl}
 use Rattle.rows.specs.Bits.{bit}
-use Rattle.rows.proofs.product.bit.Reads as reads
-use Rattle.rows.proofs.product.bit.Lts as lts
 use Rattle.rows.proofs.product.bit.Goals as goal
 
 -- src/product.rt:10:1

@@ -1,7 +1,4 @@
 use Rattle.rows.proofs.Taking.{not_kept_law, is_kept}
-use Rattle.rows.proofs.product.keep_if.Reads as reads
-use Rattle.rows.proofs.product.keep_if.Lts as lts
-use Rattle.rows.proofs.product.keep.Reads as keep-reads
 use Rattle.rows.proofs.product.keep_if.Goals as goal
 
 -- src/product.rt:49:1

@@ -1,9 +1,5 @@
 use native.Mathlib.Omega.{arith}
 use Rattle.rows.proofs.Taking.{product_skip, no_eight, half_begin, half_turn, half_end}
-use Rattle.rows.proofs.product.less_half.Reads as reads
-use Rattle.rows.proofs.product.less_half.Lts as lts
-use Rattle.rows.proofs.product.bit.Reads as bit-reads
-use Rattle.rows.proofs.product.keep_if.Reads as keep-if-reads
 use Rattle.rows.proofs.product.less_half.Goals as goal
 
 pub overflow_shr-z : goal.overflow_shr-z

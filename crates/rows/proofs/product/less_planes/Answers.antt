@@ -1,7 +1,5 @@
 use native.Mathlib.Omega.{arith}
 use Rattle.rows.proofs.Taking.{product_begin, product_end}
-use Rattle.rows.proofs.product.less_planes.Reads as reads
-use Rattle.rows.proofs.product.less_planes.Lts as lts
 use Rattle.rows.proofs.product.less_planes.Goals as goal
 
 pub returns : goal.returns

@@ -1,8 +1,5 @@
 use native.Mathlib.Omega.{arith}
 use Rattle.rows.proofs.Taking.{product_is}
-use Rattle.rows.proofs.product.product.Reads as reads
-use Rattle.rows.proofs.product.product.Lts as lts
-use Rattle.rows.proofs.product.less.Reads as less-reads
 use Rattle.rows.proofs.product.product.Goals as goal
 
 -- src/product.rt:88:1

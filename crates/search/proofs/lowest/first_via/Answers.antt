@@ -1,36 +1,46 @@
 use native.Mathlib.Omega.{arith}
-use Rattle.search.proofs.Seeking.{space_begin, space_onward, space_found, space_none, inside_here, row_steps, number_step, further}
+use Rattle.search.proofs.Seeking.{space_found, space_none, inside_here, row_steps, number_step}
 use Rattle.search.proofs.lowest.first_via.Goals as goal
 
-pub loop-z-init : goal.loop-z-init
-loop-z-init c = space_begin _ _ _ _ _ _ _ c.next_set-z.ensures
+pub overflow_mul-result-in-Some-in_plane : goal.overflow_mul-result-in-Some-in_plane
+overflow_mul-result-in-Some-in_plane c =
+    let i = c.loop-z.invariant in
+    let s = c.in-Some.ensures.steps.2 in
+    let e = c.in-Some-in_plane.is in
+    let q = c.in_plane.ensures in
+    let h = c.requires in
+    let k = inside_here _ _ _ _ _ _ _ h.shape_value h.bx_bound.0 h.bx_bound.1 h.bx_bound.2 _ _ _ (rw (← s.0) at i.2) (omega (arith, s.1, i.1)) (rw e at q.first) (rw e at q.small) c.next_set-x.ensures in
+    omega (arith, row_steps _ h.shape_value _ _ k.y k.z)
 
-pub in_plane-y-requires : goal.in_plane-y-requires
-in_plane-y-requires c = (omega arith, c.requires.at_in_bounds)
+pub overflow_add-result-in-Some-in_plane : goal.overflow_add-result-in-Some-in_plane
+overflow_add-result-in-Some-in_plane c =
+    let i = c.loop-z.invariant in
+    let s = c.in-Some.ensures.steps.2 in
+    let e = c.in-Some-in_plane.is in
+    let q = c.in_plane.ensures in
+    let h = c.requires in
+    omega (arith, number_step _ _ _ _ _ _ _ h.shape_value h.bx_bound.0 h.bx_bound.1 h.bx_bound.2 _ _ _ (rw (← s.0) at i.2) (omega (arith, s.1, i.1)) (rw e at q.first) (rw e at q.small) c.next_set-x.ensures)
 
-pub overflow_cast-result : goal.overflow_cast-result
-overflow_cast-result c = let m = c.next_set-x.ensures.most in omega arith
+pub returns-in-Some-in_plane-clause-node : goal.returns-in-Some-in_plane-clause-node
+returns-in-Some-in_plane-clause-node c =
+    let i = c.loop-z.invariant in
+    let s = c.in-Some.ensures.steps.2 in
+    let e = c.in-Some-in_plane.is in
+    let q = c.in_plane.ensures in
+    let h = c.requires in
+    number_step _ _ _ _ _ _ _ h.shape_value h.bx_bound.0 h.bx_bound.1 h.bx_bound.2 _ _ _ (rw (← s.0) at i.2) (omega (arith, s.1, i.1)) (rw e at q.first) (rw e at q.small) c.next_set-x.ensures
 
-pub overflow_mul-result : goal.overflow_mul-result
-overflow_mul-result c = let i = inside_here _ _ _ _ _ _ _ c.requires.shape_value c.requires.bx_bound.0 c.requires.bx_bound.1 c.requires.bx_bound.2 _ _ _ c.loop-z.invariant c.loop-z-test.true c.in_plane-y.ensures c.if-y-lt16.true c.next_set-x.ensures in let w = row_steps _ c.requires.shape_value _ _ i.y i.z in omega (arith, w.0)
+pub returns-in-Some-in_plane-clause-first : goal.returns-in-Some-in_plane-clause-first
+returns-in-Some-in_plane-clause-first c =
+    let i = c.loop-z.invariant in
+    let s = c.in-Some.ensures.steps.2 in
+    let e = c.in-Some-in_plane.is in
+    let q = c.in_plane.ensures in
+    let h = c.requires in
+    space_found _ _ _ _ _ _ _ h.shape_value h.bx_bound.0 h.bx_bound.1 h.bx_bound.2 _ _ _ (rw (← s.0) at i.2) (omega (arith, s.1, i.1)) (rw e at q.first) (rw e at q.small) c.next_set-x.ensures
 
-pub overflow_add-result : goal.overflow_add-result
-overflow_add-result c = let i = inside_here _ _ _ _ _ _ _ c.requires.shape_value c.requires.bx_bound.0 c.requires.bx_bound.1 c.requires.bx_bound.2 _ _ _ c.loop-z.invariant c.loop-z-test.true c.in_plane-y.ensures c.if-y-lt16.true c.next_set-x.ensures in let w = row_steps _ c.requires.shape_value _ _ i.y i.z in omega (arith, w.1)
-
-pub overflow_mul-result-then-y-lt16 : goal.overflow_mul-result-then-y-lt16
-overflow_mul-result-then-y-lt16 c = let i = inside_here _ _ _ _ _ _ _ c.requires.shape_value c.requires.bx_bound.0 c.requires.bx_bound.1 c.requires.bx_bound.2 _ _ _ c.loop-z.invariant c.loop-z-test.true c.in_plane-y.ensures c.if-y-lt16.true c.next_set-x.ensures in let w = row_steps _ c.requires.shape_value _ _ i.y i.z in omega (arith, w.2)
-
-pub overflow_add-result-then-y-lt16 : goal.overflow_add-result-then-y-lt16
-overflow_add-result-then-y-lt16 c = omega (arith, number_step _ _ _ _ _ _ _ c.requires.shape_value c.requires.bx_bound.0 c.requires.bx_bound.1 c.requires.bx_bound.2 _ _ _ c.loop-z.invariant c.loop-z-test.true c.in_plane-y.ensures c.if-y-lt16.true c.next_set-x.ensures)
-
-pub returns-then-y-lt16 : goal.returns-then-y-lt16
-returns-then-y-lt16 c = space_found _ _ _ _ _ _ _ c.requires.shape_value c.requires.bx_bound.0 c.requires.bx_bound.1 c.requires.bx_bound.2 _ _ _ c.loop-z.invariant c.loop-z-test.true c.in_plane-y.ensures c.if-y-lt16.true c.next_set-x.ensures
-
-pub loop-z-smaller : goal.loop-z-smaller
-loop-z-smaller c = further _ _ _ c.next_set-z-in-loop-z.ensures c.loop-z-test.true
-
-pub loop-z-preserved : goal.loop-z-preserved
-loop-z-preserved c = space_onward _ _ _ _ _ _ _ _ _ c.loop-z.invariant c.in_plane-y.ensures c.if-y-lt16.false c.next_set-z-in-loop-z.ensures
-
-pub returns : goal.returns
-returns c = space_none _ _ _ _ _ _ _ c.requires.shape_value c.requires.bx_bound.0 c.requires.bx_bound.1 c.requires.bx_bound.2 _ c.loop-z.invariant c.loop-z-test.false
+pub returns-clause-first : goal.returns-clause-first
+returns-clause-first c =
+    let i = c.loop-z.invariant in
+    let h = c.requires in
+    space_none _ _ _ _ _ _ _ h.shape_value h.bx_bound.0 h.bx_bound.1 h.bx_bound.2 _ i.2 (omega (arith, c.in-None.ensures.steps.2, i.1))

@@ -1,13 +1,8 @@
-use native.Mathlib.Omega.{arith}
-use Rattle.search.proofs.Scatter.{weighed_byte}
+use Prim.Native.Nat.{◌+◌, ◌*◌}
+use mathlib.Core.Path.{refl}
+use Rattle.std.proofs.Common.{rules}
 use Rattle.search.proofs.NearPlaces.{near_row_law}
 use Rattle.search.proofs.near.near_along.Goals as goal
 
-pub overflow_mul-least : goal.overflow_mul-least
-overflow_mul-least c = omega (arith, weighed_byte _ c.hops.result c.requires.0 (omega arith))
-
-pub overflow_add-least : goal.overflow_add-least
-overflow_add-least c = omega (arith, weighed_byte _ c.hops.result c.requires.0 (omega arith))
-
 pub returns : goal.returns
-returns c = near_row_law _ _ _ _ _ _ _ _ c.parts-ways.ensures (rw c.hops.ensures) _ c.row_below.ensures
+returns c = near_row_law _ _ _ _ _ c.args.over _ (c.args.weight * c.hops.result + c.args.over) (c.parts_along-ways.ensures c.requires.0 c.requires.1 c.requires.2 c.requires.3) (rw c.hops.ensures refl) _ (c.row_where.ensures _ (λ i b l e. search rules))

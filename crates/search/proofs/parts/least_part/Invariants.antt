@@ -1,9 +1,6 @@
 use lib.ListN.{get_or}
-use Prim.Native.Nat.{ℕ, ◌-◌, ◌≤◌, ◌<◌}
+use Prim.Native.Nat.{ℕ, ◌≤◌, ◌<◌}
 use Rattle.search.proofs.parts.least_part.Given as goal
 
 abbrev pub invariant-loop-c : goal.invariant-loop-c
-invariant-loop-c l = (l.c ≤ l.len) × ((i : ℕ) → i < l.c → l.least ≤ get_or l.ys i 0)
-
-abbrev pub decreases-loop-c : goal.decreases-loop-c
-decreases-loop-c l = l.len - l.c
+invariant-loop-c l = (i : ℕ) → i < l.c → l.least ≤ get_or l.ys i 0

@@ -1,24 +1,17 @@
-use native.Mathlib.Omega.{arith}
+use mathlib.Core.Path.{◌∙◌}
 use Rattle.shape.specs.declared.shape.Dim.TheVariants.{Z}
 use Rattle.shape.proofs.Shapes.{sound}
-use Rattle.search.proofs.Seeking.{further}
-use Rattle.second_via.proofs.Going.{seek_begin, seek_on, seek_end}
+use Rattle.second_via.proofs.Going.{seek_turn, seek_end}
 use Rattle.second_via.proofs.least.space.Goals as goal
 
-pub loop-z-init : goal.loop-z-init
-loop-z-init c = seek_begin _ _ _ _ _ c.next_set-z.ensures
-
-pub plane-best-requires : goal.plane-best-requires
-plane-best-requires c = (c.requires.0, c.requires.1, c.loop-z-test.true)
-
-pub overflow_add-z : goal.overflow_add-z
-overflow_add-z c = omega (arith, c.loop-z-test.true, (sound _ c.requires.0 Z).high)
-
-pub loop-z-smaller : goal.loop-z-smaller
-loop-z-smaller c = further _ _ _ c.next_set-z-in-loop-z.ensures (omega (arith, c.loop-z-test.true, (sound _ c.requires.0 Z).high))
+pub below-z-items-requires : goal.below-z-items-requires
+below-z-items-requires c = (sound _ c.requires.0 Z).high
 
 pub loop-z-preserved : goal.loop-z-preserved
-loop-z-preserved c = seek_on _ _ _ _ _ _ _ _ (sound _ c.requires.0 Z).high c.loop-z-test.true c.loop-z.invariant c.plane-best.ensures c.next_set-z-in-loop-z.ensures
+loop-z-preserved c =
+    let i = c.loop-z.invariant in
+    let s = c.in-Some.ensures.steps in
+    (s.0 ∙ i.0, s.1 ∙ i.1, seek_turn _ _ _ _ _ _ _ _ _ (sound _ c.requires.0 Z).high i.2 (rw (i.0, i.1) at s.2) c.plane-best.ensures)
 
 pub returns : goal.returns
-returns c = seek_end _ _ _ _ _ _ c.loop-z-test.false c.loop-z.invariant
+returns c = let i = c.loop-z.invariant in seek_end _ _ _ _ _ _ (rw i.1 at c.in-None.ensures.steps.2) i.2

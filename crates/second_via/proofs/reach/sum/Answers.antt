@@ -5,4 +5,4 @@ pub returns-then-note-ge-UNCLEAR : goal.returns-then-note-ge-UNCLEAR
 returns-then-note-ge-UNCLEAR c = no_sum _ _ _ c.if-note-ge-UNCLEAR.true
 
 pub returns : goal.returns
-returns c = a_sum _ _ _ _ c.if-note-ge-UNCLEAR.false c.mode.ensures.0
+returns c = a_sum _ _ _ _ c.if-note-ge-UNCLEAR.false c.det_at.ensures.0

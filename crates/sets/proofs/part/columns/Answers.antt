@@ -1,17 +1,14 @@
-use borrow.Author.Tests.{eq-eqb, ne_eqb}
 use Rattle.sets.specs.Part.{columns}
-use Rattle.sets.proofs.part.columns.Reads as reads
-use Rattle.sets.proofs.part.columns.Lts as lts
 use Rattle.sets.proofs.part.columns.Goals as goal
 
-pub returns-then-d-eq0 : goal.returns-then-d-eq0
+pub returns-in-X : goal.returns-in-X
 unfolding columns
-returns-then-d-eq0 c = rw (eq-eqb c.args.d 0 c.if-d-eq0.true)
+returns-in-X c = rw c.in-X.is
 
-pub returns-then-d-eq1 : goal.returns-then-d-eq1
+pub returns-in-Y : goal.returns-in-Y
 unfolding columns
-returns-then-d-eq1 c = rw (ne_eqb c.args.d 0 c.if-d-eq0.false, eq-eqb c.args.d 1 c.if-d-eq1.true)
+returns-in-Y c = rw c.in-Y.is
 
-pub returns-else-d-eq1 : goal.returns-else-d-eq1
+pub returns-in-Z : goal.returns-in-Z
 unfolding columns
-returns-else-d-eq1 c = rw (ne_eqb c.args.d 0 c.if-d-eq0.false, ne_eqb c.args.d 1 c.if-d-eq1.false)
+returns-in-Z c = rw c.in-Z.is

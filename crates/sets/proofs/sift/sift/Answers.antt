@@ -1,20 +1,11 @@
-use mathlib.Core.Path.{refl}
-use Rattle.sets.proofs.Sifting.{sift_begin, sift_turn, sift_end}
-use Rattle.sets.proofs.sift.sift.Reads as reads
-use Rattle.sets.proofs.sift.sift.Lts as lts
-use Rattle.sets.proofs.part.clipped.Reads as clipped-reads
-use Rattle.sets.proofs.sift.counted.Reads as counted-reads
-use Rattle.sets.proofs.sift.reaches.Reads as reaches-reads
+use mathlib.Core.Path.{◌∙◌}
+use native.Mathlib.Omega.{arith}
+use Rattle.std.proofs.lemmas.List.{length-take-le, get_or-take}
+use Rattle.sets.proofs.Sifting.{sift_begin, sift_turn}
 use Rattle.sets.proofs.sift.sift.Goals as goal
 
--- src/sift.rt:63:5
-pub loop-i-init : goal.loop-i-init
-loop-i-init c = sift_begin _ _ _ _ _ _ _ c.clipped-n.ensures
+pub loop-w-init : goal.loop-w-init
+loop-w-init c = sift_begin _ _ _ _ _
 
--- src/sift.rt:63:5
-pub loop-i-preserved : goal.loop-i-preserved
-loop-i-preserved c = sift_turn _ _ _ _ _ _ _ _ _ _ _ _ c.loop-i.invariant c.loop-i-test.true refl c.reaches.ensures c.counted-found.ensures.value
-
--- src/sift.rt:50:1
-pub returns : goal.returns
-returns c = sift_end _ _ _ _ _ _ _ _ _ _ c.clipped-n.ensures c.loop-i.invariant c.loop-i-test.false
+pub loop-w-preserved : goal.loop-w-preserved
+loop-w-preserved c = let n = length-take-le c.min-n.result c.args.losses.now (omega arith) in sift_turn _ _ _ _ _ _ _ _ _ _ _ c.loop-w.invariant (omega arith) (get_or-take c.min-n.result c.args.losses.now c.loop-w.w-index 0 (omega arith)) c.reaches.ensures (λ t. c.from-found.ensures ∙ rw t) (λ t. c.from-found.ensures ∙ rw t)

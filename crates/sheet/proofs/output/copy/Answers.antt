@@ -1,8 +1,8 @@
 use Prim.Native.Nat.{ℕ, suc, ◌+◌, ◌<◌}
-use mathlib.Core.Path.{◌≡◌, refl}
+use mathlib.Core.Path.{◌≡◌, refl, ◌∙◌}
 use mathlib.Core.List.{List, ◌++◌}
 use lib.ListN.{length, length-set, set, get_or, take, drop}
-use lib.Seq.{paste-suc}
+use lib.Seq.{paste-suc, take-length}
 use native.Mathlib.Numerals.{add-one}
 use native.Mathlib.Omega.{arith}
 use Rattle.sheet.proofs.output.copy.Goals as goal
@@ -15,17 +15,14 @@ one_more o s i ls lo =
     rw (next, here) at more
 
 pub loop-i-init : goal.loop-i-init
-loop-i-init c = (omega arith, refl, refl)
+loop-i-init c = (refl, refl)
 
 pub loop-i-preserved : goal.loop-i-preserved
 loop-i-preserved c =
     let l = c.loop-i in
-    (omega arith, rw (l.invariant.1, add-one) (one_more c.args.out.now c.args.s.now l.i (omega arith) (omega arith)), simp length-set l.invariant.2)
-
-pub shape_of-out : goal.shape_of-out
-shape_of-out c = c.loop-i.invariant.2
+    (rw (l.invariant.0, add-one) (one_more c.args.out.now c.args.s.now l.i (omega arith) (omega arith)), simp length-set l.invariant.1)
 
 pub returns : goal.returns
 returns c =
     let all : c.loop-i.i ≡ length c.args.s.now = omega arith in
-    rw (← all) c.loop-i.invariant.1
+    c.loop-i.invariant.0 ∙ rw (all, take-length c.args.s.now)

@@ -5,4 +5,4 @@ pub returns-then-i-eq0 : goal.returns-then-i-eq0
 returns-then-i-eq0 c = begin_first c.args.self _ c.if-i-eq0.true
 
 pub returns : goal.returns
-returns c = begin_next c.args.self _ _ c.if-i-eq0.false c.requires.0 c.leg-leg.ensures
+returns c = begin_next c.args.self _ _ c.if-i-eq0.false c.requires.0 c.leg.ensures

@@ -1,16 +1,9 @@
 use native.Mathlib.Omega.{arith}
-use mathlib.Core.Path.{refl}
-use Rattle.packet.proofs.Drops.{judging, judging_on, judging_all}
+use Rattle.std.proofs.Common.{rules}
+use Rattle.std.proofs.lemmas.Iterator.{YieldsList-from_slice}
+use Rattle.std.proofs.lemmas.Iterator.Search.{any_from_yields_List}
+use Rattle.packet.proofs.Drops.{any_outside}
 use Rattle.packet.proofs.packet.Packet.leg_outside.Goals as goal
 
-pub loop-left-init : goal.loop-left-init
-loop-left-init c = judging _ _ _ refl
-
-pub leg-leg-requires : goal.leg-leg-requires
-leg-leg-requires c = let i = c.loop-left.invariant in omega (arith, i.within)
-
-pub loop-left-preserved : goal.loop-left-preserved
-loop-left-preserved c = judging_on _ _ _ _ _ _ c.loop-left.invariant c.loop-left-test.true c.leg-leg.ensures c.either-bad.ensures
-
 pub returns : goal.returns
-returns c = judging_all _ _ _ _ c.loop-left.invariant c.loop-left-test.false
+returns c = any_outside c.args.nodes c.args.self _ (let h = c.well_formed in omega (arith, c.requires)) (any_from_yields_List _ _ _ _ c.any.ensures.ran (YieldsList-from_slice _ c.iter.ensures.rest) (λ x b q k. search rules))

@@ -1,6 +1,0 @@
-use Rattle.legs.specs.Between.{crosses}
-use Rattle.legs.proofs.crossed.crosses.Goals as goal
-
-pub returns : goal.returns
-unfolding crosses
-returns c = rw (c.both.ensures, c.useful.ensures, c.between-on.ensures)

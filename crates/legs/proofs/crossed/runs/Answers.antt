@@ -1,6 +1,0 @@
-use Rattle.legs.specs.Between.{runs}
-use Rattle.legs.proofs.crossed.runs.Goals as goal
-
-pub returns : goal.returns
-unfolding runs
-returns c = rw (c.both.ensures, c.agree.ensures, c.goes_plus.ensures, c.crosses-can.ensures)

@@ -1,9 +1,0 @@
-use native.Mathlib.Omega.{arith}
-use Rattle.listing_text.proofs.Sources.{no_source, read_source}
-use Rattle.listing_text.proofs.checks.listing_error.Goals as goal
-
-pub returns-then-input-lt2 : goal.returns-then-input-lt2
-returns-then-input-lt2 c = no_source c.args.input.now (omega arith)
-
-pub returns : goal.returns
-returns c = read_source c.args.input.now c.source_in.result c.source_error.result (omega arith) c.source_in.ensures c.source_error.ensures

@@ -1,4 +1,0 @@
-use Rattle.machine.proofs.hop.in_dim.Goals as goal
-
-pub returns : goal.returns
-returns c = rw (c.pick-2.ensures, c.pick.ensures)

@@ -1,6 +1,0 @@
-use Rattle.nafthurm.specs.Forms.{converted_for}
-use Rattle.nafthurm.proofs.forms.converted_for.Goals as goal
-
-pub returns : goal.returns
-unfolding converted_for
-returns c = rw (c.size.ensures, c.number.ensures)

@@ -1,7 +1,0 @@
-use Rattle.nafthurm.specs.Forms.{shape_of}
-use mathlib.Core.Path.{refl}
-use Rattle.nafthurm.proofs.forms.shape_of.Goals as goal
-
-pub returns : goal.returns
-unfolding shape_of
-returns c = refl

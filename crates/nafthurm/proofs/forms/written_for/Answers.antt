@@ -1,6 +1,0 @@
-use Rattle.nafthurm.specs.Forms.{written_for}
-use Rattle.nafthurm.proofs.forms.written_for.Goals as goal
-
-pub returns : goal.returns
-unfolding written_for
-returns c = rw (c.size.ensures, c.number.ensures)

@@ -1,0 +1,12 @@
+use Rattle.std.proofs.lemmas.Result.{err_from_is_err_and}
+use Rattle.sheet.proofs.Outputs.{not_0}
+use Rattle.planner.proofs.FirstError.{pair_declined, pair_error_law}
+use Rattle.planner.proofs.pair.check_pair.Goals as goal
+
+pub returns-in_err-check : goal.returns-in_err-check
+returns-in_err-check c =
+    let p = err_from_is_err_and c.from_residual.result c.from_residual.ensures.1 in
+    rw (p.1, p.2) (pair_declined _ _ _ _ (not_0 _) c.in_err-check.ensures)
+
+pub returns : goal.returns
+returns c = pair_error_law _ _ c.shape_in-shape.ensures 0 c.in_ok-check.ensures _ _ _ c.check_ends.ensures _ _ _ _ _ _ c.is_node.ensures c.is_node-2.ensures c.both-known.ensures c.is_dead_node.ensures c.is_dead_node-2.ensures c.either-dead.ensures

@@ -1,4 +1,0 @@
-use Rattle.routes.proofs.checks.one_good.Goals as goal
-
-pub returns : goal.returns
-returns c = rw (c.both.ensures, c.is_via.ensures)
