@@ -26,7 +26,7 @@ fn put_converted(sheet: &[u8], out: &mut [u8]) -> Result<usize, Refusal>
     ensures number { answer_number result ≡ room_error 0 (converted sheet.now) out.old }
     ensures out_after { out.new ≡ out_after (room_error 0 (converted sheet.now) out.old) (converted sheet.now) out.old }
 {
-    let size = put_sheet(sheet, out)?;
+    let size = put_sheet(sheet, Ok(()), out)?;
     put_byte(out, 0, SECOND_VERSION);
     Ok(size)
 }

@@ -1,10 +1,10 @@
 -- What is found in a file of sheets: how many were read, how many of them can be converted, and the one that a refusal names.
-use Rattle.std.specs.Prelude.{ℕ, zero, suc, cond, ◌||◌, List, eqb, Option, Some, None}
+use Rattle.std.specs.Prelude.{ℕ, zero, suc, cond, List, eqb, Option, Some, None}
 use Rattle.std.specs.declared.ops.ControlFlow.{ControlFlow}
 use Rattle.std.specs.declared.ops.ControlFlow.TheVariants.{Continue, Break}
 use Rattle.numbers.specs.Numbers.{wrong_route_sheet, entry_not_kept}
 use Rattle.numbers.specs.declared.Refusal.{Refusal}
-use Rattle.numbers.specs.declared.Refusal.TheVariants.{WrongRouteSheet}
+use Rattle.numbers.specs.declared.Refusal.TheVariants.{WrongRouteSheet, EntryNotKept}
 use Rattle.numbers.specs.Refusals.{number, refusal}
 use Rattle.program.specs.Count.{plus}
 use Rattle.routes.specs.Layout.{first, source, kind_byte, entry_in}
@@ -15,6 +15,11 @@ use Rattle.convert.specs.declared.tally.Tally.{Tally}
 -- The version 1 sheet s at a place, declined for a cause, with 17 for its entry i: that entry's kind, as the sheet has it, and its destination.
 unfoldable pub lost_at : ℕ → Refusal → ℕ → List ℕ → Lost
 lost_at place r i s = cond (eqb (number r) entry_not_kept) (NotKept place (source s) (kind_byte first s i) (entry_in first s i).dest) (Declined place r)
+
+-- The cause for which it is declined.
+abbrev pub lost_refusal : Lost → Refusal
+lost_refusal (Declined place r) = r
+lost_refusal (NotKept place S kind dest) = EntryNotKept
 
 abbrev pub no_tally : Tally
 no_tally = record { sheets = 0; kept = 0; lost = None }

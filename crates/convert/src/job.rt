@@ -1,5 +1,5 @@
 // The job: every sheet of OLD to the file OUT.part, and then to OUT, if all can be converted.
-ghost use Rattle.std.specs.Prelude.{◌≡◌, ◌≤◌, length, IfSome};
+ghost use Rattle.std.specs.Prelude.{◌≡◌, ◌≤◌, length};
 ghost use Rattle.plan.specs.Checks.{large};
 ghost use Rattle.conversion.specs.Converting.{keep_error, lost_entry};
 ghost use Rattle.convert.specs.Tally.{tallied, tally_in};
@@ -9,6 +9,7 @@ use crate::tally::{Lost, Tally};
 use conversion::convert;
 use numbers::Refusal;
 use plan_input::{PLAN_BYTES, check_plan};
+use program::argument::PATH_BYTES;
 use program::failure::Failure;
 use program::file;
 use program::part_file::PartFile;
@@ -47,27 +48,33 @@ fn going(tally: Tally) -> ControlFlow<Tally, Tally>
     }
 }
 
-// One sheet, with room for it; `None` where the file does not take all bytes. Nothing is written behind a refusal, since the file will not be kept.
-fn convert_one(
-    plan: &[u8],
-    sheet: &[u8],
-    out: &mut [u8],
-    file: &mut impl Write,
-    before: Tally,
-) -> Option<ControlFlow<Tally, Tally>>
+// The sheets with one more, or with the last, and how many of its bytes are to be written, if any.
+#[derive(Clone, Copy)]
+struct Counted {
+    tally: ControlFlow<Tally, Tally>,
+    size: Option<usize>,
+}
+
+// One sheet, with room for it. Nothing is written behind a refusal, since the file will not be kept.
+fn convert_one(plan: &[u8], sheet: &[u8], out: &mut [u8], before: Tally) -> Counted
     requires { length sheet.now ≤ length out.old }
-    ensures { IfSome result (λ r. tally_in r ≡ tallied before sheet.now (keep_error large plan.now sheet.now) (lost_entry large plan.now sheet.now)) }
+    ensures { tally_in result.tally ≡ tallied before sheet.now (keep_error large plan.now sheet.now) (lost_entry large plan.now sheet.now) }
 {
     let converted = convert(plan, sheet, out);
     let written = converted.written;
     let tally = before.add(sheet, written, converted.entry);
-    if let (Ok(size), None) = (written, tally.lost) {
-        file.write_all(front(out, size)).ok()?;
+    let size = match (written, tally.lost) {
+        (Ok(size), None) => Some(size),
+        _ => None,
+    };
+    Counted {
+        tally: going(tally),
+        size,
     }
-    Some(going(tally))
 }
 
-// All sheets, with the same bytes. A proved loop has to end, and nothing says that the input does. So it counts its turns, up to a number that no run uses up.
+// All sheets, with the same bytes; `None` where the file does not take all bytes. A proved loop has to end, and nothing says that the input does. So it counts
+// its turns, up to a number that no run uses up.
 fn convert_each(
     plan: &[u8],
     old: &mut impl Read,
@@ -81,7 +88,11 @@ fn convert_each(
         if sheet.is_empty() {
             break;
         }
-        match convert_one(plan, sheet, out, file, tally)? {
+        let Counted { tally: now, size } = convert_one(plan, sheet, out, tally);
+        if let Some(size) = size {
+            file.write_all(front(out, size)).ok()?;
+        }
+        match now {
             ControlFlow::Continue(more) => tally = more,
             ControlFlow::Break(all) => return Some(all),
         }
@@ -112,14 +123,15 @@ fn convert_all<'a>(
 }
 
 // OUT is there only if every sheet was converted.
-fn convert_file<'a, R: Files + AllocGlobal>(
+fn convert_file<'a, R: Files>(
     rt: &R,
     plan: &[u8],
     old: &'a [u8],
     out: &'a [u8],
 ) -> Result<Tally, NotDone<'a>> {
     let mut old_file = file::open(rt, old)?;
-    let mut part = PartFile::create(rt, out)?;
+    let mut room = [0u8; PATH_BYTES];
+    let mut part = PartFile::create(rt, out, &mut room)?;
     match convert_all(plan, &mut old_file, &mut part.file, old, out) {
         Ok(tally) => {
             part.finish(rt)?;
@@ -134,7 +146,7 @@ fn convert_file<'a, R: Files + AllocGlobal>(
 
 // The plan sheet is the first `size` bytes of the buffer.
 pub fn convert_sheets<'a>(
-    rt: &(impl Files + AllocGlobal),
+    rt: &impl Files,
     plan: &[u8; PLAN_BYTES],
     size: usize,
     old: &'a [u8],

@@ -15,7 +15,7 @@ use std::rt::Files;
 
 // The plan sheet of a file, for the route sheets of another.
 fn from_files<'a>(
-    rt: &(impl Files + AllocGlobal),
+    rt: &impl Files,
     plan: &'a [u8],
     old: &'a [u8],
     out: &'a [u8],

@@ -1,7 +1,7 @@
 // What is found in the file.
 ghost use Rattle.std.specs.Prelude.{◌≡◌};
 ghost use Rattle.numbers.specs.Refusals.{number, answer_number};
-ghost use Rattle.convert.specs.Tally.{lost_at, named, no_tally, tallied, ended};
+ghost use Rattle.convert.specs.Tally.{lost_at, lost_refusal, named, no_tally, tallied, ended};
 
 use numbers::Refusal;
 use program::count::sum;
@@ -60,7 +60,9 @@ fn named(before: Option<Lost>, place: u32, refusal: Refusal, entry: u16, sheet: 
 }
 
 impl Lost {
-    pub fn refusal(self) -> Refusal {
+    pub fn refusal(self) -> Refusal
+        ensures { result ≡ lost_refusal self }
+    {
         match self {
             Lost::Declined(_, refusal) => refusal,
             Lost::NotKept { .. } => Refusal::EntryNotKept,

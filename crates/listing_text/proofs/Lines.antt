@@ -5,7 +5,10 @@ use native.Mathlib.Omega.{arith}
 use mathlib.Core.Path.{◌≡◌, refl}
 use mathlib.Core.List.{List, [], ◌∷◌, ◌++◌, append_assoc}
 use lib.ListN.{get_or}
+use borrow.Author.Tests.{ne_eqb}
 use Rattle.numbers.specs.Numbers.{dead_end, no_clear_choice}
+use Rattle.numbers.specs.Refusals.{number, refusal as cause}
+use Rattle.theory.proofs.Cases.{by_le}
 use Rattle.shape.specs.declared.shape.Shape.{Shape}
 use Rattle.machine.specs.declared.leg.Mode.{Mode}
 use Rattle.machine.specs.Torus.{leg}
@@ -16,7 +19,8 @@ use Rattle.choice.specs.Choice.{Choice, AdmitsIn, vias_of, modes_of}
 use Rattle.choice.specs.Answer.{Answer, Given, Refused}
 use Rattle.choice.specs.Pair.{far_in, pair}
 use Rattle.choice.specs.Outcome.{told, told_as}
-use Rattle.routes.specs.Kinds.{kind_of}
+use Rattle.choice.proofs.Told.{number-refusal, refusal_past}
+use Rattle.routes.specs.Kinds.{kind_of, refused_kind}
 use Rattle.routes.specs.Said.{entry_for, heard}
 use Rattle.routes.proofs.Saying.{admitted_legs}
 use Rattle.std.proofs.Common.{Option, Some}
@@ -103,13 +107,24 @@ module _ (w : Lent) (all : ℕ) (os : List Outcome) where
 abbrev pub LineTold : (ℕ → ℕ → ℕ) → ℕ → Answer → Type 0
 LineTold far S a = (D : ℕ) → outcome_line D (told far S a) ≡ dest_line far S D a
 
-pub dead_told : (far : ℕ → ℕ → ℕ) (S : ℕ) → LineTold far S (Refused dead_end)
+-- Of any number: one that no cause has reads as the first cause, and neither has a kind.
+same_kind : (e : ℕ) → refused_kind (number (cause e)) ≡ refused_kind e
+unfolding refused_kind
+same_kind zero = refl
+same_kind (suc e) =
+    by_le (suc e) 18
+    (λ l. rw (number-refusal (suc e) (omega arith) (omega arith)))
+    (λ g. rw (refusal_past (suc e) g, ne_eqb (suc e) dead_end (λ z. omega arith), ne_eqb (suc e) no_clear_choice (λ z. omega arith)))
+
+pub refused_told : (far : ℕ → ℕ → ℕ) (S e : ℕ) → LineTold far S (Refused e)
 unfolding outcome_line dest_line told told_as heard entry_for field_text kind_text via_text second_via_text length_text
-dead_told far S D = refl
+refused_told far S e D = rw (same_kind e)
+
+pub dead_told : (far : ℕ → ℕ → ℕ) (S : ℕ) → LineTold far S (Refused dead_end)
+dead_told far S = refused_told far S dead_end
 
 pub unclear_told : (far : ℕ → ℕ → ℕ) (S : ℕ) → LineTold far S (Refused no_clear_choice)
-unfolding outcome_line dest_line told told_as heard entry_for field_text kind_text via_text second_via_text length_text
-unclear_told far S D = refl
+unclear_told far S = refused_told far S no_clear_choice
 
 one_told_law : (far : ℕ → ℕ → ℕ) (S T : ℕ) (m : Mode) → LineTold far S (Given (leg T m ∷ []))
 unfolding outcome_line dest_line told told_as heard entry_for legs_to vias_of modes_of kind_of field_text kind_text via_text second_via_text length_text

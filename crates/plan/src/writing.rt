@@ -15,6 +15,5 @@ pub fn write_back(sheet: &[u8], out: &mut [u8]) -> Result<usize, Refusal>
     ensures number { answer_number result ≡ write_error large sheet.now out.old }
     ensures out_after { out.new ≡ out_after (write_error large sheet.now out.old) sheet.now out.old }
 {
-    check(sheet)?;
-    put_sheet(sheet, out)
+    put_sheet(sheet, check(sheet), out)
 }

@@ -1,28 +1,51 @@
 // A job writes to the file OUT.part, which takes the name OUT when all is written and on disk. So OUT is never part of a job, and what an interrupted job
 // left is taken over by the next one for the same OUT.
+ghost use Rattle.std.specs.Prelude.{◌≡◌, IfErr};
+ghost use Rattle.program.specs.Part.{part_name};
+ghost use Rattle.program.specs.declared.failure.Failure.TheVariants.{CannotWrite};
+
+use crate::argument::PATH_BYTES;
 use crate::failure::Failure;
 use std::fs::{File, OpenFile};
 use std::rt::Files;
 use std::{fs, str};
+use text::writer::Writer;
 
 // The file, its name and the name that it will have.
-pub struct PartFile<'a, R: Files + AllocGlobal> {
+pub struct PartFile<'a, 'n, R: Files> {
     pub file: R::File,
-    name: String,
+    name: &'n str,
     out: &'a str,
 }
 
-impl<'a, R: Files + AllocGlobal> PartFile<'a, R> {
+// Writes the name OUT.part into lent bytes, and answers it. It is cut at their end, where no system takes so long a name.
+fn part_name<'n>(out: &[u8], room: &'n mut [u8; PATH_BYTES]) -> &'n [u8]
+    ensures { result.now ≡ part_name out.now }
+{
+    let mut name = Writer::new(room);
+    name.text(out);
+    name.text(b".part");
+    name.written()
+}
+
+impl<'a, 'n, R: Files> PartFile<'a, 'n, R> {
     // The file OUT.part to be written, without what was in it.
-    fn create_for(rt: &R, out: &'a [u8]) -> Option<Self> {
+    fn create_for(rt: &R, out: &'a [u8], room: &'n mut [u8; PATH_BYTES]) -> Option<Self> {
+        let name = str::from_utf8(part_name(out, room)).ok()?;
         let out = str::from_utf8(out).ok()?;
-        let name = format!(in rt.alloc(); "{out}.part").ok()?;
-        let file = File::create(rt, name.as_str()).ok()?;
+        let file = File::create(rt, name).ok()?;
         Some(PartFile { file, name, out })
     }
 
-    pub fn create(rt: &R, out: &'a [u8]) -> Result<Self, Failure<'a>> {
-        PartFile::create_for(rt, out).ok_or(Failure::CannotWrite(out))
+    // The same, with room for its name.
+    pub fn create(
+        rt: &R,
+        out: &'a [u8],
+        room: &'n mut [u8; PATH_BYTES],
+    ) -> Result<Self, Failure<'a>>
+        ensures { IfErr result (λ e. e ≡ CannotWrite out.entry) }
+    {
+        PartFile::create_for(rt, out, room).ok_or(Failure::CannotWrite(out))
     }
 
     // Closes the file and gives it the name OUT; removes it where that cannot be done.
@@ -30,10 +53,10 @@ impl<'a, R: Files + AllocGlobal> PartFile<'a, R> {
         let PartFile { file, name, out } = self;
         let on_disk = file.sync_all().is_ok();
         drop(file);
-        if on_disk && fs::rename(rt, name.as_str(), out).is_ok() {
+        if on_disk && fs::rename(rt, name, out).is_ok() {
             return Ok(());
         }
-        let _ = fs::remove_file(rt, name.as_str());
+        let _ = fs::remove_file(rt, name);
         Err(Failure::CannotWrite(out.as_bytes()))
     }
 
@@ -41,6 +64,6 @@ impl<'a, R: Files + AllocGlobal> PartFile<'a, R> {
     pub fn give_up(self, rt: &R) {
         let PartFile { file, name, out: _ } = self;
         drop(file);
-        let _ = fs::remove_file(rt, name.as_str());
+        let _ = fs::remove_file(rt, name);
     }
 }

@@ -33,5 +33,5 @@ pub fn put_made(source: u16, count: u16, bytes: &mut [u8], out: &mut [u8]) -> Re
         return Err(Refusal::WrongRouteSheet);
     }
     put_head(bytes, source, count);
-    put_sheet(&bytes[..size], out)
+    put_sheet(&bytes[..size], Ok(()), out)
 }

@@ -20,8 +20,7 @@ fn write_front(plan: &[u8], bytes: &[u8], end: usize, out: &mut [u8]) -> Result<
     ensures out_after { out.new ≡ out_after (write_error large plan.now (take end bytes.now) out.old) (take end bytes.now) out.old }
 {
     let sheet = &bytes[..end];
-    check(plan, sheet)?;
-    put_sheet(sheet, out)
+    put_sheet(sheet, check(plan, sheet), out)
 }
 
 // The sheet of routes: what a check declines the sheet with, then 12.

@@ -32,12 +32,13 @@ fn copy(s: &[u8], out: &mut [u8])
     }
 }
 
-// The sheet `s` into `out`: 12 where it has no room, and the output past the sheet is untouched.
-pub fn put_sheet(s: &[u8], out: &mut [u8]) -> Result<usize, Refusal>
-    ensures value { result ≡ written (room_error 0 s.now out.old) s.now }
-    ensures number { answer_number result ≡ room_error 0 s.now out.old }
-    ensures out_after { out.new ≡ out_after (room_error 0 s.now out.old) s.now out.old }
+// The sheet `s`, whose own checks gave `checked`, into `out`: then 12, and the output past the sheet is untouched.
+pub fn put_sheet(s: &[u8], checked: Result<(), Refusal>, out: &mut [u8]) -> Result<usize, Refusal>
+    ensures value { result ≡ written (room_error (answer_number checked) s.now out.old) s.now }
+    ensures number { answer_number result ≡ room_error (answer_number checked) s.now out.old }
+    ensures out_after { out.new ≡ out_after (room_error (answer_number checked) s.now out.old) s.now out.old }
 {
+    checked?;
     if out.len() < s.len() {
         return Err(Refusal::OutputShort);
     }

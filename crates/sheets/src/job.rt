@@ -1,5 +1,5 @@
 // The job: every sound board's sheet to the file OUT.part, and then to OUT.
-ghost use Rattle.std.specs.Prelude.{◌<◌, take, IfSome};
+ghost use Rattle.std.specs.Prelude.{◌≤◌, ◌<◌, take, IfSome};
 ghost use Rattle.planner.specs.Known.{Filled};
 
 use crate::tally::Tally;
@@ -8,6 +8,7 @@ use all_sheets::{ROOM, WORDS, run_of_input, sets_of_input};
 use machine::node::count;
 use plan::layout::shape_in;
 use plan_input::{PLAN_BYTES, check_plan};
+use program::argument::PATH_BYTES;
 use program::failure::Failure;
 use program::part_file::PartFile;
 use std::io::{Stderr, Write};
@@ -36,21 +37,23 @@ impl Sets<'_> {
     fn write_next(
         self,
         file: &mut impl Write,
-        progress: Progress,
+        progress: &mut Progress,
         out: &mut [u8; ROOM],
-    ) -> Option<Progress>
-        ensures { IfSome result (λ p. progress.next < p.next) }
+    ) -> Option<()>
+        ensures onward { progress.old.next ≤ progress.new.next }
+        ensures written { IfSome result (λ _. progress.old.next < progress.new.next) }
     {
-        let Progress { tally, next } = progress;
+        let Progress { tally, next } = *progress;
         let Ok(run) = run_of_input(self.plan, self.size, next, self.work, out) else {
             return None;
         };
         let sheets = front(out, run.size);
-        file.write_all(sheets).ok()?;
-        Some(Progress {
+        let written = file.write_all(sheets).ok();
+        *progress = Progress {
             tally: tally.add_run(sheets),
             next: run.next,
-        })
+        };
+        written
     }
 
     // All runs, with the same bytes.
@@ -68,8 +71,9 @@ impl Sets<'_> {
             next: 0,
         };
         while progress.next < all {
-            progress = self.write_next(file, progress, out)?;
+            let written = self.write_next(file, &mut progress, out);
             waiting.look(rt, progress.next, all);
+            written?;
         }
         Some(progress.tally)
     }
@@ -100,7 +104,7 @@ fn write_all(
 }
 
 // The plan sheet is the first `size` bytes of the buffer. A bar may stand on the screen meanwhile.
-pub fn write_sheets<'a, R: Files + CpuClock + AllocGlobal>(
+pub fn write_sheets<'a, R: Files + CpuClock>(
     rt: &R,
     screen: Stderr,
     plan: &[u8; PLAN_BYTES],
@@ -108,7 +112,8 @@ pub fn write_sheets<'a, R: Files + CpuClock + AllocGlobal>(
     out: &'a [u8],
 ) -> Result<Tally, Failure<'a>> {
     check_plan(plan, size)?;
-    let mut part = PartFile::create(rt, out)?;
+    let mut room = [0u8; PATH_BYTES];
+    let mut part = PartFile::create(rt, out, &mut room)?;
     match write_all(rt, screen, plan, size, &mut part.file) {
         Some(tally) => part.finish(rt).map(|()| tally),
         None => {

@@ -19,7 +19,7 @@ use std::time::CpuClock;
 
 // The plan sheet of a file, to the file of its route sheets.
 fn from_file<'a>(
-    rt: &(impl Files + CpuClock + AllocGlobal),
+    rt: &(impl Files + CpuClock),
     screen: Stderr,
     plan: &'a [u8],
     out: &'a [u8],

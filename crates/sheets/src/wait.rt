@@ -5,7 +5,7 @@ use std::io::{IsTerminal, Stderr};
 use std::time::CpuClock;
 
 // Standard error, whether someone waits there, the time when the clock was last looked at, in milliseconds, and whether a bar stands in the line.
-#[derive(Drop)]
+#[derive(Clone, Copy)]
 pub struct Waiting {
     screen: Stderr,
     terminal: bool,

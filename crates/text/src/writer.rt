@@ -1,4 +1,4 @@
-// Writing a text into lent bytes, from the start on. What does not fit is cut.
+// Writing a text into lent bytes, from the start or a place on. What does not fit is cut.
 ghost use Rattle.std.specs.Prelude.{◌≡◌, ◌+◌, ◌-◌, ◌≤◌, ◌<◌, min, length, set, take};
 ghost use Rattle.std.proofs.Math.Seq.{paste};
 
@@ -34,6 +34,16 @@ impl<'a> Writer<'a> {
         ensures at { result.at ≡ 0 }
     {
         Writer { out, at: 0 }
+    }
+
+    // From a place on; one past the end counts as the end.
+    pub fn from_place(out: &'a mut [u8], at: usize) -> Writer<'a>
+        ensures same { result.out.ghost_name ≡ out.entry.ghost_name }
+        ensures out { result.out.now ≡ out.old }
+        ensures at { result.at ≡ min at (length out.old) }
+    {
+        let at = at.min(out.len());
+        Writer { out, at }
     }
 
     // Writes what fits of `s`.

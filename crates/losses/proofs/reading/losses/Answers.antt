@@ -1,6 +1,6 @@
 use native.Mathlib.Omega.{arith}
 use mathlib.Core.Path.{sym, ◌∙◌}
-use Rattle.losses.proofs.Listing.{begin, few, exists, onward, ended, none_of, plan_of}
+use Rattle.losses.proofs.Listing.{begin, few, exists, onward, filled, ended, none_of, plan_of}
 use Rattle.losses.proofs.reading.losses.Goals as goal
 
 pub returns-then-is_err : goal.returns-then-is_err
@@ -19,7 +19,7 @@ pub loop-i-preserved : goal.loop-i-preserved
 loop-i-preserved c = onward _ _ _ _ _ c.loop-i.invariant _ _ c.fault_in.ensures c.word_of.ensures c.loop-i-test.true
 
 pub invariant_of-result-2 : goal.invariant_of-result-2
-invariant_of-result-2 c = few _ _ _ _ _ c.loop-i.invariant
+invariant_of-result-2 c = filled _ _ _ _ _ c.loop-i.invariant (omega arith)
 
 pub returns : goal.returns
 returns c = ended _ _ _ _ _ c.loop-i.invariant (omega arith)
