@@ -4,6 +4,7 @@ pub mod ByKind
 pub mod Modes
 pub mod Parts
 pub mod Listing
+pub mod Filling
 pub mod Sound
 pub mod Back
 pub mod Links

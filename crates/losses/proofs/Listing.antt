@@ -1,10 +1,10 @@
 -- The list of losses, fault by fault.
 use Prim.Native.Nat.{ℕ, ◌+◌, ◌≤◌, ◌<◌}
-use Rattle.std.specs.Prelude.{Result, Ok, Err, is_err, [], take, drop, ◌-◌, ◌++◌}
-use Rattle.std.proofs.lemmas.List.{length-take-le, get_or-take, drop-set-lt, drop-drop, drop-replicate, take-append-drop}
+use Rattle.std.specs.Prelude.{Result, Ok, Err, is_err, [], take}
+use Rattle.std.proofs.lemmas.List.{length-take-le, get_or-take}
 use native.Mathlib.Omega.{arith}
 use native.Mathlib.Decide.{ℕ_discrete}
-use mathlib.Core.Path.{◌≡◌, refl, sym, ap, ◌∙◌}
+use mathlib.Core.Path.{◌≡◌, refl, sym, ◌∙◌}
 use mathlib.Core.Bool.{true, false}
 use mathlib.Core.List.{List}
 use lib.ListN.{get_or, set, length, length-set, replicate}
@@ -20,7 +20,6 @@ use Rattle.plan.proofs.Plans.{within_large}
 use Rattle.plan.proofs.Listed.{fault_exists_law}
 use Rattle.plan.proofs.Readings.{is_plan_law, is_no_plan}
 use Rattle.losses.specs.OfPlan.{word_of, AreLosses}
-use Rattle.losses.specs.Lists.{InWords}
 
 -- The loop: the words of the first i faults of n are there.
 pub record Listing (p : List ℕ) (s : Shape) (n : ℕ) (words : List ℕ) (i : ℕ) : Type 0 where
@@ -30,11 +29,10 @@ pub record Listing (p : List ℕ) (s : Shape) (n : ℕ) (words : List ℕ) (i : 
   pub within : i ≤ n
   pub long : length words ≡ 256
   pub each : (k : ℕ) → k < i → get_or words k 0 ≡ word_of (shape_of p) (fault_at p k)
-  pub rest : drop i words ≡ replicate (256 - i) 0
 
 module _ (p : List ℕ) (s : Shape) (n : ℕ) where
   pub begin : plan_error large p ≡ 0 → s ≡ shape_of p → n ≡ fault_count p → Listing p s n (replicate 256 0) 0
-  begin h es en = record { plan = h; shape = es; count = en; within = omega arith; long = refl; each = λ k l. absurd (omega arith); rest = refl }
+  begin h es en = record { plan = h; shape = es; count = en; within = omega arith; long = refl; each = λ k l. absurd (omega arith) }
 
   module _ (words : List ℕ) (i : ℕ) (g : Listing p s n words i) where
     pub few : n ≤ 256
@@ -51,22 +49,11 @@ module _ (p : List ℕ) (s : Shape) (n : ℕ) where
       within = omega arith;
       long = length-set words i w ∙ g.long;
       each = λ k a. at k a (ℕ_discrete k i);
-      rest = drop-set-lt (i + 1) words i w (omega arith) ∙ sym (drop-drop 1 i words) ∙ ap (drop 1) g.rest ∙ drop-replicate 1 (256 - i) 0 ∙ ap (λ m. replicate m 0) (omega arith);
     }
       where
         at : (k : ℕ) → k < i + 1 → Dec (k ≡ i) → get_or (set words i w) k 0 ≡ word_of (shape_of p) (fault_at p k)
         at k a (yes b) = rw (b, get_or-set_same words i w 0 (omega (arith, g.long, few))) (q ∙ rw (e, g.shape))
         at k a (no b) = rw (get_or-set_other words i k w 0 b) (g.each k (omega (arith, a, b)))
-
-    pub filled : n ≤ i → InWords words n
-    filled l =
-        let e : n ≡ i = omega (arith, g.within) in
-        let c : length (take n words) ≡ n = length-take-le n words (omega (arith, g.long, few)) in
-        record {
-          few = few;
-          filled = sym (take-append-drop n words) ∙ ap (λ (t : List ℕ). take n words ++ t) (rw (c, e) g.rest);
-          counted = c;
-        }
 
     pub ended : n ≤ i → AreLosses p (take n words) (length (take n words))
     ended l = rw (length-take-le n words (omega (arith, g.long, few))) (record {

@@ -9,3 +9,5 @@ pub mod file;
 pub mod input;
 pub mod part_file;
 pub mod say;
+#[cfg(test)]
+mod tests;
